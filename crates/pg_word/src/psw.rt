@@ -1,0 +1,105 @@
+//! The program status word, its word in storage, and the window that it opens.
+//!
+//! From bit 0 the word holds b, l and P, of `a` bits each, and the mode, a bit: 0 supervisor, 1 user. Where a shape has
+//! causes on, what a trap stores has its cause in the two bits above; loading ignores all that stands above the mode.
+
+ghost use Rattle.std.specs.Prelude.{◌≡◌, ℕ, ◌+◌, ◌*◌, ◌/◌, ◌%◌, ◌^◌, ◌<◌, ◌≤◌};
+ghost use Rattle.pg_word.specs.Shape.{IsShape};
+ghost use Rattle.pg_word.specs.Psw.{IsPsw, packed, packed_trap, unpacked, window_len_of};
+
+use super::shape::Shape;
+
+/// The mode of the machine: supervisor or user.
+#[derive(Clone, Copy, Debug, PartialEq, Eq)]
+pub enum Mode {
+    S,
+    U,
+}
+
+/// A program status word: mode, instruction counter P, and the relocation-bounds register (l, b).
+#[derive(Clone, Copy, Debug, PartialEq, Eq)]
+pub struct Psw {
+    pub mode: Mode,
+    /// The address of the next instruction, relative to `l`.
+    pub p: u32,
+    /// The relocation: the cell of address 0.
+    pub l: u32,
+    /// The bound: addresses from it on are not usable.
+    pub b: u32,
+}
+
+/// The word of a program status word. The bits above the mode are 0.
+pub fn pack(shape: &Shape, psw: Psw) -> u64
+    requires shape { IsShape shape.now }
+    requires fields { IsPsw shape.now.a psw }
+    ensures word { result ≡ packed shape.now.a psw }
+    ensures high { result < 2 ^ (3 * shape.now.a + 1) }
+{
+    let mode = match psw.mode {
+        Mode::S => 0,
+        Mode::U => 1,
+    };
+    let p = under(mode, shape.a, psw.p);
+    let l = under(p, shape.a, psw.l);
+    under(l, shape.a, psw.b)
+}
+
+/// What a trap stores: the word of the program status word at entry, and where causes are on the cause above the mode.
+pub fn pack_trap(shape: &Shape, psw: Psw, cause: u8) -> u64
+    requires shape { IsShape shape.now }
+    requires fields { IsPsw shape.now.a psw }
+    requires cause_least { 1 ≤ cause }
+    requires cause_most { cause ≤ 3 }
+    ensures word { result ≡ packed_trap shape.now psw cause }
+    ensures fits { result < 2 ^ shape.now.w }
+{
+    let word = pack(shape, psw);
+    if shape.causes {
+        u64::from(cause) << (3 * shape.a + 1) | word
+    } else {
+        word
+    }
+}
+
+/// The program status word that a word holds; the bits above the mode are ignored.
+pub fn unpack(shape: &Shape, word: u64) -> Psw
+    requires shape { IsShape shape.now }
+    ensures psw { result ≡ unpacked shape.now.a word }
+    ensures fields { IsPsw shape.now.a result }
+{
+    let above_b = word >> shape.a;
+    let above_l = above_b >> shape.a;
+    let above_p = above_l >> shape.a;
+    let mode = if above_p & 1 == 0 { Mode::S } else { Mode::U };
+    Psw {
+        mode,
+        p: low_bits(above_l, shape.a),
+        l: low_bits(above_b, shape.a),
+        b: low_bits(word, shape.a),
+    }
+}
+
+/// How many cells the window of a program status word has in a storage of `size` cells.
+pub fn window_len(psw: Psw, size: u32) -> u32
+    ensures { result ≡ window_len_of psw size }
+{
+    psw.b.min(size.saturating_sub(psw.l))
+}
+
+// `high` above the `a` bits of `low`.
+fn under(high: u64, a: u32, low: u32) -> u64
+    requires low_fits { low < 2 ^ a }
+    requires all_fit { high * 2 ^ a + low < 2 ^ 64 }
+    requires width { a ≤ 20 }
+    ensures { result ≡ high * 2 ^ a + low }
+{
+    high << a | u64::from(low)
+}
+
+// The lowest `a` bits.
+fn low_bits(word: u64, a: u32) -> u32
+    requires { a ≤ 20 }
+    ensures { result ≡ word % 2 ^ a }
+{
+    (word & ((1 << a) - 1)) as u32
+}
