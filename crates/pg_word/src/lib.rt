@@ -15,3 +15,6 @@ mod shape;
 
 pub use psw::{Mode, Psw, pack, pack_trap, unpack, window_len};
 pub use shape::Shape;
+
+#[cfg(test)]
+mod tests;
