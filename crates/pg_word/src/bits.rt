@@ -42,7 +42,7 @@ pub fn not(n: u32, x: u64) -> u64
     ensures value { result ≡ complement_of n x }
     ensures fits { result < 2 ^ n }
 {
-    low(n, u64::MAX) - x
+    ones(n) - x
 }
 
 /// Both values bit by bit.
@@ -99,11 +99,7 @@ pub fn shl(n: u32, x: u64, y: u64) -> u64
     ensures value { result ≡ left_shifted n x y }
     ensures fits { result < 2 ^ n }
 {
-    if y < u64::from(n) {
-        low(n, x.wrapping_shl(y as u32))
-    } else {
-        0
-    }
+    if y < u64::from(n) { low(n, x << y) } else { 0 }
 }
 
 /// A value of n bits moved right by y places, zeros moved in; 0 where y is n or more.
@@ -133,11 +129,15 @@ pub fn cat(x: u64, low_width: u32, y: u64) -> u64
     requires fits { x * 2 ^ low_width + y < 2 ^ 64 }
     ensures value { result ≡ joined x low_width y }
 {
+<<<<<<< HEAD
     if low_width == 64 {
         y
     } else {
         x << low_width | y
     }
+=======
+    above(x, low_width, y)
+>>>>>>> 933d0159f60a85bd62a364243447bce902e8173b
 }
 
 /// A value of n bits widened to `to` bits by zeros.
@@ -164,7 +164,7 @@ pub fn sext(x: u64, n: u32, to: u32) -> u64
     if x >> (n - 1) == 0 {
         x
     } else {
-        x + (low(to, u64::MAX) - low(n, u64::MAX))
+        x + (ones(to) - ones(n))
     }
 }
 
@@ -175,11 +175,28 @@ pub fn sel(c: u64, x: u64, y: u64) -> u64
     if c == 1 { x } else { y }
 }
 
+// `high` above the `width` bits of `low`. Where `width` is 64 the shift wraps to one by 0, but `high` is 0 then.
+pub(crate) fn above(high: u64, width: u32, low: u64) -> u64
+    requires low_fits { low < 2 ^ width }
+    requires all_fit { high * 2 ^ width + low < 2 ^ 64 }
+    ensures { result ≡ high * 2 ^ width + low }
+{
+    high.wrapping_shl(width) | low
+}
+
 // The lowest n bits.
 fn low(n: u32, x: u64) -> u64
     requires width { IsWidth n }
     ensures value { result ≡ x % 2 ^ n }
     ensures fits { result < 2 ^ n }
 {
-    x & (u64::MAX >> (64 - n))
+    x & ones(n)
+}
+
+// n bits of 1.
+fn ones(n: u32) -> u64
+    requires width { IsWidth n }
+    ensures { result ≡ 2 ^ n - 1 }
+{
+    u64::MAX >> (64 - n)
 }

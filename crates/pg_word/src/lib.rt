@@ -9,8 +9,12 @@
 #![tactic(auto)]
 
 pub mod bits;
+pub mod laws;
 mod psw;
 mod shape;
 
 pub use psw::{Mode, Psw, pack, pack_trap, unpack, window_len};
 pub use shape::Shape;
+
+#[cfg(test)]
+mod tests;

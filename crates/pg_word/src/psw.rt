@@ -5,8 +5,9 @@
 
 ghost use Rattle.std.specs.Prelude.{◌≡◌, ℕ, ◌+◌, ◌*◌, ◌/◌, ◌%◌, ◌^◌, ◌<◌, ◌≤◌};
 ghost use Rattle.pg_word.specs.Shape.{IsShape};
-ghost use Rattle.pg_word.specs.Psw.{IsPsw, packed, packed_trap, unpacked, window_len_of};
+ghost use Rattle.pg_word.specs.Psw.{IsPsw, bit_of, packed, packed_trap, unpacked, window_len_of};
 
+use super::bits::above;
 use super::shape::Shape;
 
 /// The mode of the machine: supervisor or user.
@@ -35,13 +36,9 @@ pub fn pack(shape: &Shape, psw: Psw) -> u64
     ensures word { result ≡ packed shape.now.a psw }
     ensures high { result < 2 ^ (3 * shape.now.a + 1) }
 {
-    let mode = match psw.mode {
-        Mode::S => 0,
-        Mode::U => 1,
-    };
-    let p = under(mode, shape.a, psw.p);
-    let l = under(p, shape.a, psw.l);
-    under(l, shape.a, psw.b)
+    let p = above(mode_bit(psw.mode), shape.a, u64::from(psw.p));
+    let l = above(p, shape.a, u64::from(psw.l));
+    above(l, shape.a, u64::from(psw.b))
 }
 
 /// What a trap stores: the word of the program status word at entry, and where causes are on the cause above the mode.
@@ -55,7 +52,7 @@ pub fn pack_trap(shape: &Shape, psw: Psw, cause: u8) -> u64
 {
     let word = pack(shape, psw);
     if shape.causes {
-        u64::from(cause) << (3 * shape.a + 1) | word
+        above(u64::from(cause), 3 * shape.a + 1, word)
     } else {
         word
     }
@@ -86,14 +83,14 @@ pub fn window_len(psw: Psw, size: u32) -> u32
     psw.b.min(size.saturating_sub(psw.l))
 }
 
-// `high` above the `a` bits of `low`.
-fn under(high: u64, a: u32, low: u32) -> u64
-    requires low_fits { low < 2 ^ a }
-    requires all_fit { high * 2 ^ a + low < 2 ^ 64 }
-    requires width { a ≤ 20 }
-    ensures { result ≡ high * 2 ^ a + low }
+// The mode as a bit.
+fn mode_bit(mode: Mode) -> u64
+    ensures { result ≡ bit_of mode }
 {
-    high << a | u64::from(low)
+    match mode {
+        Mode::S => 0,
+        Mode::U => 1,
+    }
 }
 
 // The lowest `a` bits.

@@ -1,0 +1,14 @@
+pub mod Patterns
+pub mod Values
+pub mod Bodies
+pub mod States
+pub mod Steps
+pub mod Kinds
+pub mod Accepting
+pub mod PaperWords
+pub mod Limits
+pub mod Twice
+pub mod Overlaps
+pub mod Scopes
+pub mod Widths
+pub mod Valid

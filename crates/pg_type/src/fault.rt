@@ -1,0 +1,42 @@
+//! Why a description is not valid.
+
+use sqlite_items::Items;
+
+/// What is limited in a description.
+#[derive(Clone, Copy, Debug, PartialEq, Eq)]
+pub enum Limit {
+    /// At most 256 instructions.
+    Instructions,
+    /// At most 8 occurrences of `mem [` in an instruction, reads and writes.
+    Accesses,
+    /// At most 32 lets in an instruction.
+    Lets,
+    /// At most 200 statements in an instruction, an if counting itself and those inside.
+    Statements,
+    /// At most 1,024 expressions in an instruction, parts included.
+    Expressions,
+}
+
+/// Why a description is not valid: the first class of validity that fails, and what it names. Instructions are numbered
+/// from 0.
+#[derive(Debug, Drop)]
+pub enum TypeFault {
+    /// The numbers of the head are those of no machine.
+    Shape,
+    /// The first instruction that breaks a limit, and the least limit that it breaks.
+    Limit(Limit, usize),
+    /// The first name of an instruction that an earlier one has, or else the first name of a let that an earlier let or
+    /// a field of the same instruction has.
+    Twice(Items<u8>),
+    /// The first instruction whose pattern has not as many places as a word has bits, or has a letter in two runs.
+    Pattern(usize),
+    /// The first two instructions whose patterns some word matches both.
+    Overlap(usize, usize),
+    /// The first instruction with a name that is neither a field nor a visible let, and its first such name.
+    Name(usize, Items<u8>),
+    /// The first instruction with a statement whose own expressions break the table of widths, and the place of its
+    /// first such statement, counted from 0 in the order of the text.
+    Width(usize, usize),
+    /// Memory was refused.
+    Memory,
+}
