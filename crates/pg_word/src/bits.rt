@@ -129,15 +129,7 @@ pub fn cat(x: u64, low_width: u32, y: u64) -> u64
     requires fits { x * 2 ^ low_width + y < 2 ^ 64 }
     ensures value { result ≡ joined x low_width y }
 {
-<<<<<<< HEAD
-    if low_width == 64 {
-        y
-    } else {
-        x << low_width | y
-    }
-=======
     above(x, low_width, y)
->>>>>>> 933d0159f60a85bd62a364243447bce902e8173b
 }
 
 /// A value of n bits widened to `to` bits by zeros.
