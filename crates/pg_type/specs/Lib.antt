@@ -12,3 +12,7 @@ pub mod Overlaps
 pub mod Scopes
 pub mod Widths
 pub mod Valid
+pub mod Examples
+pub mod WorkedRuns
+pub mod WorkedKinds
+pub mod Typed

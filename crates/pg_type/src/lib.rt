@@ -6,3 +6,6 @@ mod kind;
 
 pub use fault::{Limit, TypeFault};
 pub use kind::Kind;
+
+pub mod rows;
+
