@@ -1,2 +1,7 @@
 pub mod ValueEquations
 pub mod DeedEquations
+pub mod CheckExprEquations
+pub mod CheckStmtEquations
+pub mod CheckLemmas
+pub mod CountLemmas
+pub mod NameLemmas

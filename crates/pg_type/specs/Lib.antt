@@ -12,3 +12,5 @@ pub mod Overlaps
 pub mod Scopes
 pub mod Widths
 pub mod Valid
+pub mod Fields
+pub mod Counted

@@ -3,6 +3,17 @@
 
 mod fault;
 mod kind;
+mod limits;
+mod names;
+mod overlaps;
+mod patterns;
+mod scopes;
+mod twice;
 
 pub use fault::{Limit, TypeFault};
 pub use kind::Kind;
+pub use limits::limit_broken;
+pub use overlaps::{clash, overlap};
+pub use patterns::{Field, field_of, matches, pattern_broken, run_length};
+pub use scopes::name_unknown;
+pub use twice::let_twice_among;
