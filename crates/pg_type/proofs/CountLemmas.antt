@@ -1,5 +1,6 @@
 -- Counts that stop: adding them adds what they count.
-use Rattle.std.proofs.Common.{◌≡◌, ℕ, ◌+◌, ◌<◌, List, [], ◌∷◌, length, drop, map, get_or, refl, ap, sym, ◌∙◌, arith, drop-cons, add-one, add-zero, zero-add, add_assoc}
+use Rattle.std.proofs.Common.{◌≡◌, ℕ, ◌+◌, ◌<◌, ◌≤◌, List, [], ◌∷◌, length, drop, map, get_or, refl, ap, sym, ◌∙◌, arith, drop-cons, add-one, add-zero, zero-add, add_assoc}
+use Rattle.std.proofs.lemmas.List.{drop_all}
 use Rattle.pg_ast.specs.declared.tree.Stmt.{Stmt}
 use Rattle.pg_type.specs.declared.limits.Counts.{Counts}
 use Rattle.pg_type.specs.Limits.{Tally, tally, both, all_of, stmt_tally}
@@ -52,5 +53,12 @@ counted_more so_far ss i s d h e before =
     both-assoc so_far (stmt_tally s) _
     ∙ ap (both so_far) (ap (λ x. both (stmt_tally x) (all_of (map stmt_tally (drop (i + 1) ss)))) e ∙ sym (left-tally ss i d h))
     ∙ before
+
+-- where no statement is left, all are counted
+pub counted_all : (so_far : Tally) (ss : List Stmt) (i : ℕ) → length ss ≤ i →
+    both so_far (all_of (map stmt_tally (drop i ss))) ≡ all_of (map stmt_tally ss) → so_far ≡ all_of (map stmt_tally ss)
+counted_all so_far ss i over before =
+    sym (both-none_right so_far) ∙ ap (both so_far) (sym all_of-none)
+    ∙ ap (λ left. both so_far (all_of (map stmt_tally left))) (sym (drop_all i ss over)) ∙ before
 
 pub ruleset count_rules = (added-capped, all_of-none, both-none)

@@ -14,3 +14,4 @@ pub mod Widths
 pub mod Valid
 pub mod Fields
 pub mod Counted
+pub mod Fares

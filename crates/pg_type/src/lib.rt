@@ -3,12 +3,14 @@
 
 mod fault;
 mod kind;
+mod let_widths;
 mod limits;
 mod names;
 mod overlaps;
 mod patterns;
 mod scopes;
 mod twice;
+mod widths;
 
 pub use fault::{Limit, TypeFault};
 pub use kind::Kind;

@@ -1,10 +1,11 @@
 //! How much a description holds, against its limits.
 
 ghost use Rattle.std.specs.Prelude.{◌≡◌, ℕ, ◌-◌, ◌^◌, ◌+◌, min, map, List};
+ghost use Rattle.std.specs.Option.{option_map};
 ghost use Rattle.pg_type.specs.Limits.{Tally, tally, both, all_of, if_any, expr_tally, stmt_tally, instr_tally, tally_limit, limit_at, limit_broken};
 
 use crate::fault::Limit;
-use pg_ast::{Expr, Instr, Stmt};
+use pg_ast::{Expr, Instr, Stmt, StmtList};
 
 /// What the limits of an instruction count, each count stopping at the greatest number of 64 bits.
 #[derive(Clone, Copy, Debug)]
@@ -96,12 +97,20 @@ impl Counts {
             Stmt::Trap => one,
             Stmt::If(c, held, other) => {
                 let held = Counts::of_stmts(held.as_slice());
-                let other = match other {
-                    None => Counts::none(),
-                    Some(stmts) => Counts::of_stmts(stmts.as_slice()),
-                };
-                one.and(Counts::of_expr(c).and(held.and(other)))
+                one.and(Counts::of_expr(c).and(held.and(Counts::of_else(other))))
             }
+        }
+    }
+
+    /// What an else counts, where there is one.
+    #[cycle(tally)]
+    #[tactic(auto, using(crate::proofs::CheckStmtEquations::stmt_tally_rules, crate::proofs::CountLemmas::count_rules))]
+    fn of_else(stmts: &Option<StmtList>) -> Counts
+        ensures { result ≡ capped (if_any (option_map (map stmt_tally) stmts.now)) }
+    {
+        match stmts {
+            None => Counts::none(),
+            Some(stmts) => Counts::of_stmts(stmts.as_slice()),
         }
     }
 

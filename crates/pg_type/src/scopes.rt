@@ -1,13 +1,13 @@
 //! Names that mean nothing where they stand.
 
-ghost use Rattle.std.specs.Prelude.{◌≡◌, ℕ, ◌||◌, if◌then◌else◌, List, [], map, None, Some, IfOk, OnOk};
+ghost use Rattle.std.specs.Prelude.{◌≡◌, ℕ, ◌||◌, if◌then◌else◌, List, [], length, take, map, None, Some, IfOk, OnOk};
 ghost use Rattle.std.specs.Option.{option_map, option_copied};
 ghost use Rattle.pg_type.specs.Twice.{is_among, is_field, first_of_two};
-ghost use Rattle.pg_type.specs.Scopes.{unknown_name, sight_of, seen_in_order, unknown_in, name_unknown};
+ghost use Rattle.pg_type.specs.Scopes.{unknown_name, sight_of, seen_in_order, seen_if_any, unknown_in, name_unknown};
 
 use crate::names::NameList;
 use crate::twice::is_field;
-use pg_ast::{Expr, Instr, Name, Stmt};
+use pg_ast::{Expr, Instr, Name, Stmt, StmtList};
 use std::alloc::{AllocError, Global};
 
 /// The name itself, where it is neither a field nor a visible let.
@@ -23,7 +23,7 @@ fn unknown<'m>(pattern: &[u8], name: &'m Name, scope: &NameList<'_>) -> Option<&
 
 /// The first of two names that may be there.
 fn first_of_two<'m>(first: Option<&'m [u8]>, second: Option<&'m [u8]>) -> Option<&'m [u8]>
-    ensures { option_copied result ≡ first_of_two (option_copied first) (option_copied second) }
+    ensures { option_copied result ≡ first_of_two (option_copied first.entry) (option_copied second.entry) }
 {
     match first {
         None => second,
@@ -55,6 +55,7 @@ fn unknown_name<'m>(pattern: &[u8], expr: &'m Expr, scope: &NameList<'_>) -> Opt
 fn unknown_in_stmt<'m>(pattern: &[u8], stmt: &'m Stmt, scope: &mut NameList<'m>) -> Result<Option<&'m [u8]>, AllocError>
     ensures unknown { IfOk result (λ found. option_copied found ≡ (sight_of pattern.now stmt.now scope.old).unknown) }
     ensures after { OnOk result (scope.new ≡ (sight_of pattern.now stmt.now scope.old).after) }
+    ensures kept { OnOk result (take (length scope.old) scope.new ≡ scope.old) }
 {
     match stmt {
         Stmt::Let(name, e) => {
@@ -73,37 +74,57 @@ fn unknown_in_stmt<'m>(pattern: &[u8], stmt: &'m Stmt, scope: &mut NameList<'m>)
                 Err(error) => return Err(error),
                 Ok(found) => found,
             };
-            let in_other = match other {
-                None => None,
-                Some(stmts) => match unknown_in_block(pattern, stmts.as_slice(), scope) {
-                    Err(error) => return Err(error),
-                    Ok(found) => found,
-                },
+            let in_other = match unknown_in_else(pattern, other, scope) {
+                Err(error) => return Err(error),
+                Ok(found) => found,
             };
             Ok(first_of_two(in_test, first_of_two(in_held, in_other)))
         }
     }
 }
 
-/// The same for the statements of a block, whose lets end with it.
+/// The same for an else, where there is one.
 #[cycle(sight)]
 #[tactic(auto, using(crate::proofs::CheckStmtEquations::sight_of_rules))]
+fn unknown_in_else<'m>(pattern: &[u8], stmts: &'m Option<StmtList>, scope: &mut NameList<'m>) -> Result<Option<&'m [u8]>, AllocError>
+    ensures unknown { IfOk result (λ found. option_copied found ≡ seen_if_any (option_map (map (sight_of pattern.now)) stmts.now) scope.old) }
+    ensures after { OnOk result (scope.new ≡ scope.old) }
+{
+    match stmts {
+        None => Ok(None),
+        Some(stmts) => unknown_in_block(pattern, stmts.as_slice(), scope),
+    }
+}
+
+/// The same for the statements of a block, whose lets end with it.
+#[cycle(sight)]
 fn unknown_in_block<'m>(pattern: &[u8], stmts: &'m [Stmt], scope: &mut NameList<'m>) -> Result<Option<&'m [u8]>, AllocError>
     ensures unknown { IfOk result (λ found. option_copied found ≡ seen_in_order (map (sight_of pattern.now) stmts.now) scope.old) }
     ensures after { OnOk result (scope.new ≡ scope.old) }
 {
     let outer = scope.len();
+    let found = match unknown_in_order(pattern, stmts, scope) {
+        Err(error) => return Err(error),
+        Ok(found) => found,
+    };
+    scope.truncate(outer);
+    Ok(found)
+}
+
+/// The same for statements in the order of the text.
+#[cycle(sight)]
+#[tactic(auto, using(crate::proofs::NameLemmas::begun_twice), unfolding(crate::specs::Scopes::seen_in_order))]
+fn unknown_in_order<'m>(pattern: &[u8], stmts: &'m [Stmt], scope: &mut NameList<'m>) -> Result<Option<&'m [u8]>, AllocError>
+    ensures unknown { IfOk result (λ found. option_copied found ≡ seen_in_order (map (sight_of pattern.now) stmts.now) scope.old) }
+    ensures kept { OnOk result (take (length scope.old) scope.new ≡ scope.old) }
+{
     for stmt in stmts {
         match unknown_in_stmt(pattern, stmt, scope) {
             Err(error) => return Err(error),
             Ok(None) => {}
-            Ok(Some(name)) => {
-                scope.truncate(outer);
-                return Ok(Some(name));
-            }
+            Ok(Some(name)) => return Ok(Some(name)),
         }
     }
-    scope.truncate(outer);
     Ok(None)
 }
 

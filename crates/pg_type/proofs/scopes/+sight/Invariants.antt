@@ -1,10 +1,9 @@
-use Rattle.std.proofs.Common.{◌≡◌, ◌≤◌, length, take, drop, map}
+use Rattle.std.proofs.Common.{◌≡◌, length, take, drop, map}
 use Rattle.pg_type.specs.Scopes.{seen_in_order, sight_of}
 use Rattle.pg_type.proofs.scopes.+sight.Given as goal
 
-abbrev pub invariant-unknown_in_block-loop-stmt : goal.invariant-unknown_in_block-loop-stmt
-invariant-unknown_in_block-loop-stmt l = record {
+abbrev pub invariant-unknown_in_order-loop-stmt : goal.invariant-unknown_in_order-loop-stmt
+invariant-unknown_in_order-loop-stmt l = record {
   found : seen_in_order (map (sight_of l.pattern) (drop l.stmt-index l.stmts)) l.scope ≡ seen_in_order (map (sight_of l.pattern) l.stmts) l.initial.scope;
-  outer : take l.outer l.scope ≡ l.initial.scope;
-  room : l.outer ≤ length l.scope;
+  kept : take (length l.initial.scope) l.scope ≡ l.initial.scope;
 }
