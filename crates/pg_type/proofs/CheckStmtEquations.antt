@@ -55,7 +55,13 @@ stmt_tally-if c held None =
 stmt_tally-if c held (Some stmts) =
     ap stmt_tally (sym (rolls-If c held (Some stmts))) ∙ fold-roll-Stmt Tally stmt_tally_step (Open.If c held (Some stmts))
 
-pub ruleset stmt_tally_rules = (stmt_tally-let, stmt_tally-store, stmt_tally-pc, stmt_tally-mode, stmt_tally-rel, stmt_tally-bound, stmt_tally-trap, stmt_tally-if)
+pub stmt_tally-if_none : (c : Expr) (held : List Stmt) → stmt_tally (If c held None) ≡ both one_statement (both (expr_tally c) (both (all_of (map stmt_tally held)) (if_any (None))))
+stmt_tally-if_none c held = stmt_tally-if c held None
+
+pub stmt_tally-if_some : (c : Expr) (held stmts : List Stmt) → stmt_tally (If c held (Some stmts)) ≡ both one_statement (both (expr_tally c) (both (all_of (map stmt_tally held)) (if_any ((Some (map stmt_tally stmts))))))
+stmt_tally-if_some c held stmts = stmt_tally-if c held (Some stmts)
+
+pub ruleset stmt_tally_rules = (stmt_tally-let, stmt_tally-store, stmt_tally-pc, stmt_tally-mode, stmt_tally-rel, stmt_tally-bound, stmt_tally-trap, stmt_tally-if_none, stmt_tally-if_some)
 
 pub let_names-let : (n : Names) (e : Expr) → let_names (Let n e) ≡ n.bytes ∷ []
 unfolding let_names
@@ -99,7 +105,13 @@ let_names-if c held None =
 let_names-if c held (Some stmts) =
     ap let_names (sym (rolls-If c held (Some stmts))) ∙ fold-roll-Stmt (List (List ℕ)) let_names_step (Open.If c held (Some stmts))
 
-pub ruleset let_names_rules = (let_names-let, let_names-store, let_names-pc, let_names-mode, let_names-rel, let_names-bound, let_names-trap, let_names-if)
+pub let_names-if_none : (c : Expr) (held : List Stmt) → let_names (If c held None) ≡ all_names (map let_names held) ++ names_if_any (None)
+let_names-if_none c held = let_names-if c held None
+
+pub let_names-if_some : (c : Expr) (held stmts : List Stmt) → let_names (If c held (Some stmts)) ≡ all_names (map let_names held) ++ names_if_any ((Some (map let_names stmts)))
+let_names-if_some c held stmts = let_names-if c held (Some stmts)
+
+pub ruleset let_names_rules = (let_names-let, let_names-store, let_names-pc, let_names-mode, let_names-rel, let_names-bound, let_names-trap, let_names-if_none, let_names-if_some)
 
 pub sight_of-let : (pattern : List ℕ) (n : Names) (e : Expr) (scope : Scope) → sight_of pattern (Let n e) scope ≡ sight (unknown_name pattern e scope) (scope ++ n.bytes ∷ [])
 unfolding sight_of
@@ -143,7 +155,13 @@ sight_of-if pattern c held None scope =
 sight_of-if pattern c held (Some stmts) scope =
     ap (λ f. f scope) (ap (sight_of pattern) (sym (rolls-If c held (Some stmts))) ∙ fold-roll-Stmt (Scope → Sight) (sight_step pattern) (Open.If c held (Some stmts)))
 
-pub ruleset sight_of_rules = (sight_of-let, sight_of-store, sight_of-pc, sight_of-mode, sight_of-rel, sight_of-bound, sight_of-trap, sight_of-if)
+pub sight_of-if_none : (pattern : List ℕ) (c : Expr) (held : List Stmt) (scope : Scope) → sight_of pattern (If c held None) scope ≡ sight (first_of_two (unknown_name pattern c scope) (first_of_two (seen_in_order (map (sight_of pattern) held) scope) (seen_if_any (None) scope))) scope
+sight_of-if_none pattern c held scope = sight_of-if pattern c held None scope
+
+pub sight_of-if_some : (pattern : List ℕ) (c : Expr) (held stmts : List Stmt) (scope : Scope) → sight_of pattern (If c held (Some stmts)) scope ≡ sight (first_of_two (unknown_name pattern c scope) (first_of_two (seen_in_order (map (sight_of pattern) held) scope) (seen_if_any ((Some (map (sight_of pattern) stmts))) scope))) scope
+sight_of-if_some pattern c held stmts scope = sight_of-if pattern c held (Some stmts) scope
+
+pub ruleset sight_of_rules = (sight_of-let, sight_of-store, sight_of-pc, sight_of-mode, sight_of-rel, sight_of-bound, sight_of-trap, sight_of-if_none, sight_of-if_some)
 
 pub fare_of-let : (at : Setting) (n : Names) (e : Expr) (place : ℕ) (lets : LetWidths) → fare_of at (Let n e) place lets ≡ binds n.bytes (width_of at e lets) place lets
 unfolding fare_of
@@ -187,4 +205,10 @@ fare_of-if at c held None place lets =
 fare_of-if at c held (Some stmts) place lets =
     ap (λ f. f place lets) (ap (fare_of at) (sym (rolls-If c held (Some stmts))) ∙ fold-roll-Stmt Faring (fare_step at) (Open.If c held (Some stmts)))
 
-pub ruleset fare_of_rules = (fare_of-let, fare_of-store, fare_of-pc, fare_of-mode, fare_of-rel, fare_of-bound, fare_of-trap, fare_of-if)
+pub fare_of-if_none : (at : Setting) (c : Expr) (held : List Stmt) (place : ℕ) (lets : LetWidths) → fare_of at (If c held None) place lets ≡ then_fares (wants 1 (width_of at c lets) place lets) (λ next same. then_fares (after_block lets (fares_in_order (map (fare_of at) held) next lets)) (λ later inner. after_block lets (fares_if_any (None) later lets)))
+fare_of-if_none at c held place lets = fare_of-if at c held None place lets
+
+pub fare_of-if_some : (at : Setting) (c : Expr) (held stmts : List Stmt) (place : ℕ) (lets : LetWidths) → fare_of at (If c held (Some stmts)) place lets ≡ then_fares (wants 1 (width_of at c lets) place lets) (λ next same. then_fares (after_block lets (fares_in_order (map (fare_of at) held) next lets)) (λ later inner. after_block lets (fares_if_any ((Some (map (fare_of at) stmts))) later lets)))
+fare_of-if_some at c held stmts place lets = fare_of-if at c held (Some stmts) place lets
+
+pub ruleset fare_of_rules = (fare_of-let, fare_of-store, fare_of-pc, fare_of-mode, fare_of-rel, fare_of-bound, fare_of-trap, fare_of-if_none, fare_of-if_some)

@@ -5,3 +5,4 @@ pub mod CheckStmtEquations
 pub mod CheckLemmas
 pub mod CountLemmas
 pub mod NameLemmas
+pub mod GrowLemmas

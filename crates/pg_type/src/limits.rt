@@ -1,11 +1,10 @@
 //! How much a description holds, against its limits.
 
 ghost use Rattle.std.specs.Prelude.{◌≡◌, ℕ, ◌-◌, ◌^◌, ◌+◌, min, map, List};
-ghost use Rattle.std.specs.Option.{option_map};
-ghost use Rattle.pg_type.specs.Limits.{Tally, tally, both, all_of, if_any, expr_tally, stmt_tally, instr_tally, tally_limit, limit_at, limit_broken};
+ghost use Rattle.pg_type.specs.Limits.{Tally, tally, both, all_of, expr_tally, stmt_tally, instr_tally, tally_limit, limit_at, limit_broken};
 
 use crate::fault::Limit;
-use pg_ast::{Expr, Instr, Stmt, StmtList};
+use pg_ast::{Expr, Instr, Stmt};
 
 /// What the limits of an instruction count, each count stopping at the greatest number of 64 bits.
 #[derive(Clone, Copy, Debug)]
@@ -95,22 +94,10 @@ impl Counts {
             Stmt::Store(a, e) => one.and(Counts::one_access().and(Counts::of_expr(a).and(Counts::of_expr(e)))),
             Stmt::Pc(e) | Stmt::Mode(e) | Stmt::Rel(e) | Stmt::Bound(e) => one.and(Counts::of_expr(e)),
             Stmt::Trap => one,
-            Stmt::If(c, held, other) => {
-                let held = Counts::of_stmts(held.as_slice());
-                one.and(Counts::of_expr(c).and(held.and(Counts::of_else(other))))
+            Stmt::If(c, held, None) => one.and(Counts::of_expr(c).and(Counts::of_stmts(held.as_slice()).and(Counts::none()))),
+            Stmt::If(c, held, Some(other)) => {
+                one.and(Counts::of_expr(c).and(Counts::of_stmts(held.as_slice()).and(Counts::of_stmts(other.as_slice()))))
             }
-        }
-    }
-
-    /// What an else counts, where there is one.
-    #[cycle(tally)]
-    #[tactic(auto, using(crate::proofs::CheckStmtEquations::stmt_tally_rules, crate::proofs::CountLemmas::count_rules))]
-    fn of_else(stmts: &Option<StmtList>) -> Counts
-        ensures { result ≡ capped (if_any (option_map (map stmt_tally) stmts.now)) }
-    {
-        match stmts {
-            None => Counts::none(),
-            Some(stmts) => Counts::of_stmts(stmts.as_slice()),
         }
     }
 

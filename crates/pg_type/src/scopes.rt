@@ -3,11 +3,11 @@
 ghost use Rattle.std.specs.Prelude.{◌≡◌, ℕ, ◌||◌, if◌then◌else◌, List, [], length, take, map, None, Some, IfOk, OnOk};
 ghost use Rattle.std.specs.Option.{option_map, option_copied};
 ghost use Rattle.pg_type.specs.Twice.{is_among, is_field, first_of_two};
-ghost use Rattle.pg_type.specs.Scopes.{unknown_name, sight_of, seen_in_order, seen_if_any, unknown_in, name_unknown};
+ghost use Rattle.pg_type.specs.Scopes.{unknown_name, sight_of, seen_in_order, unknown_in, name_unknown};
 
 use crate::names::NameList;
 use crate::twice::is_field;
-use pg_ast::{Expr, Instr, Name, Stmt, StmtList};
+use pg_ast::{Expr, Instr, Name, Stmt};
 use std::alloc::{AllocError, Global};
 
 /// The name itself, where it is neither a field nor a visible let.
@@ -70,29 +70,17 @@ fn unknown_in_stmt<'m>(pattern: &[u8], stmt: &'m Stmt, scope: &mut NameList<'m>)
         Stmt::Trap => Ok(None),
         Stmt::If(c, held, other) => {
             let in_test = unknown_name(pattern, c, scope);
-            let in_held = match unknown_in_block(pattern, held.as_slice(), scope) {
-                Err(error) => return Err(error),
-                Ok(found) => found,
-            };
-            let in_other = match unknown_in_else(pattern, other, scope) {
-                Err(error) => return Err(error),
-                Ok(found) => found,
-            };
-            Ok(first_of_two(in_test, first_of_two(in_held, in_other)))
+            match unknown_in_block(pattern, held.as_slice(), scope) {
+                Err(error) => Err(error),
+                Ok(in_held) => match other {
+                    None => Ok(first_of_two(in_test, first_of_two(in_held, None))),
+                    Some(stmts) => match unknown_in_block(pattern, stmts.as_slice(), scope) {
+                        Err(error) => Err(error),
+                        Ok(in_other) => Ok(first_of_two(in_test, first_of_two(in_held, in_other))),
+                    },
+                },
+            }
         }
-    }
-}
-
-/// The same for an else, where there is one.
-#[cycle(sight)]
-#[tactic(auto, using(crate::proofs::CheckStmtEquations::sight_of_rules))]
-fn unknown_in_else<'m>(pattern: &[u8], stmts: &'m Option<StmtList>, scope: &mut NameList<'m>) -> Result<Option<&'m [u8]>, AllocError>
-    ensures unknown { IfOk result (λ found. option_copied found ≡ seen_if_any (option_map (map (sight_of pattern.now)) stmts.now) scope.old) }
-    ensures after { OnOk result (scope.new ≡ scope.old) }
-{
-    match stmts {
-        None => Ok(None),
-        Some(stmts) => unknown_in_block(pattern, stmts.as_slice(), scope),
     }
 }
 

@@ -3,12 +3,12 @@
 ghost use Rattle.std.specs.Prelude.{◌≡◌, ℕ, ◌+◌, ◌^◌, ◌==◌, ◌-◌, ◌≤◌, Bool, nat_le, nat_lt, List, map, IfOk, OnOk, length, drop};
 ghost use Rattle.std.specs.Option.{option_map};
 ghost use Rattle.pg_type.specs.Patterns.{field_of};
-ghost use Rattle.pg_type.specs.Fares.{fare_as};
-ghost use Rattle.pg_type.specs.Widths.{LetWidths as Visible, setting_of, field_or_let_width, where_holds, with_width, literal_width, op_width, cut_width, widened_width, choice_width, width_of, wants, binds, after_block, fares_in_order, fares_if_any, fare_of, width_broken_in, width_broken};
+ghost use Rattle.pg_type.specs.Fares.{fare_as, Grows};
+ghost use Rattle.pg_type.specs.Widths.{LetWidths as Visible, setting_of, field_or_let_width, where_holds, with_width, literal_width, op_width, cut_width, widened_width, choice_width, width_of, wants, binds, then_fares, after_block, fares_in_order, fare_of, width_broken_in, width_broken};
 
 use crate::let_widths::LetWidths;
 use crate::patterns::field_of;
-use pg_ast::{Desc, Expr, Instr, Name, Op, Stmt, StmtList};
+use pg_ast::{Desc, Expr, Instr, Name, Op, Stmt};
 use std::alloc::{AllocError, Global};
 
 /// Whether a number has no bit from bit `bits` on.
@@ -222,8 +222,10 @@ fn wants(wanted: u64, width: Option<u64>, place: usize) -> Result<Fare, AllocErr
 }
 
 /// How a let fares, which may have any width and is visible after it. The error is want of memory.
+#[tactic(auto, using(crate::proofs::GrowLemmas::grow_rules))]
 fn binds<'m>(name: &'m Name, width: Option<u64>, place: usize, lets: &mut LetWidths<'m>) -> Result<Fare, AllocError>
-    ensures { IfOk result (λ fare. fare_as fare lets.new ≡ binds name.now.bytes width place lets.old) }
+    ensures kept { OnOk result (Grows lets.old lets.new) }
+    ensures fare { IfOk result (λ fare. fare_as fare lets.new ≡ binds name.now.bytes width place lets.old) }
 {
     match width {
         None => Ok(Fare::Breaks(place)),
@@ -238,4 +240,111 @@ fn binds<'m>(name: &'m Name, width: Option<u64>, place: usize, lets: &mut LetWid
             }
         }
     }
+}
+
+/// How a store fares, with the widths of its address and of what it stores. The error is that of `next_place`.
+fn store_fare(desc: &Desc, address: Option<u64>, cell: Option<u64>, place: usize) -> Result<Fare, AllocError>
+    ensures { IfOk result (λ fare. (lets : Visible) → fare_as fare lets ≡ then_fares (wants desc.now.address address place lets) (λ next same. wants desc.now.word cell place lets)) }
+{
+    match wants(desc.address, address, place) {
+        Err(error) => Err(error),
+        Ok(Fare::Breaks(at)) => Ok(Fare::Breaks(at)),
+        Ok(Fare::Keeps(_)) => wants(desc.word, cell, place),
+    }
+}
+
+/// How a statement at a place fares. A let is visible after it. The error is want of memory.
+#[cycle(fare)]
+#[tactic(auto, using(crate::proofs::CheckStmtEquations::fare_of_rules, crate::proofs::GrowLemmas::grow_rules))]
+fn fare_of<'m>(desc: &Desc, instr: &Instr, stmt: &'m Stmt, place: usize, lets: &mut LetWidths<'m>) -> Result<Fare, AllocError>
+    ensures fare { IfOk result (λ fare. fare_as fare lets.new ≡ fare_of (setting_of desc.now instr.now) stmt.now place lets.old) }
+    ensures kept { OnOk result (Grows lets.old lets.new) }
+{
+    match stmt {
+        Stmt::Let(name, e) => {
+            let width = width_of(desc, instr, e, lets);
+            binds(name, width, place, lets)
+        }
+        Stmt::Store(a, e) => store_fare(desc, width_of(desc, instr, a, lets), width_of(desc, instr, e, lets), place),
+        Stmt::Pc(e) | Stmt::Rel(e) | Stmt::Bound(e) => wants(desc.address, width_of(desc, instr, e, lets), place),
+        Stmt::Mode(e) => wants(1, width_of(desc, instr, e, lets), place),
+        Stmt::Trap => match next_place(place) {
+            Err(error) => Err(error),
+            Ok(next) => Ok(Fare::Keeps(next)),
+        },
+        Stmt::If(c, held, other) => match wants(1, width_of(desc, instr, c, lets), place) {
+            Err(error) => Err(error),
+            Ok(Fare::Breaks(at)) => Ok(Fare::Breaks(at)),
+            Ok(Fare::Keeps(next)) => match fares_in_block(desc, instr, held.as_slice(), next, lets) {
+                Err(error) => Err(error),
+                Ok(Fare::Breaks(at)) => Ok(Fare::Breaks(at)),
+                Ok(Fare::Keeps(later)) => match other {
+                    None => Ok(Fare::Keeps(later)),
+                    Some(stmts) => fares_in_block(desc, instr, stmts.as_slice(), later, lets),
+                },
+            },
+        },
+    }
+}
+
+/// How the statements of a block fare, whose lets end with it. The error is want of memory.
+#[cycle(fare)]
+#[tactic(auto, using(crate::proofs::GrowLemmas::grow_rules))]
+fn fares_in_block<'m>(desc: &Desc, instr: &Instr, stmts: &'m [Stmt], place: usize, lets: &mut LetWidths<'m>) -> Result<Fare, AllocError>
+    ensures fare { IfOk result (λ fare. fare_as fare lets.new ≡ after_block lets.old (fares_in_order (map (fare_of (setting_of desc.now instr.now)) stmts.now) place lets.old)) }
+    ensures after { OnOk result (lets.new ≡ lets.old) }
+{
+    let outer = lets.len();
+    match fares_in_order(desc, instr, stmts, place, lets) {
+        Err(error) => Err(error),
+        Ok(fare) => {
+            lets.truncate(outer);
+            Ok(fare)
+        }
+    }
+}
+
+/// How statements fare in the order of the text. The error is want of memory.
+#[cycle(fare)]
+#[tactic(auto, using(crate::proofs::GrowLemmas::grow_rules), unfolding(crate::specs::Widths::fares_in_order))]
+fn fares_in_order<'m>(desc: &Desc, instr: &Instr, stmts: &'m [Stmt], place: usize, lets: &mut LetWidths<'m>) -> Result<Fare, AllocError>
+    ensures fare { IfOk result (λ fare. fare_as fare lets.new ≡ fares_in_order (map (fare_of (setting_of desc.now instr.now)) stmts.now) place lets.old) }
+    ensures kept { OnOk result (Grows lets.old lets.new) }
+{
+    let mut next = place;
+    for stmt in stmts {
+        match fare_of(desc, instr, stmt, next, lets) {
+            Err(error) => return Err(error),
+            Ok(Fare::Breaks(at)) => return Ok(Fare::Breaks(at)),
+            Ok(Fare::Keeps(after)) => next = after,
+        }
+    }
+    Ok(Fare::Keeps(next))
+}
+
+/// The first statement of an instruction whose own expressions break the table of widths. The error is want of memory.
+fn width_broken_in(alloc: Global, desc: &Desc, instr: &Instr) -> Result<Option<usize>, AllocError>
+    ensures { IfOk result (λ found. found ≡ width_broken_in desc.now instr.now) }
+{
+    let mut lets = LetWidths::new(alloc);
+    match fares_in_order(desc, instr, instr.body.as_slice(), 0, &mut lets) {
+        Err(error) => Err(error),
+        Ok(Fare::Breaks(at)) => Ok(Some(at)),
+        Ok(Fare::Keeps(_)) => Ok(None),
+    }
+}
+
+/// The first instruction with such a statement, and its first such statement. The error is want of memory.
+#[tactic(auto, unfolding(crate::specs::Widths::width_broken))]
+pub fn width_broken(alloc: Global, desc: &Desc) -> Result<Option<(usize, usize)>, AllocError>
+    ensures { IfOk result (λ found. found ≡ width_broken desc.now 0 desc.now.instrs) }
+{
+    for (k, instr) in desc.instrs.as_slice().iter().enumerate() {
+        match width_broken_in(alloc, desc, instr) {
+            Err(error) => return Err(error),
+            Ok(Some(place)) => return Ok(Some((k, place))),
+            Ok(None) => {}
+        }
+    }
+    Ok(None)
 }
