@@ -9,3 +9,9 @@ pub mod FareEquations
 pub mod DeedSound
 pub mod ValidFacts
 pub mod StepSound
+pub mod CheckExprEquations
+pub mod CheckStmtEquations
+pub mod CheckLemmas
+pub mod CountLemmas
+pub mod NameLemmas
+pub mod GrowLemmas

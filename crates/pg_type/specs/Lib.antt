@@ -16,3 +16,6 @@ pub mod Examples
 pub mod WorkedRuns
 pub mod WorkedKinds
 pub mod Typed
+pub mod Fields
+pub mod Counted
+pub mod Fares

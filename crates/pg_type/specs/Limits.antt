@@ -22,7 +22,7 @@ abbrev pub tally : ℕ → ℕ → ℕ → ℕ → Tally
 tally accesses lets statements expressions =
     record { accesses = accesses; lets = lets; statements = statements; expressions = expressions }
 
-abbrev pub both : Tally → Tally → Tally
+unfoldable pub both : Tally → Tally → Tally
 both x y = tally (x.accesses + y.accesses) (x.lets + y.lets) (x.statements + y.statements) (x.expressions + y.expressions)
 
 unfoldable pub all_of : List Tally → Tally

@@ -51,7 +51,7 @@ seen_if_any None scope = None
 seen_if_any (Some ss) scope = seen_in_order ss scope
 
 abbrev pub sight_step : List ℕ → Stmt-F (Scope → Sight) → Scope → Sight
-sight_step pattern (Let n e) scope = sight (unknown_name pattern e scope) (n.bytes ∷ scope)
+sight_step pattern (Let n e) scope = sight (unknown_name pattern e scope) (scope ++ n.bytes ∷ [])
 sight_step pattern (Store a e) scope = sight (first_of_two (unknown_name pattern a scope) (unknown_name pattern e scope)) scope
 sight_step pattern (ToPc e) scope = sight (unknown_name pattern e scope) scope
 sight_step pattern (ToMode e) scope = sight (unknown_name pattern e scope) scope
