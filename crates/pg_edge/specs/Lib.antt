@@ -1,4 +1,6 @@
 pub mod Count
-pub mod Told
+pub mod Failing
 pub mod Shelf
 pub mod Sink
+pub mod SinkView
+pub mod Told

@@ -12,8 +12,12 @@
 //! were asked to fail at and nowhere else, so that tests can meet every refusal.
 #![tactic(auto)]
 
+mod count;
+mod failing;
+mod mem_sink;
 mod shelf;
 mod sink;
 
+pub use mem_sink::MemSink;
 pub use shelf::{Failed, LoadFault, Shelf};
 pub use sink::Sink;

@@ -1,0 +1,2 @@
+pub mod PutsLaws
+mod SinkLemmas
