@@ -14,6 +14,7 @@
 
 mod count;
 mod failing;
+mod mem_file;
 mod mem_sink;
 mod shelf;
 mod sink;
