@@ -1,3 +1,5 @@
 mod FileLemmas
 pub mod PutsLaws
+pub mod ShelfLaws
+mod ShelfLemmas
 mod SinkLemmas

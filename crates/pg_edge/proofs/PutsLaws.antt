@@ -1,6 +1,7 @@
 -- What several puts one after another do: the same as one put of all their pieces.
 use Rattle.std.proofs.Common.{◌≡◌, ℕ, suc, ◌+◌, ◌-◌, ◌^◌, ◌≤◌, min, List, [], ◌∷◌, ◌++◌, length, take, Option, Some, None, Result, Ok, Err, refl, sym, ◌∙◌, ap, arith}
 use Rattle.std.proofs.lemmas.List.{append-nil, append_assoc, take-append-le, take_min}
+use Rattle.std.proofs.Math.Seq.{take-append-add}
 use Rattle.pg_edge.specs.Count.{Rose}
 use Rattle.pg_edge.specs.Told.{BothTold}
 use Rattle.pg_edge.specs.Sink.{Puts, Adds, AddsFront}
@@ -29,13 +30,6 @@ Adds-append (Some was) None now first next a b = absurd a
 Adds-append (Some was) (Some mid) None first next a b = b
 Adds-append (Some was) (Some mid) (Some now) first next a b = b ∙ ap (λ bytes. bytes ++ next) a ∙ append_assoc was first next
 
--- the front of a first piece, or all of it, with the front of a second
-take-append-add : (n : ℕ) (first next : List ℕ) → take (length first + n) (first ++ next) ≡ first ++ take n next
-take-append-add n [] next = ap (λ k. take k next) (omega arith)
-take-append-add n (x ∷ first) next =
-    let step : suc (length first) + n ≡ suc (length first + n) = omega arith in
-    ap (λ k. take k (x ∷ (first ++ next))) step ∙ ap (λ bytes. x ∷ bytes) (take-append-add n first next)
-
 -- a front of a piece is one of the piece with more behind it
 front-longer : (n : ℕ) (piece rest : List ℕ) → take n piece ≡ take (min n (length piece)) (piece ++ rest)
 front-longer n piece rest =
@@ -49,7 +43,7 @@ AddsFront-append None (Some mid) now first next a b = absurd a
 AddsFront-append (Some was) None now first next a b = absurd a
 AddsFront-append (Some was) (Some mid) None first next a b = b
 AddsFront-append (Some was) (Some mid) (Some now) first next a b =
-    (length first + b.0, b.1 ∙ ap (λ bytes. bytes ++ take b.0 next) a ∙ append_assoc was first (take b.0 next) ∙ ap (λ bytes. was ++ bytes) (sym (take-append-add b.0 first next)))
+    (length first + b.0, b.1 ∙ ap (λ bytes. bytes ++ take b.0 next) a ∙ append_assoc was first (take b.0 next) ∙ ap (λ bytes. was ++ bytes) (sym (take-append-add first next b.0)))
 
 AddsFront-longer : (was now : Option (List ℕ)) (piece rest : List ℕ) → BothTold was now (AddsFront piece) → BothTold was now (AddsFront (piece ++ rest))
 AddsFront-longer None None piece rest a = tt

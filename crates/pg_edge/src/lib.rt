@@ -15,10 +15,12 @@
 mod count;
 mod failing;
 mod mem_file;
+mod mem_shelf;
 mod mem_sink;
 mod shelf;
 mod sink;
 
+pub use mem_shelf::MemShelf;
 pub use mem_sink::MemSink;
 pub use shelf::{Failed, LoadFault, Shelf};
 pub use sink::Sink;
