@@ -1,9 +1,9 @@
 -- The files that a shelf in memory keeps, found by the place of a name.
-use Rattle.std.proofs.Common.{◌≡◌, ℕ, zero, suc, ◌<◌, ◌≤◌, List, [], ◌∷◌, length, map, take, position, Option, Some, None, Bool, true, false, cond, is_some, string_bytes, refl, sym, ◌∙◌, ap, arith, get_or, set}
+use Rattle.std.proofs.Common.{◌≡◌, ℕ, zero, suc, ◌<◌, List, [], ◌∷◌, length, position, Some, None, Bool, true, false, cond, is_some, string_bytes, refl, sym, ◌∙◌, ap, arith, get_or, set}
 use Rattle.std.specs.Str.{bytes_eq}
 use Rattle.std.specs.List.{position_or_len}
 use Rattle.std.specs.Prelude.{nat_lt}
-use Rattle.std.proofs.lemmas.Bool.Decides.{Decides-ltb, nat_tests}
+use Rattle.std.proofs.lemmas.Bool.Decides.{nat_tests}
 use Rattle.std.proofs.lemmas.List.Quantifiers.{position-Some}
 use Rattle.std.proofs.lemmas.List.Sums.{fails_before_first}
 use Rattle.std.proofs.lemmas.List.Recursion.{found_at, found_nowhere}

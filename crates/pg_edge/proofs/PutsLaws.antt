@@ -1,20 +1,11 @@
 -- What several puts one after another do: the same as one put of all their pieces.
-use Rattle.std.proofs.Common.{◌≡◌, ℕ, suc, ◌+◌, ◌-◌, ◌^◌, ◌≤◌, min, List, [], ◌∷◌, ◌++◌, length, take, Option, Some, None, Result, Ok, Err, refl, sym, ◌∙◌, ap, arith}
+use Rattle.std.proofs.Common.{◌≡◌, ℕ, ◌+◌, ◌≤◌, min, List, [], ◌++◌, length, take, Option, Some, None, Result, Ok, Err, sym, ◌∙◌, ap, arith}
 use Rattle.std.proofs.lemmas.List.{append-nil, append_assoc, take-append-le, take_min}
 use Rattle.std.proofs.Math.Seq.{take-append-add}
-use Rattle.pg_edge.specs.Count.{Rose}
+use Rattle.pg_edge.proofs.CountLaws.{Rose-earlier}
+use Rattle.pg_edge.proofs.ToldLaws.{BothTold-then}
 use Rattle.pg_edge.specs.Told.{BothTold}
 use Rattle.pg_edge.specs.Sink.{Puts, Adds, AddsFront}
-
--- ---- counts
-
--- a count that rose since later rose since earlier
-pub Rose-earlier : (before mid now : ℕ) → before ≤ mid → Rose mid now → Rose before now
-Rose-earlier before mid now later rose = omega arith
-
--- a count that rose by some moment rose by a later one
-pub Rose-later : (before mid now : ℕ) → Rose before mid → mid ≤ now → Rose before now
-Rose-later before mid now rose later = omega arith
 
 -- ---- the bytes so far
 
@@ -23,12 +14,8 @@ Adds-nil None = tt
 Adds-nil (Some bytes) = sym (append-nil bytes)
 
 pub Adds-append : (was mid now : Option (List ℕ)) (first next : List ℕ) → BothTold was mid (Adds first) → BothTold mid now (Adds next) → BothTold was now (Adds (first ++ next))
-Adds-append None None None first next a b = tt
-Adds-append None None (Some now) first next a b = b
-Adds-append None (Some mid) now first next a b = absurd a
-Adds-append (Some was) None now first next a b = absurd a
-Adds-append (Some was) (Some mid) None first next a b = b
-Adds-append (Some was) (Some mid) (Some now) first next a b = b ∙ ap (λ bytes. bytes ++ next) a ∙ append_assoc was first next
+Adds-append was mid now first next =
+    BothTold-then was mid now (Adds first) (Adds next) (Adds (first ++ next)) (λ a b c first_put next_put. next_put ∙ ap (λ bytes. bytes ++ next) first_put ∙ append_assoc a first next)
 
 -- a front of a piece is one of the piece with more behind it
 front-longer : (n : ℕ) (piece rest : List ℕ) → take n piece ≡ take (min n (length piece)) (piece ++ rest)
@@ -36,14 +23,13 @@ front-longer n piece rest =
     let short : min n (length piece) ≤ length piece = omega arith in
     sym (take-append-le (min n (length piece)) piece rest short ∙ take_min n piece)
 
-pub AddsFront-append : (was mid now : Option (List ℕ)) (first next : List ℕ) → BothTold was mid (Adds first) → BothTold mid now (AddsFront next) → BothTold was now (AddsFront (first ++ next))
-AddsFront-append None None None first next a b = tt
-AddsFront-append None None (Some now) first next a b = b
-AddsFront-append None (Some mid) now first next a b = absurd a
-AddsFront-append (Some was) None now first next a b = absurd a
-AddsFront-append (Some was) (Some mid) None first next a b = b
-AddsFront-append (Some was) (Some mid) (Some now) first next a b =
+AddsFront-after : (first next was mid now : List ℕ) → Adds first was mid → AddsFront next mid now → AddsFront (first ++ next) was now
+AddsFront-after first next was mid now a b =
     (length first + b.0, b.1 ∙ ap (λ bytes. bytes ++ take b.0 next) a ∙ append_assoc was first (take b.0 next) ∙ ap (λ bytes. was ++ bytes) (sym (take-append-add first next b.0)))
+
+pub AddsFront-append : (was mid now : Option (List ℕ)) (first next : List ℕ) → BothTold was mid (Adds first) → BothTold mid now (AddsFront next) → BothTold was now (AddsFront (first ++ next))
+AddsFront-append was mid now first next =
+    BothTold-then was mid now (Adds first) (AddsFront next) (AddsFront (first ++ next)) (AddsFront-after first next)
 
 AddsFront-longer : (was now : Option (List ℕ)) (piece rest : List ℕ) → BothTold was now (AddsFront piece) → BothTold was now (AddsFront (piece ++ rest))
 AddsFront-longer None None piece rest a = tt

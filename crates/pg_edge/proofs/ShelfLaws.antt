@@ -1,11 +1,8 @@
 -- What follows from the answers of a shelf, over plain values.
-use Rattle.std.proofs.Common.{◌≡◌, ℕ, ◌+◌, ◌<◌, ◌≤◌, List, [], ◌∷◌, ◌++◌, length, take, drop, Option, Some, None, Result, Ok, Err, refl, sym, ◌∙◌, ap, subst, arith}
-use Rattle.std.specs.Prelude.{IsErrOf}
+use Rattle.std.proofs.Common.{◌≡◌, ◌≢◌, ℕ, ◌+◌, ◌<◌, ◌≤◌, List, [], ◌++◌, length, take, Option, Some, None, Result, Ok, sym, ◌∙◌, ap, arith}
 use Rattle.std.proofs.lemmas.List.{take_all, length-take, length-drop}
 use Rattle.std.proofs.Math.Seq.{take-add}
-use Rattle.pg_edge.specs.Count.{Rose}
-use Rattle.pg_edge.specs.Shelf.{Files, HoldsFile, LacksFile, HoldsLonger, HasSize, HoldsPart, IsPart, IsFront, Loads, Sizes, LoadsPart, Saves}
-use Rattle.pg_edge.specs.declared.shelf.LoadFault.{LoadFault}
+use Rattle.pg_edge.specs.Shelf.{Files, HoldsFile, LacksFile, IsPart, Loads, Saves}
 
 -- ---- a file read whole
 
@@ -53,3 +50,26 @@ IsPart-past bytes at part = let some : at < length bytes → 0 < 0 = part.some i
 -- so what was read up to there is all
 pub IsPart-end : (bytes : List ℕ) (at : ℕ) → IsPart bytes at [] → take at bytes ≡ bytes
 IsPart-end bytes at part = take_all at bytes (IsPart-past bytes at part)
+
+-- ---- saves
+
+-- after a save that went through the name has the bytes
+pub Saves-holds : {T E : Type 0} (was now : Option Files) (name bytes : List ℕ) (done : T) → Saves {E = E} was now name bytes (Ok done) → HoldsFile now name bytes
+Saves-holds None None name bytes done saves = tt
+Saves-holds None (Some files) name bytes done saves = absurd saves.whole
+Saves-holds (Some held) None name bytes done saves = absurd saves.whole
+Saves-holds (Some held) (Some files) name bytes done saves = saves.whole
+
+-- whatever a save answers, each other name keeps its content
+pub Saves-keeps : {T E : Type 0} (was now : Option Files) (name bytes other content : List ℕ) (result : Result T E) → Saves was now name bytes result → other ≢ name → HoldsFile was other content → HoldsFile now other content
+Saves-keeps None None name bytes other content result saves differs held = tt
+Saves-keeps None (Some files) name bytes other content result saves differs held = absurd saves.others
+Saves-keeps (Some before) None name bytes other content result saves differs held = absurd saves.others
+Saves-keeps (Some before) (Some files) name bytes other content result saves differs held = saves.others other differs ∙ held
+
+-- and each other name that had no file has none
+pub Saves-lacks : {T E : Type 0} (was now : Option Files) (name bytes other : List ℕ) (result : Result T E) → Saves was now name bytes result → other ≢ name → LacksFile was other → LacksFile now other
+Saves-lacks None None name bytes other result saves differs lacks = tt
+Saves-lacks None (Some files) name bytes other result saves differs lacks = absurd saves.others
+Saves-lacks (Some before) None name bytes other result saves differs lacks = absurd saves.others
+Saves-lacks (Some before) (Some files) name bytes other result saves differs lacks = saves.others other differs ∙ lacks

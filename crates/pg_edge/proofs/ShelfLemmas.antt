@@ -1,10 +1,10 @@
 -- What a save of a shelf in memory does to the content of each name.
-use Rattle.std.proofs.Common.{◌≡◌, ◌≢◌, ◌⊎◌, ℕ, ◌≤◌, List, [], ◌∷◌, length, min, take, Option, Some, None, Bool, true, false, cond, is_some, Ok, Err, inl, inr, refl, sym, ◌∙◌, ap, subst, arith}
+use Rattle.std.proofs.Common.{◌≡◌, ◌≢◌, ◌⊎◌, ℕ, List, [], ◌∷◌, length, take, Option, Some, None, Bool, true, false, cond, Ok, Err, inl, inr, refl, sym, ◌∙◌, ap, subst}
 use Rattle.std.specs.Str.{bytes_eq}
 use Rattle.std.specs.Prelude.{nat_le, IsSome, IsSomeAnd}
 use Rattle.std.proofs.lemmas.Slice.Eq.{bytes_eq-Decides}
 use Rattle.std.proofs.lemmas.List.{length-take, take_min}
-use Rattle.pg_edge.specs.Shelf.{Files, Saves, HasOldOrFront, SameBut, IsFront}
+use Rattle.pg_edge.specs.Shelf.{Saves, HasOldOrFront, SameBut, IsFront}
 use Rattle.pg_edge.specs.ShelfView.{content_of, with_content, cut_short, files_left}
 
 -- ---- the name itself

@@ -1,5 +1,5 @@
 -- The files that a shelf in memory keeps.
-use Rattle.std.specs.Prelude.{ℕ, ◌≤◌, List, map, All, string_bytes, vec_capacity}
+use Rattle.std.specs.Prelude.{ℕ, ◌≤◌, List, map, string_bytes, vec_capacity}
 use Rattle.pg_edge.specs.declared.mem_file.MemFile.{MemFile}
 
 -- a file's name and content

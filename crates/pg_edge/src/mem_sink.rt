@@ -43,7 +43,11 @@ impl MemSink {
     ///
     /// # Errors
     /// Where there is no memory for the room.
-    pub fn new(alloc: Global, room: usize, failing: Vec<(u64, usize)>) -> Result<MemSink, AllocError>
+    pub fn new(
+        alloc: Global,
+        room: usize,
+        failing: Vec<(u64, usize)>,
+    ) -> Result<MemSink, AllocError>
         ensures { IfOk result (λ sink. sink ≡ record { bytes = []; room = room; failing = failing.items; calls = 0; faults = 0 }) }
     {
         Ok(MemSink {

@@ -1,4 +1,4 @@
-use Rattle.std.proofs.Common.{◌≡◌, Some, sym, ap, ◌∙◌}
+use Rattle.std.proofs.Common.{Some, sym, ap, ◌∙◌}
 use Rattle.pg_edge.proofs.FileLemmas.{content_of-found, content_of-lost}
 use Rattle.pg_edge.proofs.mem_file.content.Goals as goal
 

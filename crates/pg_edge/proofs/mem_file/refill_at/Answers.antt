@@ -1,6 +1,4 @@
-use Rattle.std.proofs.Common.{◌≡◌}
 use Rattle.std.proofs.lemmas.List.{map-set, get_or_default}
-use Rattle.pg_edge.specs.MemFile.{shown, all_shown, HasRoom}
 use Rattle.pg_edge.proofs.mem_file.refill_at.Goals as goal
 
 pub returns-clause-replaced : goal.returns-clause-replaced

@@ -1,4 +1,4 @@
-use Rattle.std.proofs.Common.{◌≡◌, is_some, slice_index_or, sym, ap, ◌∙◌}
+use Rattle.std.proofs.Common.{is_some, sym, ap}
 use Rattle.pg_edge.proofs.FileLemmas.{content_of-lost, with_content-lost, is_some-content_of-found, with_content-from_set}
 use Rattle.pg_edge.proofs.mem_file.replace.Goals as goal
 

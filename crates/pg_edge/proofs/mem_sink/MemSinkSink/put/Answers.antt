@@ -1,4 +1,4 @@
-use Rattle.std.proofs.Common.{rules, ◌≡◌, ◌<◌, ◌^◌, ℕ, arith}
+use Rattle.std.proofs.Common.{rules, ◌≡◌}
 use Rattle.pg_edge.specs.SinkView.{next_put, bytes_left}
 use Rattle.pg_edge.proofs.SinkLemmas.{Puts-failed}
 use Rattle.pg_edge.proofs.mem_sink.MemSinkSink.put.Goals as goal
