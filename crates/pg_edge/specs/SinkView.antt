@@ -23,3 +23,11 @@ front_taken (Some taken) piece = take taken piece
 -- the bytes after a put that failed, where it is to fail as given: a piece past the room adds nothing
 abbrev pub bytes_left : List ℕ → ℕ → Option ℕ → List ℕ → List ℕ
 bytes_left bytes room failing piece = cond (nat_le (length bytes + length piece) room) (bytes ++ front_taken failing piece) bytes
+
+-- the sink after a put that went through
+abbrev pub after_put : SinkView → List ℕ → SinkView
+after_put sink piece = record sink { bytes = sink.bytes ++ piece; calls = one_more sink.calls }
+
+-- the sink after a put that failed
+abbrev pub after_failed_put : SinkView → List ℕ → SinkView
+after_failed_put sink piece = record sink { bytes = bytes_left sink.bytes sink.room (next_put sink) piece; calls = one_more sink.calls; faults = one_more sink.faults }

@@ -28,7 +28,8 @@ pub(crate) fn with_room(
     given: Vec<(String, Vec<u8>)>,
     room: usize,
 ) -> Result<Vec<MemFile>, AllocError>
-    ensures shown { IfOk result (λ files. all_shown files.items ≡ map (λ file. (string_bytes file.0, file.1.items)) given.items) }
+    ensures shown { IfOk result (λ files. all_shown files.items
+        ≡ map (λ file. (string_bytes file.0, file.1.items)) given.items) }
     ensures roomy { IfOk result (λ files. All (HasRoom room) files.items) }
 {
     let mut files = Vec::with_capacity(alloc, given.len())?;
@@ -62,10 +63,12 @@ pub(crate) fn load_from(
     into: &mut Vec<u8>,
 ) -> Result<(), LoadFault>
     requires { into.old.items ≡ [] }
-    ensures ok { OnOk result ((content_of (all_shown files.now) name.now ≡ Some into.new.items) × (length into.new.items ≤ limit)) }
+    ensures ok { OnOk result ((content_of (all_shown files.now) name.now ≡ Some into.new.items)
+        × (length into.new.items ≤ limit)) }
     ensures empty { OnErr result (into.new.items ≡ []) }
     ensures missing { IsErrOf result LoadFault.Missing ↔ (content_of (all_shown files.now) name.now ≡ None) }
-    ensures long { IsErrOf result LoadFault.Long ↔ IsSomeAnd (content_of (all_shown files.now) name.now) (λ bytes. limit < length bytes) }
+    ensures long { IsErrOf result LoadFault.Long
+        ↔ IsSomeAnd (content_of (all_shown files.now) name.now) (λ bytes. limit < length bytes) }
     ensures never_failed { ¬ IsErrOf result LoadFault.Failed }
 {
     let Some(bytes) = content(files, name) else {
@@ -99,7 +102,8 @@ pub(crate) fn part_from(
     into: &mut Vec<u8>,
 ) -> Result<(), LoadFault>
     requires { into.old.items ≡ [] }
-    ensures ok { OnOk result (IsSomeAnd (content_of (all_shown files.now) name.now) (λ bytes. into.new.items ≡ take most (drop at bytes))) }
+    ensures ok { OnOk result (IsSomeAnd (content_of (all_shown files.now) name.now)
+        (λ bytes. into.new.items ≡ take most (drop at bytes))) }
     ensures empty { OnErr result (into.new.items ≡ []) }
     ensures missing { IsErrOf result LoadFault.Missing ↔ (content_of (all_shown files.now) name.now ≡ None) }
     ensures never_long { ¬ IsErrOf result LoadFault.Long }
@@ -131,9 +135,13 @@ pub(crate) fn save_to(
     bytes: &[u8],
 ) -> bool
     requires { All (HasRoom room) files.old }
-    ensures passes { IsTrue result ↔ ((failing ≡ None) × IsSome (content_of (all_shown files.old) name.now) × (length bytes.now ≤ room)) }
-    ensures saved { OnTrue result (all_shown files.new ≡ with_content (all_shown files.old) name.now bytes.now) }
-    ensures left { OnFalse result (all_shown files.new ≡ files_left (all_shown files.old) room failing name.now bytes.now) }
+    ensures passes { IsTrue result ↔ ((failing ≡ None)
+        × IsSome (content_of (all_shown files.old) name.now)
+        × (length bytes.now ≤ room)) }
+    ensures saved { OnTrue result (all_shown files.new
+        ≡ with_content (all_shown files.old) name.now bytes.now) }
+    ensures left { OnFalse result (all_shown files.new
+        ≡ files_left (all_shown files.old) room failing name.now bytes.now) }
     ensures roomy { All (HasRoom room) files.new }
 {
     if bytes.len() > room {
@@ -171,7 +179,9 @@ fn refill_at(files: &mut [MemFile], place: usize, room: usize, bytes: &[u8])
     requires place { place < length files.old }
     requires fits { length bytes.now ≤ room }
     requires roomy { All (HasRoom room) files.old }
-    ensures replaced { HoldsAt (λ file. all_shown files.new ≡ slice_set (all_shown files.old) place (string_bytes file.name, bytes.now)) files.old place }
+    ensures replaced { HoldsAt (λ file. all_shown files.new
+        ≡ slice_set (all_shown files.old) place (string_bytes file.name, bytes.now))
+        files.old place }
     ensures roomy { All (HasRoom room) files.new }
 {
     refill(&mut files[place].bytes, bytes);

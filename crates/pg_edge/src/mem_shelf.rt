@@ -31,7 +31,14 @@ impl Model for MemShelf {
 
     ghost Value = { ShelfView };
 
-    ghost view = { λ s. record { files = all_shown s.files.items; room = s.room; failing = s.failing.listed.items; calls = s.failing.calls; reads = s.reads; saves = s.saves } };
+    ghost view = { λ s. record {
+      files = all_shown s.files.items;
+      room = s.room;
+      failing = s.failing.listed.items;
+      calls = s.failing.calls;
+      reads = s.reads;
+      saves = s.saves;
+    } };
 
     ghost invariant = { λ s. All (HasRoom s.room) s.files.items };
 }
@@ -52,7 +59,14 @@ impl MemShelf {
         room: usize,
         failing: Vec<(u64, usize)>,
     ) -> Result<MemShelf, AllocError>
-        ensures { IfOk result (λ shelf. shelf ≡ record { files = map (λ file. (string_bytes file.0, file.1.items)) files.items; room = room; failing = failing.items; calls = 0; reads = 0; saves = 0 }) }
+        ensures { IfOk result (λ shelf. shelf ≡ record {
+          files = map (λ file. (string_bytes file.0, file.1.items)) files.items;
+          room = room;
+          failing = failing.items;
+          calls = 0;
+          reads = 0;
+          saves = 0;
+        }) }
     {
         Ok(MemShelf {
             files: with_room(alloc, files, room)?,
@@ -121,8 +135,10 @@ impl Shelf for MemShelf {
         ensures saves { self.new.saves ≡ self.old.saves }
 
         ensures failed { IsErrOf result LoadFault.Failed ↔ IsSome (next_call self.old) }
-        ensures missing { IsErrOf result LoadFault.Missing ↔ ((next_call self.old ≡ None) × (content_of self.old.files name.now ≡ None)) }
-        ensures long { IsErrOf result LoadFault.Long ↔ ((next_call self.old ≡ None) × IsSomeAnd (content_of self.old.files name.now) (λ bytes. limit < length bytes)) }
+        ensures missing { IsErrOf result LoadFault.Missing ↔ ((next_call self.old ≡ None)
+            × (content_of self.old.files name.now ≡ None)) }
+        ensures long { IsErrOf result LoadFault.Long ↔ ((next_call self.old ≡ None)
+            × IsSomeAnd (content_of self.old.files name.now) (λ bytes. limit < length bytes)) }
         ensures after { self.new ≡ after_read self.old }
     {
         if self.read_fails() {
@@ -142,7 +158,8 @@ impl Shelf for MemShelf {
         ensures saves { self.new.saves ≡ self.old.saves }
 
         ensures failed { IsErrOf result LoadFault.Failed ↔ IsSome (next_call self.old) }
-        ensures missing { IsErrOf result LoadFault.Missing ↔ ((next_call self.old ≡ None) × (content_of self.old.files name.now ≡ None)) }
+        ensures missing { IsErrOf result LoadFault.Missing ↔ ((next_call self.old ≡ None)
+            × (content_of self.old.files name.now ≡ None)) }
         ensures after { self.new ≡ after_read self.old }
     {
         if self.read_fails() {
@@ -169,8 +186,10 @@ impl Shelf for MemShelf {
         ensures saves { self.new.saves ≡ self.old.saves }
 
         ensures failed { IsErrOf result LoadFault.Failed ↔ IsSome (next_call self.old) }
-        ensures missing { IsErrOf result LoadFault.Missing ↔ ((next_call self.old ≡ None) × (content_of self.old.files name.now ≡ None)) }
-        ensures whole { OnOk result (IsSomeAnd (content_of self.old.files name.now) (λ bytes. into.new.items ≡ take most (drop at bytes))) }
+        ensures missing { IsErrOf result LoadFault.Missing ↔ ((next_call self.old ≡ None)
+            × (content_of self.old.files name.now ≡ None)) }
+        ensures whole { OnOk result (IsSomeAnd (content_of self.old.files name.now)
+            (λ bytes. into.new.items ≡ take most (drop at bytes))) }
         ensures after { self.new ≡ after_read self.old }
     {
         if self.read_fails() {
@@ -190,7 +209,9 @@ impl Shelf for MemShelf {
         ensures counted { CountsSave self.old.saves self.new.saves result }
         ensures reads { self.new.reads ≡ self.old.reads }
 
-        ensures passes { IsOk result ↔ ((next_call self.old ≡ None) × IsSome (content_of self.old.files name.now) × (length bytes.now ≤ self.old.room)) }
+        ensures passes { IsOk result ↔ ((next_call self.old ≡ None)
+            × IsSome (content_of self.old.files name.now)
+            × (length bytes.now ≤ self.old.room)) }
         ensures ok { OnOk result (self.new ≡ after_save self.old name.now bytes.now) }
         ensures failed { OnErr result (self.new ≡ after_failed_save self.old name.now bytes.now) }
     {

@@ -4,9 +4,8 @@
 //! it was listed to fail or where its piece would pass the room.
 ghost use Rattle.std.specs.Prelude.{◌≡◌, ◌↔◌, ◌+◌, ◌≤◌, [], ◌++◌, length, vec_capacity, OnOk, OnErr, IfOk, IsOk, IsTrue, Some};
 ghost use Rattle.std.specs.Bool.{OnTrue, OnFalse};
-ghost use Rattle.pg_edge.specs.Count.{one_more};
 ghost use Rattle.pg_edge.specs.Sink.{Puts};
-ghost use Rattle.pg_edge.specs.SinkView.{next_put, bytes_left};
+ghost use Rattle.pg_edge.specs.SinkView.{next_put, bytes_left, after_put, after_failed_put};
 
 use crate::count::raised;
 use crate::failing::Failing;
@@ -30,7 +29,13 @@ impl Model for MemSink {
 
     ghost Value = { SinkView };
 
-    ghost view = { λ s. record { bytes = s.bytes.items; room = s.room; failing = s.failing.listed.items; calls = s.failing.calls; faults = s.faults } };
+    ghost view = { λ s. record {
+      bytes = s.bytes.items;
+      room = s.room;
+      failing = s.failing.listed.items;
+      calls = s.failing.calls;
+      faults = s.faults;
+    } };
 
     ghost invariant = { λ s. (length s.bytes.items ≤ s.room) × (s.room ≤ vec_capacity s.bytes) };
 }
@@ -48,7 +53,13 @@ impl MemSink {
         room: usize,
         failing: Vec<(u64, usize)>,
     ) -> Result<MemSink, AllocError>
-        ensures { IfOk result (λ sink. sink ≡ record { bytes = []; room = room; failing = failing.items; calls = 0; faults = 0 }) }
+        ensures { IfOk result (λ sink. sink ≡ record {
+          bytes = [];
+          room = room;
+          failing = failing.items;
+          calls = 0;
+          faults = 0;
+        }) }
     {
         Ok(MemSink {
             bytes: Vec::with_capacity(alloc, room)?,
@@ -87,11 +98,13 @@ impl Sink for MemSink {
     /// `Failed` exactly where the call is listed or the piece would pass the room. A listed call takes as
     /// many bytes as its entry says, or the piece where that has fewer; a piece past the room adds nothing.
     fn put(&mut self, bytes: &[u8]) -> Result<(), Failed>
-        ensures puts { Puts (Some self.old.bytes) (Some self.new.bytes) self.old.faults self.new.faults bytes.now result }
+        ensures puts { Puts (Some self.old.bytes) (Some self.new.bytes) self.old.faults self.new.faults
+            bytes.now result }
 
-        ensures passes { IsOk result ↔ ((next_put self.old ≡ None) × (length self.old.bytes + length bytes.now ≤ self.old.room)) }
-        ensures ok { OnOk result (self.new ≡ record self.old { bytes = self.old.bytes ++ bytes.now; calls = one_more self.old.calls }) }
-        ensures failed { OnErr result (self.new ≡ record self.old { bytes = bytes_left self.old.bytes self.old.room (next_put self.old) bytes.now; calls = one_more self.old.calls; faults = one_more self.old.faults }) }
+        ensures passes { IsOk result ↔ ((next_put self.old ≡ None)
+            × (length self.old.bytes + length bytes.now ≤ self.old.room)) }
+        ensures ok { OnOk result (self.new ≡ after_put self.old bytes.now) }
+        ensures failed { OnErr result (self.new ≡ after_failed_put self.old bytes.now) }
     {
         let failing = self.failing.next_call();
         if append(&mut self.bytes, self.room, failing, bytes) {

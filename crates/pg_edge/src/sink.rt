@@ -21,5 +21,6 @@ pub trait Sink {
     /// # Errors
     /// `Failed` where not all of the piece went through. A front of it may have.
     fn put(&mut self, bytes: &[u8]) -> Result<(), Failed>
-        ensures puts { Puts (written self.old) (written self.new) (faults self.old) (faults self.new) bytes.now result };
+        ensures puts { Puts (written self.old) (written self.new) (faults self.old) (faults self.new)
+            bytes.now result };
 }
