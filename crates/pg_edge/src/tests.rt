@@ -1,4 +1,10 @@
 //! One run of each public call, and of each refusal that a program above has to meet.
+//!
+//! Two callers go through the traits alone, as the layers above do. `put_both` has the contract of one put
+//! of both its pieces, by the laws on `Puts`.
+ghost use Rattle.std.specs.Prelude.{◌++◌};
+ghost use Rattle.pg_edge.specs.Sink.{Puts};
+
 use crate::{Failed, LoadFault, MemShelf, MemSink, Shelf, Sink};
 use std::alloc::{AllocError, Global};
 use std::test::Fail;
@@ -14,6 +20,35 @@ fn two_files(alloc: Global) -> Result<Vec<(String, Vec<u8>)>, AllocError> {
 /// A shelf of them with room for eight bytes, whose listed calls fail.
 fn shelf(alloc: Global, failing: &[(u64, usize)]) -> Result<MemShelf, AllocError> {
     MemShelf::new(alloc, two_files(alloc)?, 8, failing.to_vec(alloc)?)
+}
+
+/// Appends the file to the empty `whole`, in parts of two bytes, and tells how many there were.
+fn read_in_parts<S: Shelf>(
+    alloc: Global,
+    shelf: &mut S,
+    name: &str,
+    whole: &mut Vec<u8>,
+) -> Result<u64, LoadFault> {
+    for parts in 0..9 {
+        let mut piece = Vec::new(alloc);
+        shelf.part(name, whole.len() as u64, 2, &mut piece)?;
+        if piece.is_empty() {
+            return Ok(parts);
+        }
+        if whole.extend_from_slice(&piece).is_err() {
+            return Err(LoadFault::Memory);
+        }
+    }
+    Ok(9)
+}
+
+/// Puts one piece and then another.
+fn put_both<S: Sink>(sink: &mut S, first: &[u8], next: &[u8]) -> Result<(), Failed>
+    ensures { Puts (S.written sink.old) (S.written sink.new) (S.faults sink.old) (S.faults sink.new)
+        (first.now ++ next.now) result }
+{
+    sink.put(first)?;
+    sink.put(next)
 }
 
 #[test]
@@ -68,16 +103,9 @@ fn shelf_refuses_saves(rt: HostRuntime) -> Result<(), Fail> {
 fn shelf_gives_a_file_in_parts(rt: HostRuntime) -> Result<(), Fail> {
     let mut shelf = shelf(rt.alloc(), &[])?;
     let mut whole = Vec::new(rt.alloc());
-    for pieces in 0..9 {
-        let mut piece = Vec::new(rt.alloc());
-        shelf.part("a", whole.len() as u64, 2, &mut piece)?;
-        if piece.is_empty() {
-            assert_eq!(rt; pieces, 3);
-            break;
-        }
-        whole.extend_from_slice(&piece)?;
-    }
+    let parts = read_in_parts(rt.alloc(), &mut shelf, "a", &mut whole)?;
     assert_eq!(rt; whole.as_slice(), b"hello".as_slice());
+    assert_eq!(rt; parts, 3);
     Ok(())
 }
 
@@ -85,8 +113,7 @@ fn shelf_gives_a_file_in_parts(rt: HostRuntime) -> Result<(), Fail> {
 fn sink_takes_pieces_and_refuses(rt: HostRuntime) -> Result<(), Fail> {
     let failing = [(2, 2)].to_vec(rt.alloc())?;
     let mut sink = MemSink::new(rt.alloc(), 8, failing)?;
-    assert_eq!(rt; sink.put(b"one"), Ok(()));
-    assert_eq!(rt; sink.put(b"two"), Err(Failed));
+    assert_eq!(rt; put_both(&mut sink, b"one", b"two"), Err(Failed));
     assert_eq!(rt; sink.bytes(), b"onetw".as_slice());
     assert_eq!(rt; sink.put(b"four"), Err(Failed));
     assert_eq!(rt; sink.put(b"end"), Ok(()));
