@@ -15,3 +15,4 @@ pub mod Valid
 pub mod Fields
 pub mod Counted
 pub mod Fares
+pub mod Verdicts

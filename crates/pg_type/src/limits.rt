@@ -82,6 +82,14 @@ impl Counts {
         }
     }
 
+    /// What an if counts, with what its test and its blocks count.
+    #[tactic(auto, using(crate::proofs::CountLemmas::count_rules))]
+    fn of_if(test: Counts, held: Counts, other: Counts) -> Counts
+        ensures { (s t u : Tally) → test ≡ capped s → held ≡ capped t → other ≡ capped u → result ≡ capped (both (tally 0 0 1 0) (both s (both t u))) }
+    {
+        Counts::one_statement().and(test.and(held.and(other)))
+    }
+
     /// What a statement and those inside it count.
     #[cycle(tally)]
     #[tactic(auto, using(crate::proofs::CheckStmtEquations::stmt_tally_rules, crate::proofs::CountLemmas::count_rules))]
@@ -94,9 +102,9 @@ impl Counts {
             Stmt::Store(a, e) => one.and(Counts::one_access().and(Counts::of_expr(a).and(Counts::of_expr(e)))),
             Stmt::Pc(e) | Stmt::Mode(e) | Stmt::Rel(e) | Stmt::Bound(e) => one.and(Counts::of_expr(e)),
             Stmt::Trap => one,
-            Stmt::If(c, held, None) => one.and(Counts::of_expr(c).and(Counts::of_stmts(held.as_slice()).and(Counts::none()))),
+            Stmt::If(c, held, None) => Counts::of_if(Counts::of_expr(c), Counts::of_stmts(held.as_slice()), Counts::none()),
             Stmt::If(c, held, Some(other)) => {
-                one.and(Counts::of_expr(c).and(Counts::of_stmts(held.as_slice()).and(Counts::of_stmts(other.as_slice()))))
+                Counts::of_if(Counts::of_expr(c), Counts::of_stmts(held.as_slice()), Counts::of_stmts(other.as_slice()))
             }
         }
     }
