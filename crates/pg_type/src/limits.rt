@@ -102,9 +102,13 @@ impl Counts {
             Stmt::Store(a, e) => one.and(Counts::one_access().and(Counts::of_expr(a).and(Counts::of_expr(e)))),
             Stmt::Pc(e) | Stmt::Mode(e) | Stmt::Rel(e) | Stmt::Bound(e) => one.and(Counts::of_expr(e)),
             Stmt::Trap => one,
-            Stmt::If(c, held, None) => Counts::of_if(Counts::of_expr(c), Counts::of_stmts(held.as_slice()), Counts::none()),
-            Stmt::If(c, held, Some(other)) => {
-                Counts::of_if(Counts::of_expr(c), Counts::of_stmts(held.as_slice()), Counts::of_stmts(other.as_slice()))
+            Stmt::If(c, held, other) => {
+                let test = Counts::of_expr(c);
+                let held = Counts::of_stmts(held.as_slice());
+                match other {
+                    None => Counts::of_if(test, held, Counts::none()),
+                    Some(stmts) => Counts::of_if(test, held, Counts::of_stmts(stmts.as_slice())),
+                }
             }
         }
     }

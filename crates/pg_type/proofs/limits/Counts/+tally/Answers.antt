@@ -18,21 +18,3 @@ pub of_stmts-returns : goal.of_stmts-returns
 of_stmts-returns t c =
     let before = c.loop-stmt.invariant in
     before.1 ∙ ap capped (counted_all before.0 c.args.stmts.now c.loop-stmt.stmt-index (omega arith) before.2)
-
-pub of_stmt-returns-in-If-default-default-None : goal.of_stmt-returns-in-If-default-default-None
-of_stmt-returns-in-If-default-default-None t c =
-    let arm = c.in-If-default-default-None in
-    let whole = c.of_if.ensures (expr_tally arm.c) (all_of (map stmt_tally arm.held)) (tally 0 0 0 0)
-      c.of_expr-in-If-default-default-None.ensures (c.of_stmts.ensures ∙ ap (λ xs. capped (all_of (map stmt_tally xs))) c.as_slice.ensures) c.none.ensures in
-    let e = stmt_tally-if_none arm.c arm.held in
-    whole ∙ ap capped (sym e) ∙ ap (λ o. capped (stmt_tally (If arm.c arm.held o))) (sym arm.field-2-is) ∙ ap (λ s. capped (stmt_tally s)) (sym arm.is)
-
-pub of_stmt-returns-in-If-default-default-Some : goal.of_stmt-returns-in-If-default-default-Some
-of_stmt-returns-in-If-default-default-Some t c =
-    let arm = c.in-If-default-default-Some in
-    let whole = c.of_if-in-If-default-default-Some.ensures (expr_tally arm.c) (all_of (map stmt_tally arm.held)) (all_of (map stmt_tally arm.other))
-      c.of_expr-in-If-default-default-Some.ensures
-      (c.of_stmts-in-If-default-default-Some.ensures ∙ ap (λ xs. capped (all_of (map stmt_tally xs))) c.as_slice-in-If-default-default-Some.ensures)
-      (c.of_stmts-in-If-default-default-Some-2.ensures ∙ ap (λ xs. capped (all_of (map stmt_tally xs))) c.as_slice-in-If-default-default-Some-2.ensures) in
-    let e = stmt_tally-if_some arm.c arm.held arm.other in
-    whole ∙ ap capped (sym e) ∙ ap (λ o. capped (stmt_tally (If arm.c arm.held o))) (sym arm.field-2-is) ∙ ap (λ s. capped (stmt_tally s)) (sym arm.is)
