@@ -76,8 +76,6 @@ unfolding fault_of
 of_widths d fault a b e g i j h =
     first_later _ _ fault a (first_later _ _ fault b (first_later _ _ fault e (first_later _ _ fault g (first_later _ _ fault i (first_later _ _ fault j h)))))
 
-pub ruleset fault_rules = (of_shape, of_limits, of_names_once, of_patterns, of_overlaps, of_names_known, of_widths)
-
 none_both : {X : Type 0} (x y : Option X) → first_of_two x y ≡ None → (x ≡ None) × (y ≡ None)
 none_both None y e = (refl, e)
 none_both (Some v) y e = cc
@@ -86,8 +84,14 @@ none_both (Some v) y e = cc
 pub no_fault : (d : Desc) → IsValid d → fault_of d ≡ None
 unfolding fault_of
 no_fault d v =
-    ap (λ x. first_of_two x _) v.shape ∙ ap (λ x. first_of_two x _) v.limits ∙ ap (λ x. first_of_two x _) v.names_once
-    ∙ ap (λ x. first_of_two x _) v.patterns ∙ ap (λ x. first_of_two x _) v.apart ∙ ap (λ x. first_of_two x _) v.names_known ∙ v.widths
+    let late : Option TypeFault = first_of_two (name_fault d) (width_fault d) in
+    let fifth : Option TypeFault = first_of_two (overlap_fault d) late in
+    let fourth : Option TypeFault = first_of_two (pattern_fault d) fifth in
+    let third : Option TypeFault = first_of_two (twice_fault d) fourth in
+    let second : Option TypeFault = first_of_two (limit_fault d) third in
+    ap (λ x. first_of_two x second) v.shape ∙ ap (λ x. first_of_two x third) v.limits ∙ ap (λ x. first_of_two x fourth) v.names_once
+    ∙ ap (λ x. first_of_two x fifth) v.patterns ∙ ap (λ x. first_of_two x late) v.apart
+    ∙ ap (λ x. first_of_two x (width_fault d)) v.names_known ∙ v.widths
 
 -- and one that has none is valid
 pub is_valid : (d : Desc) → fault_of d ≡ None → IsValid d
@@ -105,5 +109,3 @@ is_valid d none =
 pub valid_memory : (d : Desc) (fault : TypeFault) → IsFault d fault → IsValid d → fault ≡ Memory
 valid_memory d fault (inl m) v = m
 valid_memory d fault (inr e) v = let none = no_fault d v in cc
-
-pub ruleset valid_rules = (valid_memory)

@@ -9,3 +9,4 @@ pub mod GrowLemmas
 pub mod FaultLemmas
 pub mod TableLemmas
 pub mod ShapeLemmas
+pub mod PatternLemmas

@@ -1,9 +1,9 @@
 -- The test of a shape, and its numbers.
-use Rattle.std.proofs.Common.{◌≡◌, ℕ, ◌+◌, ◌*◌, ◌%◌, ◌^◌, ◌<◌, ◌≤◌, Bool, true, false, ◌&&◌, ◌==◌, nat_le, nat_lt, Option, None, Some, refl, ap, sym, ◌∙◌}
-use Rattle.std.proofs.lemmas.Bool.{leb-true}
-use Rattle.borrow.Author.Tests.{ltb-true, eqb-true, le-leb, lt-ltb, eq-eqb}
+use Rattle.std.proofs.Common.{◌≡◌, ℕ, ◌+◌, ◌*◌, ◌%◌, ◌^◌, ◌<◌, ◌≤◌, Bool, true, false, ◌&&◌, ◌==◌, nat_le, nat_lt, if◌then◌else◌, None, Some, refl, ap, sym, ◌∙◌}
+use Rattle.std.proofs.lemmas.Bool.{leb-true, ltb-true, eqb-true, le-leb, lt-ltb, eq-eqb}
 use Rattle.pg_word.specs.Shape.{bits_above, AreShapeNumbers}
 use Rattle.pg_ast.specs.declared.tree.Desc.{Desc}
+use Rattle.pg_type.specs.declared.fault.TypeFault.TheVariants.{Shape}
 use Rattle.pg_type.specs.Valid.{has_shape, shape_fault}
 
 both_true : (x y : Bool) → (x && y) ≡ true → (x ≡ true) × (y ≡ true)
@@ -34,12 +34,21 @@ has_shape-true w a q causes e =
 -- and at no others
 pub has_shape-holds : (w a q : ℕ) (causes : Bool) → AreShapeNumbers w a q causes → has_shape w a q causes ≡ true
 has_shape-holds w a q causes n =
-    rw (eq-eqb _ _ n.whole_bytes, le-leb _ _ n.word_least, le-leb _ _ n.word_most, le-leb _ _ n.address_least, le-leb _ _ n.address_most,
-      le-leb _ _ n.psw_fits, le-leb _ _ n.size_least, lt-ltb _ _ n.size_most) refl
+    rw (
+      eq-eqb _ _ n.whole_bytes,
+      le-leb _ _ n.word_least,
+      le-leb _ _ n.word_most,
+      le-leb _ _ n.address_least,
+      le-leb _ _ n.address_most,
+      le-leb _ _ n.psw_fits,
+      le-leb _ _ n.size_least,
+      lt-ltb _ _ n.size_most,
+    ) refl
 
 none_where : (b : Bool) (d : Desc) → has_shape d.word d.address d.size d.causes ≡ b → shape_fault d ≡ None → b ≡ true
 none_where true d e none = refl
-none_where false d e none = ?
+none_where false d e none =
+    let faulty : (if false then None else Some Shape) ≡ None = sym (ap (λ x. if x then None else Some Shape) e) ∙ none in cc
 
 -- the numbers of a description whose head has no fault
 pub shape_valid : (d : Desc) → shape_fault d ≡ None → AreShapeNumbers d.word d.address d.size d.causes

@@ -6,7 +6,10 @@ ghost use Rattle.pg_type.specs.declared.fault.TypeFault.TheVariants.{Memory};
 ghost use Rattle.pg_type.specs.Valid.{IsValid};
 ghost use Rattle.pg_type.specs.Verdicts.{IsFault};
 
-use crate::classes::{test_limits, test_names_known, test_names_once, test_overlaps, test_patterns, test_shape, test_widths};
+use crate::classes::{
+    test_limits, test_names_known, test_names_once, test_overlaps, test_patterns, test_shape,
+    test_widths,
+};
 use crate::fault::TypeFault;
 use crate::machine::Machine;
 use crate::table::NameTable;
@@ -14,7 +17,6 @@ use pg_ast::Desc;
 use std::alloc::Global;
 
 /// Tests each class of validity over the whole description before the next, and gives the names of the instructions.
-#[tactic(auto, using(crate::proofs::FaultLemmas::fault_rules))]
 fn test_all(alloc: Global, desc: &Desc) -> Result<NameTable, TypeFault>
     ensures valid { OnOk result (IsValid desc.now) }
     ensures names { IfOk result (λ names. names ≡ instr_names desc.now.instrs) }
@@ -53,7 +55,6 @@ fn test_all(alloc: Global, desc: &Desc) -> Result<NameTable, TypeFault>
 
 /// Tests a description. A valid one becomes a machine; of any other, which comes back, the fault is that of the first class
 /// that has one. Memory that is refused is a fault of its own, which says nothing of the description.
-#[tactic(auto, using(crate::proofs::FaultLemmas::valid_rules))]
 pub fn check(alloc: Global, desc: Desc) -> Result<Machine, (Desc, TypeFault)>
     ensures ok { IfOk result (λ machine. machine.desc ≡ desc) }
     ensures valid { OnOk result (IsValid desc) }

@@ -1,10 +1,12 @@
 //! What instructions mean.
 #![tactic(auto)]
 
+mod accepted;
 mod check_desc;
 mod classes;
 mod fault;
 mod kind;
+pub mod laws;
 mod let_widths;
 mod limits;
 mod machine;
@@ -16,6 +18,7 @@ mod table;
 mod twice;
 mod widths;
 
+pub use accepted::{Accepted, HybridAccepted};
 pub use check_desc::check;
 pub use fault::{Limit, TypeFault};
 pub use kind::Kind;
