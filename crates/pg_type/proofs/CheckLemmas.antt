@@ -27,5 +27,6 @@ nil-clash p = refl
 pub clash-end : (p q : List ℕ) (i : ℕ) → min (length p) (length q) ≤ i → clash (drop i p) (drop i q) ≡ false
 clash-end p q i over =
     elim (cases_lt i (length p)) [
-      inr h ↦ ap (λ xs. clash xs (drop i q)) (drop_all i p h) ∙ nil-clash (drop i q)
-    | inl h ↦ ap (clash (drop i p)) (drop_all i q (omega arith)) ∙ clash-nil (drop i p) ]
+      | inr h ↦ ap (λ xs. clash xs (drop i q)) (drop_all i p h) ∙ nil-clash (drop i q)
+      | inl h ↦ ap (clash (drop i p)) (drop_all i q (omega arith)) ∙ clash-nil (drop i p)
+    ]

@@ -18,7 +18,7 @@ pub added-capped : (s t : Tally) → added (capped s) (capped t) ≡ capped (bot
 unfolding capped added both
 added-capped s t =
     counts_equal (stopped-add s.accesses t.accesses) (stopped-add s.lets t.lets)
-      (stopped-add s.statements t.statements) (stopped-add s.expressions t.expressions)
+    (stopped-add s.statements t.statements) (stopped-add s.expressions t.expressions)
 
 pub both-assoc : (s t u : Tally) → both (both s t) u ≡ both s (both t u)
 unfolding both

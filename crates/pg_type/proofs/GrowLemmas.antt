@@ -13,18 +13,19 @@ grows_let a x = record { kept = ap (λ n. drop n (x ∷ a)) (let e : length (x �
 pub grows_twice : (a b c : LetWidths) → Grows a b → Grows b c → Grows a c
 grows_twice a b c e f = record {
   kept =
-    let n : length c - length a ≡ (length c - length b) + (length b - length a) = omega (arith, e.longer, f.longer) in
-    ap (λ k. drop k c) n ∙ sym (drop-drop (length b - length a) (length c - length b) c)
-    ∙ ap (drop (length b - length a)) f.kept ∙ e.kept;
-  longer = omega (arith, e.longer, f.longer) }
+      let n : length c - length a ≡ (length c - length b) + (length b - length a) = omega (arith, e.longer, f.longer) in
+      ap (λ k. drop k c) n ∙ sym (drop-drop (length b - length a) (length c - length b) c)
+      ∙ ap (drop (length b - length a)) f.kept ∙ e.kept;
+  longer = omega (arith, e.longer, f.longer);
+}
 
 -- the oldest of a list, seen from its end
 pub oldest : {X : Type 0} (xs : List X) (n : ℕ) → n ≤ length xs → reverse (take n xs) ≡ drop (length (reverse xs) - n) (reverse xs)
 oldest xs n h =
     let split : reverse xs ≡ reverse (drop n xs) ++ reverse (take n xs) =
-      ap reverse (sym (take-append-drop n xs)) ∙ reverse-append (take n xs) (drop n xs) in
+    ap reverse (sym (take-append-drop n xs)) ∙ reverse-append (take n xs) (drop n xs) in
     let over : length (reverse (drop n xs)) ≡ length (reverse xs) - n =
-      length-reverse (drop n xs) ∙ length-drop n xs ∙ ap (λ k. k - n) (sym (length-reverse xs)) in
+    length-reverse (drop n xs) ∙ length-drop n xs ∙ ap (λ k. k - n) (sym (length-reverse xs)) in
     sym (ap (drop (length (reverse xs) - n)) split ∙ drop_at (reverse (drop n xs)) (reverse (take n xs)) (length (reverse xs) - n) over)
 
 pub ruleset grow_rules = (grows_none, grows_let, grows_twice)

@@ -15,3 +15,7 @@ pub mod CheckLemmas
 pub mod CountLemmas
 pub mod NameLemmas
 pub mod GrowLemmas
+pub mod FaultLemmas
+pub mod TableLemmas
+pub mod ShapeLemmas
+pub mod PatternLemmas

@@ -19,3 +19,4 @@ pub mod Typed
 pub mod Fields
 pub mod Counted
 pub mod Fares
+pub mod Verdicts

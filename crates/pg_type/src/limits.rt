@@ -18,7 +18,6 @@ struct Counts {
 impl Counts {
     ghost use Rattle.pg_type.specs.Counted.{capped, added};
 
-
     /// These counts and those, together.
     #[tactic(auto, unfolding(crate::specs::Counted::added))]
     fn and(self, other: Counts) -> Counts
@@ -36,35 +35,60 @@ impl Counts {
     fn one_expression() -> Counts
         ensures { result ≡ capped (tally 0 0 0 1) }
     {
-        Counts { accesses: 0, lets: 0, statements: 0, expressions: 1 }
+        Counts {
+            accesses: 0,
+            lets: 0,
+            statements: 0,
+            expressions: 1,
+        }
     }
 
     #[tactic(auto, unfolding(crate::specs::Counted::capped))]
     fn one_access() -> Counts
         ensures { result ≡ capped (tally 1 0 0 0) }
     {
-        Counts { accesses: 1, lets: 0, statements: 0, expressions: 0 }
+        Counts {
+            accesses: 1,
+            lets: 0,
+            statements: 0,
+            expressions: 0,
+        }
     }
 
     #[tactic(auto, unfolding(crate::specs::Counted::capped))]
     fn one_statement() -> Counts
         ensures { result ≡ capped (tally 0 0 1 0) }
     {
-        Counts { accesses: 0, lets: 0, statements: 1, expressions: 0 }
+        Counts {
+            accesses: 0,
+            lets: 0,
+            statements: 1,
+            expressions: 0,
+        }
     }
 
     #[tactic(auto, unfolding(crate::specs::Counted::capped))]
     fn one_let() -> Counts
         ensures { result ≡ capped (tally 0 1 0 0) }
     {
-        Counts { accesses: 0, lets: 1, statements: 0, expressions: 0 }
+        Counts {
+            accesses: 0,
+            lets: 1,
+            statements: 0,
+            expressions: 0,
+        }
     }
 
     #[tactic(auto, unfolding(crate::specs::Counted::capped))]
     fn none() -> Counts
         ensures { result ≡ capped (tally 0 0 0 0) }
     {
-        Counts { accesses: 0, lets: 0, statements: 0, expressions: 0 }
+        Counts {
+            accesses: 0,
+            lets: 0,
+            statements: 0,
+            expressions: 0,
+        }
     }
 
     /// What an expression and its parts count.
@@ -74,12 +98,27 @@ impl Counts {
     {
         let one = Counts::one_expression();
         match expr {
-            Expr::Lit(_, _) | Expr::Name(_) | Expr::Pc | Expr::Mode | Expr::Rel | Expr::Bound => one,
+            Expr::Lit(_, _) | Expr::Name(_) | Expr::Pc | Expr::Mode | Expr::Rel | Expr::Bound =>
+                one,
             Expr::Load(e) => Counts::one_access().and(one.and(Counts::of_expr(e.get()))),
-            Expr::Not(e) | Expr::Cut(e, _, _) | Expr::Ext(e, _) | Expr::Sext(e, _) => one.and(Counts::of_expr(e.get())),
-            Expr::Bin(_, x, y) | Expr::Cat(x, y) => one.and(Counts::of_expr(x.get()).and(Counts::of_expr(y.get()))),
-            Expr::Sel(c, x, y) => one.and(Counts::of_expr(c.get()).and(Counts::of_expr(x.get()).and(Counts::of_expr(y.get())))),
+            Expr::Not(e) | Expr::Cut(e, _, _) | Expr::Ext(e, _) | Expr::Sext(e, _) => one.and(
+                Counts::of_expr(e.get()),
+            ),
+            Expr::Bin(_, x, y) | Expr::Cat(x, y) => one.and(Counts::of_expr(x.get()).and(
+                Counts::of_expr(y.get()),
+            )),
+            Expr::Sel(c, x, y) => one.and(Counts::of_expr(c.get()).and(Counts::of_expr(x.get()).and(
+                Counts::of_expr(y.get()),
+            ))),
         }
+    }
+
+    /// What an if counts, with what its test and its blocks count.
+    #[tactic(auto, using(crate::proofs::CountLemmas::count_rules))]
+    fn of_if(test: Counts, held: Counts, other: Counts) -> Counts
+        ensures { (s t u : Tally) → test ≡ capped s → held ≡ capped t → other ≡ capped u → result ≡ capped (both (tally 0 0 1 0) (both s (both t u))) }
+    {
+        Counts::one_statement().and(test.and(held.and(other)))
     }
 
     /// What a statement and those inside it count.
@@ -91,12 +130,20 @@ impl Counts {
         let one = Counts::one_statement();
         match stmt {
             Stmt::Let(_, e) => one.and(Counts::one_let().and(Counts::of_expr(e))),
-            Stmt::Store(a, e) => one.and(Counts::one_access().and(Counts::of_expr(a).and(Counts::of_expr(e)))),
-            Stmt::Pc(e) | Stmt::Mode(e) | Stmt::Rel(e) | Stmt::Bound(e) => one.and(Counts::of_expr(e)),
+            Stmt::Store(a, e) => one.and(Counts::one_access().and(Counts::of_expr(a).and(
+                Counts::of_expr(e),
+            ))),
+            Stmt::Pc(e) | Stmt::Mode(e) | Stmt::Rel(e) | Stmt::Bound(e) => one.and(Counts::of_expr(
+                e,
+            )),
             Stmt::Trap => one,
-            Stmt::If(c, held, None) => one.and(Counts::of_expr(c).and(Counts::of_stmts(held.as_slice()).and(Counts::none()))),
-            Stmt::If(c, held, Some(other)) => {
-                one.and(Counts::of_expr(c).and(Counts::of_stmts(held.as_slice()).and(Counts::of_stmts(other.as_slice()))))
+            Stmt::If(c, held, other) => {
+                let test = Counts::of_expr(c);
+                let held = Counts::of_stmts(held.as_slice());
+                match other {
+                    None => Counts::of_if(test, held, Counts::none()),
+                    Some(stmts) => Counts::of_if(test, held, Counts::of_stmts(stmts.as_slice())),
+                }
             }
         }
     }

@@ -39,11 +39,18 @@ fn unknown_name<'m>(pattern: &[u8], expr: &'m Expr, scope: &NameList<'_>) -> Opt
     match expr {
         Expr::Lit(_, _) | Expr::Pc | Expr::Mode | Expr::Rel | Expr::Bound => None,
         Expr::Name(name) => unknown(pattern, name, scope),
-        Expr::Load(e) | Expr::Not(e) | Expr::Cut(e, _, _) | Expr::Ext(e, _) | Expr::Sext(e, _) => unknown_name(pattern, e.get(), scope),
-        Expr::Bin(_, x, y) | Expr::Cat(x, y) => first_of_two(unknown_name(pattern, x.get(), scope), unknown_name(pattern, y.get(), scope)),
+        Expr::Load(e) | Expr::Not(e) | Expr::Cut(e, _, _) | Expr::Ext(e, _) | Expr::Sext(e, _) =>
+            unknown_name(pattern, e.get(), scope),
+        Expr::Bin(_, x, y) | Expr::Cat(x, y) => first_of_two(
+            unknown_name(pattern, x.get(), scope),
+            unknown_name(pattern, y.get(), scope),
+        ),
         Expr::Sel(c, x, y) => first_of_two(
             unknown_name(pattern, c.get(), scope),
-            first_of_two(unknown_name(pattern, x.get(), scope), unknown_name(pattern, y.get(), scope)),
+            first_of_two(
+                unknown_name(pattern, x.get(), scope),
+                unknown_name(pattern, y.get(), scope),
+            ),
         ),
     }
 }
@@ -52,7 +59,11 @@ fn unknown_name<'m>(pattern: &[u8], expr: &'m Expr, scope: &NameList<'_>) -> Opt
 /// memory.
 #[cycle(sight)]
 #[tactic(auto, using(crate::proofs::CheckStmtEquations::sight_of_rules))]
-fn unknown_in_stmt<'m>(pattern: &[u8], stmt: &'m Stmt, scope: &mut NameList<'m>) -> Result<Option<&'m [u8]>, AllocError>
+fn unknown_in_stmt<'m>(
+    pattern: &[u8],
+    stmt: &'m Stmt,
+    scope: &mut NameList<'m>,
+) -> Result<Option<&'m [u8]>, AllocError>
     ensures unknown { IfOk result (λ found. option_copied found ≡ (sight_of pattern.now stmt.now scope.old).unknown) }
     ensures after { OnOk result (scope.new ≡ (sight_of pattern.now stmt.now scope.old).after) }
     ensures kept { OnOk result (take (length scope.old) scope.new ≡ scope.old) }
@@ -65,8 +76,13 @@ fn unknown_in_stmt<'m>(pattern: &[u8], stmt: &'m Stmt, scope: &mut NameList<'m>)
                 Ok(()) => Ok(found),
             }
         }
-        Stmt::Store(a, e) => Ok(first_of_two(unknown_name(pattern, a, scope), unknown_name(pattern, e, scope))),
-        Stmt::Pc(e) | Stmt::Mode(e) | Stmt::Rel(e) | Stmt::Bound(e) => Ok(unknown_name(pattern, e, scope)),
+        Stmt::Store(a, e) => Ok(first_of_two(
+            unknown_name(pattern, a, scope),
+            unknown_name(pattern, e, scope),
+        )),
+        Stmt::Pc(e) | Stmt::Mode(e) | Stmt::Rel(e) | Stmt::Bound(e) => Ok(unknown_name(
+            pattern, e, scope,
+        )),
         Stmt::Trap => Ok(None),
         Stmt::If(c, held, other) => {
             let in_test = unknown_name(pattern, c, scope);
@@ -86,7 +102,11 @@ fn unknown_in_stmt<'m>(pattern: &[u8], stmt: &'m Stmt, scope: &mut NameList<'m>)
 
 /// The same for the statements of a block, whose lets end with it.
 #[cycle(sight)]
-fn unknown_in_block<'m>(pattern: &[u8], stmts: &'m [Stmt], scope: &mut NameList<'m>) -> Result<Option<&'m [u8]>, AllocError>
+fn unknown_in_block<'m>(
+    pattern: &[u8],
+    stmts: &'m [Stmt],
+    scope: &mut NameList<'m>,
+) -> Result<Option<&'m [u8]>, AllocError>
     ensures unknown { IfOk result (λ found. option_copied found ≡ seen_in_order (map (sight_of pattern.now) stmts.now) scope.old) }
     ensures after { OnOk result (scope.new ≡ scope.old) }
 {
@@ -102,7 +122,11 @@ fn unknown_in_block<'m>(pattern: &[u8], stmts: &'m [Stmt], scope: &mut NameList<
 /// The same for statements in the order of the text.
 #[cycle(sight)]
 #[tactic(auto, using(crate::proofs::NameLemmas::begun_twice), unfolding(crate::specs::Scopes::seen_in_order))]
-fn unknown_in_order<'m>(pattern: &[u8], stmts: &'m [Stmt], scope: &mut NameList<'m>) -> Result<Option<&'m [u8]>, AllocError>
+fn unknown_in_order<'m>(
+    pattern: &[u8],
+    stmts: &'m [Stmt],
+    scope: &mut NameList<'m>,
+) -> Result<Option<&'m [u8]>, AllocError>
     ensures unknown { IfOk result (λ found. option_copied found ≡ seen_in_order (map (sight_of pattern.now) stmts.now) scope.old) }
     ensures kept { OnOk result (take (length scope.old) scope.new ≡ scope.old) }
 {
@@ -121,7 +145,11 @@ fn unknown_in(alloc: Global, instr: &Instr) -> Result<Option<&[u8]>, AllocError>
     ensures { IfOk result (λ found. option_copied found ≡ unknown_in instr.now) }
 {
     let mut scope = NameList::new(alloc);
-    unknown_in_block(instr.pattern.bytes.as_slice(), instr.body.as_slice(), &mut scope)
+    unknown_in_block(
+        instr.pattern.bytes.as_slice(),
+        instr.body.as_slice(),
+        &mut scope,
+    )
 }
 
 /// The first instruction with such a name, and its first such name. The error is want of memory.

@@ -24,7 +24,12 @@ fn add_lets<'m>(stmt: &'m Stmt, names: &mut NameList<'m>) -> Result<(), AllocErr
 {
     match stmt {
         Stmt::Let(name, _) => names.push(name.as_bytes()),
-        Stmt::Store(_, _) | Stmt::Pc(_) | Stmt::Mode(_) | Stmt::Rel(_) | Stmt::Bound(_) | Stmt::Trap => Ok(()),
+        Stmt::Store(_, _)
+        | Stmt::Pc(_)
+        | Stmt::Mode(_)
+        | Stmt::Rel(_)
+        | Stmt::Bound(_)
+        | Stmt::Trap => Ok(()),
         Stmt::If(_, held, other) => {
             match add_all_lets(held.as_slice(), names) {
                 Err(e) => return Err(e),
@@ -55,7 +60,11 @@ fn add_all_lets<'m>(stmts: &'m [Stmt], names: &mut NameList<'m>) -> Result<(), A
 
 /// The first of these let names that an earlier one, or a field of the pattern, has. The error is want of memory.
 #[tactic(auto, unfolding(crate::specs::Twice::let_twice))]
-fn let_twice<'m>(alloc: Global, pattern: &[u8], names: &[&'m [u8]]) -> Result<Option<&'m [u8]>, AllocError>
+fn let_twice<'m>(
+    alloc: Global,
+    pattern: &[u8],
+    names: &[&'m [u8]],
+) -> Result<Option<&'m [u8]>, AllocError>
     ensures { IfOk result (λ found. option_copied found ≡ let_twice pattern.now [] (map (λ n. n.now) names.now)) }
 {
     let mut seen = NameList::new(alloc);

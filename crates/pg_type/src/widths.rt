@@ -64,9 +64,7 @@ fn op_width(op: Op, left: u64, right: u64) -> Option<u64>
         Op::Add | Op::Sub | Op::Mul | Op::And | Op::Or | Op::Xor => {
             if same { Some(left) } else { None }
         }
-        Op::Eq | Op::Lt => {
-            if same { Some(1) } else { None }
-        }
+        Op::Eq | Op::Lt => { if same { Some(1) } else { None } }
         Op::Shl | Op::Shr => Some(left),
     }
 }
@@ -130,13 +128,7 @@ fn widened_width(width: Option<u64>, to: u64) -> Option<u64>
 {
     match width {
         None => None,
-        Some(n) => {
-            if n <= to && to <= 64 {
-                Some(to)
-            } else {
-                None
-            }
-        }
+        Some(n) => { if n <= to && to <= 64 { Some(to) } else { None } }
     }
 }
 
@@ -150,13 +142,7 @@ fn choice_width(test: Option<u64>, left: Option<u64>, right: Option<u64>) -> Opt
             None => None,
             Some(x) => match right {
                 None => None,
-                Some(y) => {
-                    if c == 1 && x == y {
-                        Some(x)
-                    } else {
-                        None
-                    }
-                }
+                Some(y) => { if c == 1 && x == y { Some(x) } else { None } }
             },
         },
     }
@@ -174,10 +160,20 @@ fn width_of(desc: &Desc, instr: &Instr, expr: &Expr, lets: &LetWidths<'_>) -> Op
         Expr::Mode => Some(1),
         Expr::Load(e) => load_width(desc, width_of(desc, instr, e.get(), lets)),
         Expr::Not(e) => width_of(desc, instr, e.get(), lets),
-        Expr::Bin(op, x, y) => bin_width(*op, width_of(desc, instr, x.get(), lets), width_of(desc, instr, y.get(), lets)),
-        Expr::Cat(x, y) => cat_width(width_of(desc, instr, x.get(), lets), width_of(desc, instr, y.get(), lets)),
+        Expr::Bin(op, x, y) => bin_width(
+            *op,
+            width_of(desc, instr, x.get(), lets),
+            width_of(desc, instr, y.get(), lets),
+        ),
+        Expr::Cat(x, y) => cat_width(
+            width_of(desc, instr, x.get(), lets),
+            width_of(desc, instr, y.get(), lets),
+        ),
         Expr::Cut(e, high, low) => cut_width(width_of(desc, instr, e.get(), lets), *high, *low),
-        Expr::Ext(e, to) | Expr::Sext(e, to) => widened_width(width_of(desc, instr, e.get(), lets), *to),
+        Expr::Ext(e, to) | Expr::Sext(e, to) => widened_width(
+            width_of(desc, instr, e.get(), lets),
+            *to,
+        ),
         Expr::Sel(c, x, y) => choice_width(
             width_of(desc, instr, c.get(), lets),
             width_of(desc, instr, x.get(), lets),
@@ -223,7 +219,12 @@ fn wants(wanted: u64, width: Option<u64>, place: usize) -> Result<Fare, AllocErr
 
 /// How a let fares, which may have any width and is visible after it. The error is want of memory.
 #[tactic(auto, using(crate::proofs::GrowLemmas::grow_rules))]
-fn binds<'m>(name: &'m Name, width: Option<u64>, place: usize, lets: &mut LetWidths<'m>) -> Result<Fare, AllocError>
+fn binds<'m>(
+    name: &'m Name,
+    width: Option<u64>,
+    place: usize,
+    lets: &mut LetWidths<'m>,
+) -> Result<Fare, AllocError>
     ensures kept { OnOk result (Grows lets.old lets.new) }
     ensures fare { IfOk result (λ fare. fare_as fare lets.new ≡ binds name.now.bytes width place lets.old) }
 {
@@ -243,7 +244,12 @@ fn binds<'m>(name: &'m Name, width: Option<u64>, place: usize, lets: &mut LetWid
 }
 
 /// How a store fares, with the widths of its address and of what it stores. The error is that of `next_place`.
-fn store_fare(desc: &Desc, address: Option<u64>, cell: Option<u64>, place: usize) -> Result<Fare, AllocError>
+fn store_fare(
+    desc: &Desc,
+    address: Option<u64>,
+    cell: Option<u64>,
+    place: usize,
+) -> Result<Fare, AllocError>
     ensures { IfOk result (λ fare. (lets : Visible) → fare_as fare lets ≡ then_fares (wants desc.now.address address place lets) (λ next same. wants desc.now.word cell place lets)) }
 {
     match wants(desc.address, address, place) {
@@ -256,7 +262,13 @@ fn store_fare(desc: &Desc, address: Option<u64>, cell: Option<u64>, place: usize
 /// How a statement at a place fares. A let is visible after it. The error is want of memory.
 #[cycle(fare)]
 #[tactic(auto, using(crate::proofs::CheckStmtEquations::fare_of_rules, crate::proofs::GrowLemmas::grow_rules))]
-fn fare_of<'m>(desc: &Desc, instr: &Instr, stmt: &'m Stmt, place: usize, lets: &mut LetWidths<'m>) -> Result<Fare, AllocError>
+fn fare_of<'m>(
+    desc: &Desc,
+    instr: &Instr,
+    stmt: &'m Stmt,
+    place: usize,
+    lets: &mut LetWidths<'m>,
+) -> Result<Fare, AllocError>
     ensures fare { IfOk result (λ fare. fare_as fare lets.new ≡ fare_of (setting_of desc.now instr.now) stmt.now place lets.old) }
     ensures kept { OnOk result (Grows lets.old lets.new) }
 {
@@ -265,8 +277,17 @@ fn fare_of<'m>(desc: &Desc, instr: &Instr, stmt: &'m Stmt, place: usize, lets: &
             let width = width_of(desc, instr, e, lets);
             binds(name, width, place, lets)
         }
-        Stmt::Store(a, e) => store_fare(desc, width_of(desc, instr, a, lets), width_of(desc, instr, e, lets), place),
-        Stmt::Pc(e) | Stmt::Rel(e) | Stmt::Bound(e) => wants(desc.address, width_of(desc, instr, e, lets), place),
+        Stmt::Store(a, e) => store_fare(
+            desc,
+            width_of(desc, instr, a, lets),
+            width_of(desc, instr, e, lets),
+            place,
+        ),
+        Stmt::Pc(e) | Stmt::Rel(e) | Stmt::Bound(e) => wants(
+            desc.address,
+            width_of(desc, instr, e, lets),
+            place,
+        ),
         Stmt::Mode(e) => wants(1, width_of(desc, instr, e, lets), place),
         Stmt::Trap => match next_place(place) {
             Err(error) => Err(error),
@@ -275,7 +296,13 @@ fn fare_of<'m>(desc: &Desc, instr: &Instr, stmt: &'m Stmt, place: usize, lets: &
         Stmt::If(c, held, other) => match wants(1, width_of(desc, instr, c, lets), place) {
             Err(error) => Err(error),
             Ok(Fare::Breaks(at)) => Ok(Fare::Breaks(at)),
-            Ok(Fare::Keeps(next)) => match fares_in_block(desc, instr, held.as_slice(), next, lets) {
+            Ok(Fare::Keeps(next)) => match fares_in_block(
+                desc,
+                instr,
+                held.as_slice(),
+                next,
+                lets,
+            ) {
                 Err(error) => Err(error),
                 Ok(Fare::Breaks(at)) => Ok(Fare::Breaks(at)),
                 Ok(Fare::Keeps(later)) => match other {
@@ -290,7 +317,13 @@ fn fare_of<'m>(desc: &Desc, instr: &Instr, stmt: &'m Stmt, place: usize, lets: &
 /// How the statements of a block fare, whose lets end with it. The error is want of memory.
 #[cycle(fare)]
 #[tactic(auto, using(crate::proofs::GrowLemmas::grow_rules))]
-fn fares_in_block<'m>(desc: &Desc, instr: &Instr, stmts: &'m [Stmt], place: usize, lets: &mut LetWidths<'m>) -> Result<Fare, AllocError>
+fn fares_in_block<'m>(
+    desc: &Desc,
+    instr: &Instr,
+    stmts: &'m [Stmt],
+    place: usize,
+    lets: &mut LetWidths<'m>,
+) -> Result<Fare, AllocError>
     ensures fare { IfOk result (λ fare. fare_as fare lets.new ≡ after_block lets.old (fares_in_order (map (fare_of (setting_of desc.now instr.now)) stmts.now) place lets.old)) }
     ensures after { OnOk result (lets.new ≡ lets.old) }
 {
@@ -307,7 +340,13 @@ fn fares_in_block<'m>(desc: &Desc, instr: &Instr, stmts: &'m [Stmt], place: usiz
 /// How statements fare in the order of the text. The error is want of memory.
 #[cycle(fare)]
 #[tactic(auto, using(crate::proofs::GrowLemmas::grow_rules), unfolding(crate::specs::Widths::fares_in_order))]
-fn fares_in_order<'m>(desc: &Desc, instr: &Instr, stmts: &'m [Stmt], place: usize, lets: &mut LetWidths<'m>) -> Result<Fare, AllocError>
+fn fares_in_order<'m>(
+    desc: &Desc,
+    instr: &Instr,
+    stmts: &'m [Stmt],
+    place: usize,
+    lets: &mut LetWidths<'m>,
+) -> Result<Fare, AllocError>
     ensures fare { IfOk result (λ fare. fare_as fare lets.new ≡ fares_in_order (map (fare_of (setting_of desc.now instr.now)) stmts.now) place lets.old) }
     ensures kept { OnOk result (Grows lets.old lets.new) }
 {
