@@ -16,3 +16,6 @@ pub mod laws;
 pub use counts::Counts;
 pub use hardware::Hardware;
 pub use idle::Idle;
+
+#[cfg(test)]
+mod tests;

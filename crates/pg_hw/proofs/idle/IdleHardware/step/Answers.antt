@@ -7,7 +7,7 @@ use Rattle.pg_hw.proofs.idle.IdleHardware.step.Goals as goal
 pub returns-clause-state : goal.returns-clause-state
 returns-clause-state c =
     step-idle_by c.args.m.now.desc (record { cells = c.args.self.now.cells.items; psw = c.args.self.now.psw }) c.shape.result.now c.size.result c.window_len-usable.result
-    c.cause_of-cause.result c.trap-self.new.cells.items c.trap-self.result c.requires.served c.shape.ensures.shape c.size.ensures
+    c.cause_of-cause.result c.trap-self.new.cells.items c.trap-self.result c.requires.served c.shape.ensures.numbers c.size.ensures
     c.window_len-usable.ensures c.cause_of-cause.ensures c.trap-self.ensures.cells c.trap-self.ensures.psw
 
 pub returns-clause-tally : goal.returns-clause-tally
