@@ -1,2 +1,4 @@
 pub mod ExprEquations
+pub mod ExprFronts
+pub mod ExprReads
 pub mod StmtEquations
