@@ -2,3 +2,5 @@ pub mod ExprEquations
 pub mod ExprFronts
 pub mod ExprReads
 pub mod StmtEquations
+pub mod StmtFronts
+pub mod StmtReads

@@ -165,3 +165,105 @@ read_level read (Sign s ∷ ts) = read_sign read s ts
 unfoldable pub read_expr : ℕ → List Tok → Option (Expr × List Tok)
 read_expr zero ts = None
 read_expr (suc n) ts = read_level (read_expr n) ts
+
+-- the tokens behind a closing brace, where one comes first
+abbrev pub past_close : List Tok → Option (List Tok)
+past_close (Sign s ∷ ts) = cond (sign_number s == sign_number CloseBrace) (Some ts) None
+past_close _ = None
+
+-- the tokens behind the word else, where it comes first
+abbrev pub past_else : List Tok → Option (List Tok)
+past_else (Word w ∷ ts) = cond (bytes_eq w (codes "else")) (Some ts) None
+past_else _ = None
+
+-- an assignment of an expression, behind its register
+abbrev pub read_assign : (List Tok → Option (Expr × List Tok)) → (Expr → Stmt) → List Tok → Option (Stmt × List Tok)
+read_assign expr make ts =
+    past_sign Equals ts (λ us. then_read (expr us) (λ e vs. past_sign Semicolon vs (λ rest. Some (make e, rest))))
+
+-- an if, behind its block: with an else where that word comes next
+abbrev pub read_else : (List Tok → Option (List Stmt × List Tok)) → Expr → List Stmt → List Tok → Option (List Tok) → Option (Stmt × List Tok)
+read_else block c held ts None = Some (If c held None, ts)
+read_else block c held ts (Some us) = past_sign OpenBrace us (λ vs. then_read (block vs) (λ other rest. Some (If c held (Some other), rest)))
+
+-- a statement that begins with this word; expr reads an expression, and block the statements of a block up to its end
+unfoldable pub read_stmt_word : (List Tok → Option (Expr × List Tok)) → (List Tok → Option (List Stmt × List Tok)) → List ℕ → List Tok → Option (Stmt × List Tok)
+read_stmt_word expr block w ts =
+    cond (bytes_eq w (codes "let"))
+        (past_name ts (λ n us. past_sign Equals us (λ vs. then_read (expr vs) (λ e ws. past_sign Semicolon ws (λ rest. Some (Let n e, rest))))))
+    (cond (bytes_eq w (codes "mem"))
+        (past_sign OpenBracket ts (λ us. then_read (expr us) (λ a vs. past_sign CloseBracket vs (λ ws. read_assign expr (Store a) ws))))
+    (cond (bytes_eq w (codes "pc")) (read_assign expr ToPc ts)
+    (cond (bytes_eq w (codes "mode")) (read_assign expr ToMode ts)
+    (cond (bytes_eq w (codes "rel")) (read_assign expr ToRel ts)
+    (cond (bytes_eq w (codes "bound")) (read_assign expr ToBound ts)
+    (cond (bytes_eq w (codes "trap")) (past_sign Semicolon ts (λ rest. Some (Trap, rest)))
+    (cond (bytes_eq w (codes "if"))
+        (then_read (expr ts) (λ c us. past_sign OpenBrace us (λ vs. then_read (block vs) (λ held ws. read_else block c held ws (past_else ws)))))
+    None)))))))
+
+-- a statement
+unfoldable pub read_stmt : (List Tok → Option (Expr × List Tok)) → (List Tok → Option (List Stmt × List Tok)) → List Tok → Option (Stmt × List Tok)
+read_stmt expr block (Word w ∷ ts) = read_stmt_word expr block w ts
+read_stmt expr block _ = None
+
+-- the statements of a block up to its closing brace: none where that comes first, and else one and the others
+unfoldable pub read_first : (List Tok → Option (Expr × List Tok)) → (List Tok → Option (List Stmt × List Tok)) → List Tok → Option (List Tok) → Option (List Stmt × List Tok)
+read_first expr block ts (Some rest) = Some ([], rest)
+read_first expr block ts None = then_read (read_stmt expr block ts) (λ s us. then_read (block us) (λ more rest. Some (s ∷ more, rest)))
+
+-- the statements of a block up to its closing brace, and past it
+unfoldable pub read_block : (List Tok → Option (Expr × List Tok)) → ℕ → List Tok → Option (List Stmt × List Tok)
+read_block expr zero ts = None
+read_block expr (suc k) ts = read_first expr (read_block expr k) ts (past_close ts)
+
+abbrev pub instr_when : (n : Names) (p : PatternText) (body : List Stmt) (b c : Bool) → nat_le (1 + greatest (map block_levels body)) 16 ≡ b → nat_le (greatest (map expr_levels body)) 32 ≡ c → Option Instr
+instr_when n p body true true blocks exprs =
+    Some (record { name = n; pattern = p; body = body; shallow = record { blocks = leb-true _ _ blocks; exprs = leb-true _ _ exprs } })
+instr_when n p body _ _ blocks exprs = None
+
+-- the instruction of these parts, where its body keeps the limits
+unfoldable pub instr_of : Names → PatternText → List Stmt → Option Instr
+instr_of n p body = instr_when n p body (nat_le (1 + greatest (map block_levels body)) 16) (nat_le (greatest (map expr_levels body)) 32) refl refl
+
+-- an instruction
+unfoldable pub read_instr : (List Tok → Option (List Stmt × List Tok)) → List Tok → Option (Instr × List Tok)
+read_instr block ts =
+    past_word (codes "instr") ts (λ us. past_name us (λ n vs. past_pattern vs (λ p ws. past_sign OpenBrace ws (λ xs. then_read (block xs) (λ body rest.
+    past_found (instr_of n p body) rest (λ i us'. Some (i, us')))))))
+
+-- one more in front, where the others were read
+abbrev pub cons_read : Instr → Option (List Instr) → Option (List Instr)
+cons_read i None = None
+cons_read i (Some is) = Some (i ∷ is)
+
+-- the instructions up to the end of the tokens
+unfoldable pub read_instrs : (List Tok → Option (List Stmt × List Tok)) → ℕ → List Tok → Option (List Instr)
+read_instrs block zero ts = None
+read_instrs block (suc k) [] = Some []
+read_instrs block (suc k) (t ∷ ts) = then_read (read_instr block (t ∷ ts)) (λ i us. cons_read i (read_instrs block k us))
+
+-- a line of the head: a word, a number, a semicolon
+abbrev pub past_line : {B : Type 0} → List ℕ → List Tok → (ℕ → List Tok → Option B) → Option B
+past_line w ts go = past_word w ts (λ us. past_number us (λ n vs. past_sign Semicolon vs (λ ws. go n ws)))
+
+-- the end of the head: the word causes where they are on, and the closing brace
+abbrev pub past_causes : {B : Type 0} → List Tok → (Bool → List Tok → Option B) → Option B
+past_causes (Word w ∷ ts) go =
+    past_word (codes "causes") (Word w ∷ ts) (λ us. past_word (codes "on") us (λ vs. past_sign Semicolon vs (λ ws. past_sign CloseBrace ws (λ xs. go true xs))))
+past_causes (Number n ∷ ts) go = None
+past_causes (Pattern p ∷ ts) go = None
+past_causes [] go = None
+past_causes (Sign s ∷ ts) go = past_sign CloseBrace (Sign s ∷ ts) (λ xs. go false xs)
+
+-- the description of a head and instructions, where these were read
+abbrev pub with_instrs : ℕ → ℕ → ℕ → Bool → Option (List Instr) → Option Desc
+with_instrs word address size causes None = None
+with_instrs word address size causes (Some instrs) = Some (record { word = word; address = address; size = size; causes = causes; instrs = instrs })
+
+-- a description, each part of it with this fuel
+unfoldable pub read_desc : ℕ → List Tok → Option Desc
+read_desc n ts =
+    past_word (codes "machine") ts (λ us. past_sign OpenBrace us (λ vs. past_line (codes "word") vs (λ word ws. past_line (codes "address") ws (λ address xs.
+    past_line (codes "size") xs (λ size ys. past_causes ys (λ causes zs.
+    with_instrs word address size causes (read_instrs (read_block (read_expr n) n) n zs)))))))
