@@ -1,6 +1,6 @@
 -- Reading a tree back from its tokens. A reader takes the tree at the front of a list of tokens and leaves the tokens behind it.
 -- Each is given as much fuel as it may go down levels, and without fuel it reads nothing.
-use Rattle.std.specs.Prelude.{◌≡◌, ℕ, zero, suc, ◌+◌, Bool, true, false, cond, ◌==◌, nat_le, map, List, [], ◌∷◌, Option, None, Some, codes, bytes_eq, IsTrue}
+use Rattle.std.specs.Prelude.{◌≡◌, ℕ, zero, suc, ◌+◌, Bool, true, false, cond, ◌==◌, nat_le, map, List, [], ◌∷◌, length, Option, None, Some, codes, bytes_eq, IsTrue}
 use Rattle.std.specs.List.{list_all}
 use Rattle.std.proofs.Common.{refl}
 use Rattle.std.proofs.lemmas.Bool.{leb-true}
@@ -267,3 +267,7 @@ read_desc n ts =
     past_word (codes "machine") ts (λ us. past_sign OpenBrace us (λ vs. past_line (codes "word") vs (λ word ws. past_line (codes "address") ws (λ address xs.
     past_line (codes "size") xs (λ size ys. past_causes ys (λ causes zs.
     with_instrs word address size causes (read_instrs (read_block (read_expr n) n) n zs)))))))
+
+-- a description: a list of tokens is fuel enough for itself
+unfoldable pub read_tokens : List Tok → Option Desc
+read_tokens ts = read_desc (32 + length ts) ts

@@ -1,8 +1,10 @@
 //! Description trees.
 #![tactic(auto)]
 
+mod laws;
 mod name;
 mod tree;
 
+pub use laws::{tokens_are_read_back, tokens_determine_tree};
 pub use name::{Name, PatternText};
 pub use tree::{Desc, Expr, Instr, InstrList, Op, Stmt, StmtList};
