@@ -1,3 +1,4 @@
+pub mod Depths
 pub mod DescReads
 pub mod ExprEquations
 pub mod ExprFronts
