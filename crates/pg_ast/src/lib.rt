@@ -7,6 +7,6 @@ mod name;
 mod tree;
 
 pub use laws::{tokens_are_read_back, tokens_determine_tree};
-pub use limits::{BLOCK_LEVELS, EXPR_LEVELS, has_depth_within};
+pub use limits::{BLOCK_LEVELS, EXPR_LEVELS, has_depth_within, is_shallow};
 pub use name::{Name, PatternText};
 pub use tree::{Desc, Expr, Instr, InstrList, Op, Stmt, StmtList};

@@ -41,3 +41,96 @@ pub fn has_depth_within(expr: &Expr, levels: u32) -> bool
         }
     }
 }
+
+/// Whether each expression of a statement has at most so many levels.
+#[tactic(auto, using(crate::proofs::StmtEquations::expr_levels_rules))]
+#[cycle(exprs)]
+fn has_exprs_within(stmt: &Stmt, levels: u32) -> bool
+    ensures { IsTrue result ↔ (expr_levels stmt.now ≤ levels) }
+{
+    match stmt {
+        Stmt::Let(_, e) => has_depth_within(e, levels),
+        Stmt::Store(a, e) => has_depth_within(a, levels) && has_depth_within(e, levels),
+        Stmt::Pc(e) => has_depth_within(e, levels),
+        Stmt::Mode(e) => has_depth_within(e, levels),
+        Stmt::Rel(e) => has_depth_within(e, levels),
+        Stmt::Bound(e) => has_depth_within(e, levels),
+        Stmt::Trap => true,
+        Stmt::If(c, held, other) => {
+            if !has_depth_within(c, levels) {
+                return false;
+            }
+            if !have_exprs_within(held.as_slice(), levels) {
+                return false;
+            }
+            match other {
+                None => true,
+                Some(other) => have_exprs_within(other.as_slice(), levels),
+            }
+        }
+    }
+}
+
+/// The same of each of these statements.
+#[cycle(exprs)]
+fn have_exprs_within(stmts: &[Stmt], levels: u32) -> bool
+    ensures { IsTrue result ↔ (greatest (map expr_levels stmts.now) ≤ levels) }
+{
+    for stmt in stmts {
+        if !has_exprs_within(stmt, levels) {
+            return false;
+        }
+    }
+    true
+}
+
+/// Whether the blocks inside a statement have at most so many levels.
+#[tactic(auto, using(crate::proofs::StmtEquations::block_levels_rules))]
+#[cycle(blocks)]
+fn has_blocks_within(stmt: &Stmt, levels: u32) -> bool
+    ensures { IsTrue result ↔ (block_levels stmt.now ≤ levels) }
+{
+    match stmt {
+        Stmt::Let(..) => true,
+        Stmt::Store(..) => true,
+        Stmt::Pc(_) => true,
+        Stmt::Mode(_) => true,
+        Stmt::Rel(_) => true,
+        Stmt::Bound(_) => true,
+        Stmt::Trap => true,
+        Stmt::If(_, held, other) => {
+            if levels == 0 {
+                return false;
+            }
+            if !have_blocks_within(held.as_slice(), levels - 1) {
+                return false;
+            }
+            match other {
+                None => true,
+                Some(other) => have_blocks_within(other.as_slice(), levels - 1),
+            }
+        }
+    }
+}
+
+/// The same of the blocks inside each of these statements.
+#[cycle(blocks)]
+fn have_blocks_within(stmts: &[Stmt], levels: u32) -> bool
+    ensures { IsTrue result ↔ (greatest (map block_levels stmts.now) ≤ levels) }
+{
+    for stmt in stmts {
+        if !has_blocks_within(stmt, levels) {
+            return false;
+        }
+    }
+    true
+}
+
+/// Whether a body keeps the limits: its own block is the first of at most `BLOCK_LEVELS`, and no
+/// expression in it has more than `EXPR_LEVELS`.
+pub fn is_shallow(body: &StmtList) -> bool
+    ensures { IsTrue result ↔ IsShallow body.now }
+{
+    have_blocks_within(body.as_slice(), BLOCK_LEVELS - 1)
+        && have_exprs_within(body.as_slice(), EXPR_LEVELS)
+}
