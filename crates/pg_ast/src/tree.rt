@@ -1,8 +1,9 @@
 //! The trees.
 
-ghost use Rattle.std.specs.Prelude.{◌≡◌};
+ghost use Rattle.std.specs.Prelude.{◌≡◌, ◌↔◌, IsSome, IfSome};
 ghost use Rattle.pg_ast.specs.Levels.{IsShallow};
 
+use crate::limits::is_shallow;
 use crate::name::{Name, PatternText};
 use sqlite_items::{Boxed, Items};
 
@@ -74,6 +75,25 @@ impl Instr {
             name,
             pattern,
             body,
+        }
+    }
+
+    /// The instruction of these parts. `None` where the body goes past a limit: it has blocks below
+    /// level 16, its own being the first, or an expression of more than 32 levels.
+    pub fn try_new(name: Name, pattern: PatternText, body: StmtList) -> Option<Instr>
+        ensures some { IsSome result ↔ IsShallow body }
+        ensures name { IfSome result (λ instr. instr.name ≡ name) }
+        ensures pattern { IfSome result (λ instr. instr.pattern ≡ pattern) }
+        ensures body { IfSome result (λ instr. instr.body ≡ body) }
+    {
+        if is_shallow(&body) {
+            Some(Instr {
+                name,
+                pattern,
+                body,
+            })
+        } else {
+            None
         }
     }
 }
