@@ -4,6 +4,8 @@
 mod laws;
 mod limits;
 mod name;
+#[cfg(test)]
+mod tests;
 mod tree;
 
 pub use laws::{tokens_are_read_back, tokens_determine_tree};

@@ -18,8 +18,8 @@ pub struct Name {
     pub ghost is_name: { IsTrue (is_name bytes) },
 }
 
-/// A pattern, most significant bit first: `0` and `1` fix a bit, `.` leaves it free, and a small letter
-/// makes it part of the field of that letter. It may have any length here, also none.
+/// A pattern: `0` and `1` fix a bit, `.` leaves it free, and a small letter makes it part of the field
+/// of that letter. It may have any length here, also none.
 #[derive(Debug, Drop)]
 pub struct PatternText {
     pub bytes: Items<u8>,

@@ -1,4 +1,9 @@
 //! Words, names and patterns.
+//!
+//! Which bytes make a word, which words the language keeps for itself, and which bytes stand in a
+//! pattern: tests that answer what the definitions of the same names say. They read bytes and
+//! allocate nothing. A lexer asks them where a word ends and what it is, and a tree keeps their
+//! answers as facts of its names and patterns.
 
 ghost use Rattle.std.specs.Prelude.{◌≡◌, ◌∷◌, ◌||◌, bytes_eq, codes, [], List};
 ghost use Rattle.std.specs.List.{list_all, list_any};
@@ -85,4 +90,43 @@ pub fn is_pattern(bytes: &[u8]) -> bool
     ensures { result ≡ list_all is_pattern_byte bytes.now }
 {
     bytes.iter().all(|byte| is_pattern_byte(*byte))
+}
+
+#[cfg(test)]
+mod tests {
+    use super::*;
+
+    #[test]
+    fn tells_names_from_other_bytes(rt: HostRuntime) {
+        let table: [(&[u8], bool, bool); 9] = [
+            (b"R7_x", true, true),
+            (b"a2345678901234567890123456789012", true, true),
+            (b"a23456789012345678901234567890123", false, false),
+            (b"", false, false),
+            (b"7r", false, false),
+            (b"_r", false, false),
+            (b"a-b", false, false),
+            (b"sext", true, false),
+            (b"Sext", true, true),
+        ];
+        for (bytes, word, name) in table {
+            assert_eq!(rt; is_word(bytes), word, "word {bytes:?}");
+            assert_eq!(rt; is_name(bytes), name, "name {bytes:?}");
+        }
+    }
+
+    #[test]
+    fn tells_reserved_words(rt: HostRuntime) {
+        assert!(rt; is_reserved(b"machine"));
+        assert!(rt; is_reserved(b"sel"));
+        assert!(rt; !is_reserved(b"on"));
+    }
+
+    #[test]
+    fn tells_patterns(rt: HostRuntime) {
+        assert!(rt; is_pattern(b"01.az"));
+        assert!(rt; !is_pattern(b"01A"));
+        assert!(rt; is_pattern_byte(b'.'));
+        assert!(rt; !is_pattern_byte(b'_'));
+    }
 }
