@@ -1,9 +1,8 @@
 -- An expression has a level.
-use Rattle.std.proofs.Common.{ℕ, ◌+◌, ◌≤◌, max, subst, sym, arith}
+use Rattle.std.proofs.Common.{ℕ, ◌≤◌, subst, sym, arith}
 use Rattle.pg_ast.specs.declared.tree.Expr.{Expr}
 use Rattle.pg_ast.specs.declared.tree.Expr.TheOpen.{Expr-F, Lit, Name, Pc, Mode, Rel, Bound, Load, Not, Bin, Cat, Cut, Ext, Sext, Sel}
 use Rattle.pg_ast.specs.declared.tree.Expr.TheFolds.{ind-Expr, fold-roll-Expr}
-use Rattle.pg_ast.specs.declared.tree.Expr.TheViews.{roll-Expr}
 use Rattle.pg_ast.specs.Levels.{depth_of, depth_step}
 
 step-some : (x : Expr-F ℕ) → 1 ≤ depth_step x

@@ -1,21 +1,21 @@
 -- Reading the tokens of a description gives the description back, so the tokens determine it.
-use Rattle.std.proofs.Common.{◌≡◌, ℕ, zero, suc, ◌+◌, ◌≤◌, Bool, true, false, nat_le, List, [], ◌∷◌, ◌++◌, length, map, Option, None, Some, codes, ap, sym, ◌∙◌, refl, arith}
+use Rattle.std.proofs.Common.{◌≡◌, ℕ, zero, suc, ◌+◌, ◌≤◌, Bool, true, false, nat_le, List, [], ◌∷◌, ◌++◌, length, map, Option, Some, codes, ap, sym, ◌∙◌, refl, arith}
 use Rattle.std.specs.List.{list_all}
 use Rattle.std.proofs.Math.Bool.{Bool-set}
 use Rattle.std.proofs.Math.Bridge.{le_prop}
 use Rattle.std.proofs.lemmas.Bool.{le-leb}
-use Rattle.std.proofs.lemmas.List.{append_assoc, length-append}
+use Rattle.std.proofs.lemmas.List.{length-append}
 use Rattle.pg_token.specs.Words.{is_pattern_byte}
 use Rattle.pg_token.specs.declared.tok.Tok.{Tok}
-use Rattle.pg_token.specs.declared.tok.Tok.TheVariants.{Word, Number, Pattern, Sign}
-use Rattle.pg_token.specs.declared.tok.Sign.TheVariants.{OpenBrace, CloseBrace, Semicolon}
+use Rattle.pg_token.specs.declared.tok.Tok.TheVariants.{Word, Pattern, Sign}
+use Rattle.pg_token.specs.declared.tok.Sign.TheVariants.{OpenBrace, CloseBrace}
 use Rattle.pg_ast.specs.declared.name.PatternText.{PatternText}
 use Rattle.pg_ast.specs.declared.tree.Stmt.{Stmt}
 use Rattle.pg_ast.specs.declared.tree.Instr.{Instr}
 use Rattle.pg_ast.specs.declared.tree.Desc.{Desc}
 use Rattle.pg_ast.specs.Levels.{IsShallow, greatest, block_levels, expr_levels}
 use Rattle.pg_ast.specs.Tokens.{stmt_tokens, instr_tokens, head_tokens, tokens_of, flat}
-use Rattle.pg_ast.specs.Reading.{pattern_when, pattern_of, instr_when, instr_of, past_word, past_causes, read_expr, read_block, read_instr, read_instrs, with_instrs, read_desc, read_tokens}
+use Rattle.pg_ast.specs.Reading.{pattern_when, pattern_of, instr_when, instr_of, read_expr, read_block, read_instr, read_instrs, read_desc, read_tokens}
 use Rattle.pg_ast.proofs.ExprReads.{name_of-bytes}
 use Rattle.pg_ast.proofs.StmtReads.{ReadsBlock, read_block-tokens}
 use Rattle.pg_ast.proofs.StmtFronts.{block_front}
@@ -73,8 +73,8 @@ read_instrs-tokens (i ∷ rest) n m (suc k) deep fuel more =
     let total = length-append (instr_tokens i) (flat (map instr_tokens rest)) in
     let own = instr-length i in
     read_instrs-next (read_block (read_expr n) m) k i rest
-        (read_block-tokens i.body n m (omega (arith, i.shallow.exprs)) (omega (arith, total, own)))
-        (read_instrs-tokens rest n m k deep (omega (arith, total)) (omega (arith, total, own)))
+    (read_block-tokens i.body n m (omega (arith, i.shallow.exprs)) (omega (arith, total, own)))
+    (read_instrs-tokens rest n m k deep (omega (arith, total)) (omega (arith, total, own)))
 
 read_desc-parts : (n word address size : ℕ) (causes : Bool) (instrs : List Instr) → read_instrs (read_block (read_expr n) n) n (flat (map instr_tokens instrs)) ≡ Some instrs →
     let d : Desc = record { word = word; address = address; size = size; causes = causes; instrs = instrs } in read_desc n (tokens_of d) ≡ Some d

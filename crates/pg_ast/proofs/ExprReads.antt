@@ -1,5 +1,5 @@
 -- Reading the tokens of an expression gives the expression back.
-use Rattle.std.proofs.Common.{◌≡◌, ℕ, zero, suc, ◌+◌, ◌≤◌, max, Bool, true, false, List, ◌++◌, Option, Some, ap, sym, subst, refl, arith}
+use Rattle.std.proofs.Common.{◌≡◌, ℕ, zero, suc, ◌≤◌, Bool, true, false, List, ◌++◌, Option, Some, ap, sym, subst, refl, arith}
 use Rattle.std.proofs.Math.Bool.{Bool-set}
 use Rattle.pg_token.specs.Words.{is_name}
 use Rattle.pg_token.specs.declared.tok.Tok.{Tok}

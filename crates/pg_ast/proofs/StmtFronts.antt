@@ -1,5 +1,5 @@
 -- The tokens of a statement in front of others, one equation for each form: in right order, as a reader meets them.
-use Rattle.std.proofs.Common.{◌≡◌, ℕ, List, [], ◌∷◌, ◌++◌, map, None, Some, Bool, false, bytes_eq, codes, refl, ap, sym, ◌∙◌, subst}
+use Rattle.std.proofs.Common.{◌≡◌, ℕ, List, [], ◌∷◌, ◌++◌, map, None, Some, false, bytes_eq, codes, refl, ap, sym, ◌∙◌, subst}
 use Rattle.std.proofs.lemmas.List.{append_assoc}
 use Rattle.pg_token.specs.declared.tok.Tok.{Tok}
 use Rattle.pg_token.specs.declared.tok.Tok.TheVariants.{Word, Sign}
@@ -48,10 +48,10 @@ stmt_front-if c held rest = rw (equations.stmt_tokens-if c held None) (simp appe
 pub stmt_front-if_else : (c : Expr) (held other : List Stmt) (rest : List Tok) → stmt_tokens (If c held (Some other)) ++ rest ≡ Word (codes "if") ∷ (expr_tokens c ++ (Sign OpenBrace ∷ (flat (map stmt_tokens held) ++ (Sign CloseBrace ∷ Word (codes "else") ∷ Sign OpenBrace ∷ (flat (map stmt_tokens other) ++ (Sign CloseBrace ∷ rest))))))
 stmt_front-if_else c held other rest =
     rw (equations.stmt_tokens-if c held (Some other))
-        (ap (λ z. Word (codes "if") ∷ z)
-            (gather (expr_tokens c) (block_tokens (map stmt_tokens held)) (else_tokens (Some (map stmt_tokens other))) rest
-            ∙ ap (λ z. expr_tokens c ++ z) (block_front (map stmt_tokens held) (else_tokens (Some (map stmt_tokens other)) ++ rest)
-            ∙ ap (λ z. Sign OpenBrace ∷ (flat (map stmt_tokens held) ++ (Sign CloseBrace ∷ Word (codes "else") ∷ z))) (block_front (map stmt_tokens other) rest))))
+    (ap (λ z. Word (codes "if") ∷ z)
+    (gather (expr_tokens c) (block_tokens (map stmt_tokens held)) (else_tokens (Some (map stmt_tokens other))) rest
+    ∙ ap (λ z. expr_tokens c ++ z) (block_front (map stmt_tokens held) (else_tokens (Some (map stmt_tokens other)) ++ rest)
+    ∙ ap (λ z. Sign OpenBrace ∷ (flat (map stmt_tokens held) ++ (Sign CloseBrace ∷ Word (codes "else") ∷ z))) (block_front (map stmt_tokens other) rest))))
 
 pub ruleset stmt_front_rules = (stmt_front-let, stmt_front-store, stmt_front-pc, stmt_front-mode, stmt_front-rel, stmt_front-bound, stmt_front-trap, stmt_front-if, stmt_front-if_else)
 

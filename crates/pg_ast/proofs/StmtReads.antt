@@ -1,8 +1,8 @@
 -- Reading the tokens of statements gives the statements back.
-use Rattle.std.proofs.Common.{◌≡◌, ℕ, zero, suc, ◌+◌, ◌≤◌, max, List, [], ◌∷◌, ◌++◌, length, map, Option, None, Some, ap, sym, ◌∙◌, subst, refl, arith}
+use Rattle.std.proofs.Common.{◌≡◌, ℕ, zero, suc, ◌+◌, ◌≤◌, List, [], ◌∷◌, ◌++◌, length, map, Option, None, Some, sym, subst, refl, arith}
 use Rattle.std.proofs.lemmas.List.{append_assoc, length-append}
 use Rattle.pg_token.specs.declared.tok.Tok.{Tok}
-use Rattle.pg_token.specs.declared.tok.Tok.TheVariants.{Word, Sign}
+use Rattle.pg_token.specs.declared.tok.Tok.TheVariants.{Sign}
 use Rattle.pg_token.specs.declared.tok.Sign.TheVariants.{CloseBrace}
 use Rattle.pg_ast.specs.declared.name.Name.{Name as Names}
 use Rattle.pg_ast.specs.declared.tree.Expr.{Expr}
@@ -11,9 +11,8 @@ use Rattle.pg_ast.specs.declared.tree.Stmt.TheVariants.{Let, Store, Pc, Mode, Re
 use Rattle.pg_ast.specs.declared.tree.Stmt.TheOpen as Open
 use Rattle.pg_ast.specs.declared.tree.Stmt.TheFolds.{ind-Stmt, map-Stmt}
 use Rattle.pg_ast.specs.declared.tree.Stmt.TheViews.{roll-Stmt}
-use Rattle.pg_ast.specs.ExprTokens.{expr_tokens}
 use Rattle.pg_ast.specs.Tokens.{stmt_tokens, flat}
-use Rattle.pg_ast.specs.Levels.{depth_of, greatest, greatest_of, expr_levels}
+use Rattle.pg_ast.specs.Levels.{greatest, expr_levels}
 use Rattle.pg_ast.specs.Reading.{past_close, past_else, read_expr, read_stmt_word, read_stmt, read_first, read_block}
 use Rattle.pg_ast.proofs.ExprReads.{Reads, name_of-bytes, read_expr-tokens}
 use Rattle.pg_ast.proofs.StmtEquations as equations
@@ -102,9 +101,9 @@ block-reads (s ∷ more) n (suc k) levels fuel rest =
     let total = length-append (stmt_tokens s.0) (flat (map stmt_tokens (map (λ p. p.0) more))) in
     let some = stmt-some s.0 in
     first-next (read_expr n) (read_block (read_expr n) k) s.0 (map (λ p. p.0) more)
-        (s.1 n k (omega arith) (omega (arith, total)))
-        (block-reads more n k (omega arith) (omega (arith, total, some)))
-        rest
+    (s.1 n k (omega arith) (omega (arith, total)))
+    (block-reads more n k (omega arith) (omega (arith, total, some)))
+    rest
 
 if-length : (c : Expr) (held : List Stmt) (other : Option (List Stmt)) → length (flat (map stmt_tokens held)) + 1 ≤ length (stmt_tokens (If c held other))
 if-length c held other =
@@ -131,14 +130,14 @@ layer Open.Trap = subst IsRead (sym rolls-Trap) (λ n k levels fuel. level-trap 
 layer (Open.If c held None) = subst IsRead (sym (rolls-If c (map (λ p. p.0) held) None)) (λ n k levels fuel.
     let within = equations.expr_levels-if c (map (λ p. p.0) held) None in
     level-if (read_expr n) (read_block (read_expr n) k) c (map (λ p. p.0) held)
-        (read_expr-tokens c n (omega (arith, within)))
-        (block-reads held n k (omega (arith, within)) (omega (arith, if-length c (map (λ p. p.0) held) None))))
+    (read_expr-tokens c n (omega (arith, within)))
+    (block-reads held n k (omega (arith, within)) (omega (arith, if-length c (map (λ p. p.0) held) None))))
 layer (Open.If c held (Some other)) = subst IsRead (sym (rolls-If c (map (λ p. p.0) held) (Some (map (λ p. p.0) other)))) (λ n k levels fuel.
     let within = equations.expr_levels-if c (map (λ p. p.0) held) (Some (map (λ p. p.0) other)) in
     level-if_else (read_expr n) (read_block (read_expr n) k) c (map (λ p. p.0) held) (map (λ p. p.0) other)
-        (read_expr-tokens c n (omega (arith, within)))
-        (block-reads held n k (omega (arith, within)) (omega (arith, if-length c (map (λ p. p.0) held) (Some (map (λ p. p.0) other)))))
-        (block-reads other n k (omega (arith, within)) (omega (arith, else-length c (map (λ p. p.0) held) (map (λ p. p.0) other)))))
+    (read_expr-tokens c n (omega (arith, within)))
+    (block-reads held n k (omega (arith, within)) (omega (arith, if-length c (map (λ p. p.0) held) (Some (map (λ p. p.0) other)))))
+    (block-reads other n k (omega (arith, within)) (omega (arith, else-length c (map (λ p. p.0) held) (map (λ p. p.0) other)))))
 
 -- the tokens of a statement, read with fuel for its expressions and for its tokens, give it back and leave what follows, unless that is an else
 pub read_stmt-tokens : (s : Stmt) → IsRead s
@@ -154,6 +153,6 @@ read_block-tokens (s ∷ more) n (suc k) levels fuel rest =
     let total = length-append (stmt_tokens s) (flat (map stmt_tokens more)) in
     let some = stmt-some s in
     first-next (read_expr n) (read_block (read_expr n) k) s more
-        (read_stmt-tokens s n k (omega arith) (omega (arith, total)))
-        (read_block-tokens more n k (omega arith) (omega (arith, total, some)))
-        rest
+    (read_stmt-tokens s n k (omega arith) (omega (arith, total)))
+    (read_block-tokens more n k (omega arith) (omega (arith, total, some)))
+    rest

@@ -1,6 +1,6 @@
 -- Reading a tree back from its tokens. A reader takes the tree at the front of a list of tokens and leaves the tokens behind it.
 -- Each is given as much fuel as it may go down levels, and without fuel it reads nothing.
-use Rattle.std.specs.Prelude.{◌≡◌, ℕ, zero, suc, ◌+◌, Bool, true, false, cond, ◌==◌, nat_le, map, List, [], ◌∷◌, length, Option, None, Some, codes, bytes_eq, IsTrue}
+use Rattle.std.specs.Prelude.{◌≡◌, ℕ, zero, suc, ◌+◌, Bool, true, false, cond, ◌==◌, nat_le, map, List, [], ◌∷◌, length, Option, None, Some, codes, bytes_eq}
 use Rattle.std.specs.List.{list_all}
 use Rattle.std.proofs.Common.{refl}
 use Rattle.std.proofs.lemmas.Bool.{leb-true}
@@ -19,7 +19,7 @@ use Rattle.pg_ast.specs.declared.tree.Stmt.{Stmt}
 use Rattle.pg_ast.specs.declared.tree.Stmt.TheVariants.{Let, Store, Pc as ToPc, Mode as ToMode, Rel as ToRel, Bound as ToBound, Trap, If}
 use Rattle.pg_ast.specs.declared.tree.Instr.{Instr}
 use Rattle.pg_ast.specs.declared.tree.Desc.{Desc}
-use Rattle.pg_ast.specs.Levels.{IsShallow, greatest, block_levels, expr_levels}
+use Rattle.pg_ast.specs.Levels.{greatest, block_levels, expr_levels}
 
 -- what was read, and then the rest
 abbrev pub then_read : {A B : Type 0} → Option (A × List Tok) → (A → List Tok → Option B) → Option B
@@ -123,22 +123,22 @@ read_keyword read w ts =
     (cond (bytes_eq w (codes "rel")) (Some (Rel, ts))
     (cond (bytes_eq w (codes "bound")) (Some (Bound, ts))
     (cond (bytes_eq w (codes "mem"))
-        (past_sign OpenBracket ts (λ us. then_read (read us) (λ e vs. past_sign CloseBracket vs (λ rest. Some (Load e, rest)))))
+    (past_sign OpenBracket ts (λ us. then_read (read us) (λ e vs. past_sign CloseBracket vs (λ rest. Some (Load e, rest)))))
     (cond (bytes_eq w (codes "cat"))
-        (past_sign OpenParen ts (λ us. then_read (read us) (λ x vs. past_sign Comma vs (λ ws. then_read (read ws) (λ y xs.
-        past_sign CloseParen xs (λ rest. Some (Cat x y, rest)))))))
+    (past_sign OpenParen ts (λ us. then_read (read us) (λ x vs. past_sign Comma vs (λ ws. then_read (read ws) (λ y xs.
+    past_sign CloseParen xs (λ rest. Some (Cat x y, rest)))))))
     (cond (bytes_eq w (codes "cut"))
-        (past_sign OpenParen ts (λ us. then_read (read us) (λ e vs. past_sign Comma vs (λ ws. past_number ws (λ h xs.
-        past_sign Comma xs (λ ys. past_number ys (λ k zs. past_sign CloseParen zs (λ rest. Some (Cut e h k, rest)))))))))
+    (past_sign OpenParen ts (λ us. then_read (read us) (λ e vs. past_sign Comma vs (λ ws. past_number ws (λ h xs.
+    past_sign Comma xs (λ ys. past_number ys (λ k zs. past_sign CloseParen zs (λ rest. Some (Cut e h k, rest)))))))))
     (cond (bytes_eq w (codes "ext"))
-        (past_sign OpenParen ts (λ us. then_read (read us) (λ e vs. past_sign Comma vs (λ ws. past_number ws (λ n xs.
-        past_sign CloseParen xs (λ rest. Some (Ext e n, rest)))))))
+    (past_sign OpenParen ts (λ us. then_read (read us) (λ e vs. past_sign Comma vs (λ ws. past_number ws (λ n xs.
+    past_sign CloseParen xs (λ rest. Some (Ext e n, rest)))))))
     (cond (bytes_eq w (codes "sext"))
-        (past_sign OpenParen ts (λ us. then_read (read us) (λ e vs. past_sign Comma vs (λ ws. past_number ws (λ n xs.
-        past_sign CloseParen xs (λ rest. Some (Sext e n, rest)))))))
+    (past_sign OpenParen ts (λ us. then_read (read us) (λ e vs. past_sign Comma vs (λ ws. past_number ws (λ n xs.
+    past_sign CloseParen xs (λ rest. Some (Sext e n, rest)))))))
     (cond (bytes_eq w (codes "sel"))
-        (past_sign OpenParen ts (λ us. then_read (read us) (λ c vs. past_sign Comma vs (λ ws. then_read (read ws) (λ x xs.
-        past_sign Comma xs (λ ys. then_read (read ys) (λ y zs. past_sign CloseParen zs (λ rest. Some (Sel c x y, rest)))))))))
+    (past_sign OpenParen ts (λ us. then_read (read us) (λ c vs. past_sign Comma vs (λ ws. then_read (read ws) (λ x xs.
+    past_sign Comma xs (λ ys. then_read (read ys) (λ y zs. past_sign CloseParen zs (λ rest. Some (Sel c x y, rest)))))))))
     None)))))))))
 
 -- an expression that begins with this word: a name, or else a keyword
@@ -190,16 +190,16 @@ read_else block c held ts (Some us) = past_sign OpenBrace us (λ vs. then_read (
 unfoldable pub read_stmt_word : (List Tok → Option (Expr × List Tok)) → (List Tok → Option (List Stmt × List Tok)) → List ℕ → List Tok → Option (Stmt × List Tok)
 read_stmt_word expr block w ts =
     cond (bytes_eq w (codes "let"))
-        (past_name ts (λ n us. past_sign Equals us (λ vs. then_read (expr vs) (λ e ws. past_sign Semicolon ws (λ rest. Some (Let n e, rest))))))
+    (past_name ts (λ n us. past_sign Equals us (λ vs. then_read (expr vs) (λ e ws. past_sign Semicolon ws (λ rest. Some (Let n e, rest))))))
     (cond (bytes_eq w (codes "mem"))
-        (past_sign OpenBracket ts (λ us. then_read (expr us) (λ a vs. past_sign CloseBracket vs (λ ws. read_assign expr (Store a) ws))))
+    (past_sign OpenBracket ts (λ us. then_read (expr us) (λ a vs. past_sign CloseBracket vs (λ ws. read_assign expr (Store a) ws))))
     (cond (bytes_eq w (codes "pc")) (read_assign expr ToPc ts)
     (cond (bytes_eq w (codes "mode")) (read_assign expr ToMode ts)
     (cond (bytes_eq w (codes "rel")) (read_assign expr ToRel ts)
     (cond (bytes_eq w (codes "bound")) (read_assign expr ToBound ts)
     (cond (bytes_eq w (codes "trap")) (past_sign Semicolon ts (λ rest. Some (Trap, rest)))
     (cond (bytes_eq w (codes "if"))
-        (then_read (expr ts) (λ c us. past_sign OpenBrace us (λ vs. then_read (block vs) (λ held ws. read_else block c held ws (past_else ws)))))
+    (then_read (expr ts) (λ c us. past_sign OpenBrace us (λ vs. then_read (block vs) (λ held ws. read_else block c held ws (past_else ws)))))
     None)))))))
 
 -- a statement

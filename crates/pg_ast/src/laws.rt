@@ -9,12 +9,10 @@ ghost use Rattle.pg_ast.specs.Reading.{read_tokens};
 #[tactic(auto, using(crate::proofs::DescReads::tokens_determine))]
 pub fn tokens_determine_tree()
     ensures { (c d : Desc) → tokens_of c ≡ tokens_of d → c ≡ d }
-{
-}
+{}
 
 /// The tokens of a description, read back, give that description.
 #[tactic(auto, using(crate::proofs::DescReads::read_back))]
 pub fn tokens_are_read_back()
     ensures { (d : Desc) → read_tokens (tokens_of d) ≡ Some d }
-{
-}
+{}

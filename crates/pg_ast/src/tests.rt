@@ -1,8 +1,6 @@
 //! Trees at and past their limits.
 
-use crate::{
-    Expr, Instr, Name, PatternText, Stmt, StmtList, has_depth_within, is_shallow,
-};
+use crate::{Expr, Instr, Name, PatternText, Stmt, StmtList, has_depth_within, is_shallow};
 use sqlite_items::{Boxed, Items};
 use std::alloc::{AllocError, Global};
 use std::test::Fail;
