@@ -3,6 +3,7 @@ pub mod DescReads
 pub mod ExprEquations
 pub mod ExprFronts
 pub mod ExprReads
+pub mod Found
 pub mod StmtEquations
 pub mod StmtFronts
 pub mod StmtReads
