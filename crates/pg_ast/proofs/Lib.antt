@@ -1,5 +1,6 @@
 pub mod Depths
 pub mod DescReads
+pub mod Exact
 pub mod ExprEquations
 pub mod ExprFronts
 pub mod ExprReads
