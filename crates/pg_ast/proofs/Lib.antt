@@ -2,6 +2,7 @@ pub mod Depths
 pub mod DescReads
 pub mod Exact
 pub mod ExprEquations
+pub mod ExprExact
 pub mod ExprFronts
 pub mod ExprReads
 pub mod Found
