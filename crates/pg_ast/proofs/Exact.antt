@@ -43,6 +43,10 @@ sign-at DoubleGreater = refl
 pub sign_number-injective : (s t : Signs) → sign_number s ≡ sign_number t → s ≡ t
 sign_number-injective s t e = sym (sign-at s) ∙ ap (λ n. get_or signs n OpenBrace) e ∙ sign-at t
 
+-- signs that the test finds equal are equal
+pub same_sign : (s t : Signs) → sign_number s == sign_number t ≡ true → s ≡ t
+same_sign s t e = sign_number-injective s t (eqb-true _ _ e)
+
 -- words that the test finds equal are equal
 pub same_word : (v w : List ℕ) → bytes_eq v w ≡ true → v ≡ w
 same_word v w e = (bytes_eq-Decides v w).0 e
@@ -69,7 +73,7 @@ past_sign-holds P s (Word w ∷ ts) go h = tt
 past_sign-holds P s (Number n ∷ ts) go h = tt
 past_sign-holds P s (Pattern w ∷ ts) go h = tt
 past_sign-holds P s (Sign t ∷ ts) go h =
-    cond-holds P (sign_number t == sign_number s) (go ts) None (λ e. h ts (ap (λ u. Sign u ∷ ts) (sign_number-injective t s (eqb-true _ _ e)))) (λ e. tt)
+    cond-holds P (sign_number t == sign_number s) (go ts) None (λ e. h ts (ap (λ u. Sign u ∷ ts) (same_sign t s e))) (λ e. tt)
 
 pub past_word-holds : {B : Type 0} (P : B → Type 0) (w : List ℕ) (ts : List Tok) (go : List Tok → Option B) → ((us : List Tok) → ts ≡ Word w ∷ us → IfSome (go us) P) → IfSome (past_word w ts go) P
 past_word-holds P w [] go h = tt

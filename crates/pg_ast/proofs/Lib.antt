@@ -7,5 +7,6 @@ pub mod ExprFronts
 pub mod ExprReads
 pub mod Found
 pub mod StmtEquations
+pub mod StmtExact
 pub mod StmtFronts
 pub mod StmtReads
