@@ -1,5 +1,5 @@
 -- What a constructor's test finds at run time is what the definitions find.
-use Rattle.std.proofs.Common.{◌≡◌, ℕ, ◌+◌, ◌≤◌, Bool, true, false, nat_le, List, map, Option, None, Some, IsSome, IfSome, IsTrue, ◌↔◌, ap, sym, ◌∙◌, subst, refl}
+use Rattle.std.proofs.Common.{◌≡◌, ℕ, ◌+◌, Bool, true, false, nat_le, List, map, Option, None, Some, IsSome, IfSome, IsTrue, ◌↔◌, sym, refl}
 use Rattle.std.specs.List.{list_all}
 use Rattle.std.proofs.lemmas.Bool.{leb-true}
 use Rattle.pg_token.specs.Words.{is_name, is_pattern_byte}

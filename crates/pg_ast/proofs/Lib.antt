@@ -1,4 +1,5 @@
 pub mod Depths
+pub mod DescExact
 pub mod DescReads
 pub mod Exact
 pub mod ExprEquations

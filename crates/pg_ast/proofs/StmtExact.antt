@@ -65,47 +65,47 @@ module _ (x : List Tok → Option (Expr × List Tok)) (b : List Tok → Option (
   word-exact w ts =
       let all : Stmt × List Tok → Type 0 = IsFront (Word w ∷ ts) in
       cond-holds all (bytes_eq w (codes "let")) _ _ (λ same.
-        past_name-holds all ts _ (λ n t1 p1.
-        past_sign-holds all Equals t1 _ (λ t2 p2.
-        then_read-holds all (x t2) _ (λ e t3 p3.
-        past_sign-holds all Semicolon t3 _ (λ t4 p4.
-        cc (fronts.stmt_front-let n e t4, same_word w (codes "let") same, p1, p2, expr-part t2 e t3 p3, p4)))))) (λ other.
+      past_name-holds all ts _ (λ n t1 p1.
+      past_sign-holds all Equals t1 _ (λ t2 p2.
+      then_read-holds all (x t2) _ (λ e t3 p3.
+      past_sign-holds all Semicolon t3 _ (λ t4 p4.
+      cc (fronts.stmt_front-let n e t4, same_word w (codes "let") same, p1, p2, expr-part t2 e t3 p3, p4)))))) (λ other.
       cond-holds all (bytes_eq w (codes "mem")) _ _ (λ same.
-        past_sign-holds all OpenBracket ts _ (λ t1 p1.
-        then_read-holds all (x t1) _ (λ a t2 p2.
-        past_sign-holds all CloseBracket t2 _ (λ t3 p3.
-        past_sign-holds all Equals t3 _ (λ t4 p4.
-        then_read-holds all (x t4) _ (λ e t5 p5.
-        past_sign-holds all Semicolon t5 _ (λ t6 p6.
-        cc (fronts.stmt_front-store a e t6, same_word w (codes "mem") same, p1, expr-part t1 a t2 p2, p3, p4, expr-part t4 e t5 p5, p6)))))))) (λ other.
+      past_sign-holds all OpenBracket ts _ (λ t1 p1.
+      then_read-holds all (x t1) _ (λ a t2 p2.
+      past_sign-holds all CloseBracket t2 _ (λ t3 p3.
+      past_sign-holds all Equals t3 _ (λ t4 p4.
+      then_read-holds all (x t4) _ (λ e t5 p5.
+      past_sign-holds all Semicolon t5 _ (λ t6 p6.
+      cc (fronts.stmt_front-store a e t6, same_word w (codes "mem") same, p1, expr-part t1 a t2 p2, p3, p4, expr-part t4 e t5 p5, p6)))))))) (λ other.
       cond-holds all (bytes_eq w (codes "pc")) _ _ (λ same.
-        past_sign-holds all Equals ts _ (λ t1 p1.
-        then_read-holds all (x t1) _ (λ e t2 p2.
-        past_sign-holds all Semicolon t2 _ (λ t3 p3.
-        cc (fronts.stmt_front-pc e t3, same_word w (codes "pc") same, p1, expr-part t1 e t2 p2, p3))))) (λ other.
+      past_sign-holds all Equals ts _ (λ t1 p1.
+      then_read-holds all (x t1) _ (λ e t2 p2.
+      past_sign-holds all Semicolon t2 _ (λ t3 p3.
+      cc (fronts.stmt_front-pc e t3, same_word w (codes "pc") same, p1, expr-part t1 e t2 p2, p3))))) (λ other.
       cond-holds all (bytes_eq w (codes "mode")) _ _ (λ same.
-        past_sign-holds all Equals ts _ (λ t1 p1.
-        then_read-holds all (x t1) _ (λ e t2 p2.
-        past_sign-holds all Semicolon t2 _ (λ t3 p3.
-        cc (fronts.stmt_front-mode e t3, same_word w (codes "mode") same, p1, expr-part t1 e t2 p2, p3))))) (λ other.
+      past_sign-holds all Equals ts _ (λ t1 p1.
+      then_read-holds all (x t1) _ (λ e t2 p2.
+      past_sign-holds all Semicolon t2 _ (λ t3 p3.
+      cc (fronts.stmt_front-mode e t3, same_word w (codes "mode") same, p1, expr-part t1 e t2 p2, p3))))) (λ other.
       cond-holds all (bytes_eq w (codes "rel")) _ _ (λ same.
-        past_sign-holds all Equals ts _ (λ t1 p1.
-        then_read-holds all (x t1) _ (λ e t2 p2.
-        past_sign-holds all Semicolon t2 _ (λ t3 p3.
-        cc (fronts.stmt_front-rel e t3, same_word w (codes "rel") same, p1, expr-part t1 e t2 p2, p3))))) (λ other.
+      past_sign-holds all Equals ts _ (λ t1 p1.
+      then_read-holds all (x t1) _ (λ e t2 p2.
+      past_sign-holds all Semicolon t2 _ (λ t3 p3.
+      cc (fronts.stmt_front-rel e t3, same_word w (codes "rel") same, p1, expr-part t1 e t2 p2, p3))))) (λ other.
       cond-holds all (bytes_eq w (codes "bound")) _ _ (λ same.
-        past_sign-holds all Equals ts _ (λ t1 p1.
-        then_read-holds all (x t1) _ (λ e t2 p2.
-        past_sign-holds all Semicolon t2 _ (λ t3 p3.
-        cc (fronts.stmt_front-bound e t3, same_word w (codes "bound") same, p1, expr-part t1 e t2 p2, p3))))) (λ other.
+      past_sign-holds all Equals ts _ (λ t1 p1.
+      then_read-holds all (x t1) _ (λ e t2 p2.
+      past_sign-holds all Semicolon t2 _ (λ t3 p3.
+      cc (fronts.stmt_front-bound e t3, same_word w (codes "bound") same, p1, expr-part t1 e t2 p2, p3))))) (λ other.
       cond-holds all (bytes_eq w (codes "trap")) _ _ (λ same.
-        past_sign-holds all Semicolon ts _ (λ t1 p1.
-        cc (fronts.stmt_front-trap t1, same_word w (codes "trap") same, p1))) (λ other.
+      past_sign-holds all Semicolon ts _ (λ t1 p1.
+      cc (fronts.stmt_front-trap t1, same_word w (codes "trap") same, p1))) (λ other.
       cond-holds all (bytes_eq w (codes "if")) _ _ (λ same.
-        then_read-holds all (x ts) _ (λ c t1 p1.
-        past_sign-holds all OpenBrace t1 _ (λ t2 p2.
-        then_read-holds all (b t2) _ (λ held t3 p3.
-        else-exact (Word w ∷ ts) c held t3 (past_else t3) refl (cc (same_word w (codes "if") same, expr-part ts c t1 p1, p2, block-part t2 held t3 p3)))))) (λ other.
+      then_read-holds all (x ts) _ (λ c t1 p1.
+      past_sign-holds all OpenBrace t1 _ (λ t2 p2.
+      then_read-holds all (b t2) _ (λ held t3 p3.
+      else-exact (Word w ∷ ts) c held t3 (past_else t3) refl (cc (same_word w (codes "if") same, expr-part ts c t1 p1, p2, block-part t2 held t3 p3)))))) (λ other.
       tt))))))))
 
   stmt-exact : IsExact (read_stmt x b)

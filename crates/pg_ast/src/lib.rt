@@ -10,8 +10,8 @@
 //! - `tree`: expressions, statements, instructions, descriptions.
 //! - `limits`: whether a tree goes down too many levels, asked without measuring it.
 //! - `laws`: the law of tokens. Each description has one list of tokens (`specs/Tokens.antt`), and
-//!   no two have the same. It rests on a reader of that list (`specs/Reading.antt`), which is also
-//!   what a parser is to agree with.
+//!   no two have the same. It rests on a reader of such lists (`specs/Reading.antt`), which takes
+//!   just the lists that a description has, and is also what a parser is to agree with.
 #![tactic(auto)]
 
 mod laws;
@@ -21,7 +21,7 @@ mod name;
 mod tests;
 mod tree;
 
-pub use laws::{tokens_are_read_back, tokens_determine_tree};
+pub use laws::{reading_is_exact, tokens_determine_tree};
 pub use limits::{BLOCK_LEVELS, EXPR_LEVELS, has_depth_within, is_shallow};
 pub use name::{Name, PatternText};
 pub use tree::{Desc, Expr, Instr, InstrList, Op, Stmt, StmtList};

@@ -1,4 +1,9 @@
 //! The limits that a body keeps.
+//!
+//! Each test is given how many levels are left and stops as soon as there are too many, so it counts
+//! down and never up: no number can grow too large, however deep the tree is. Expressions and blocks
+//! have a limit each. A body is asked for its blocks first, so that the walk to its expressions goes
+//! no deeper than the limits either.
 
 ghost use Rattle.std.specs.Prelude.{◌≡◌, ◌≤◌, ◌↔◌, IsTrue, map};
 ghost use Rattle.pg_ast.specs.Levels.{depth_of, expr_levels, block_levels, greatest, IsShallow};
