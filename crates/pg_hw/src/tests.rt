@@ -1,5 +1,7 @@
 //! The smallest hardware, called once each way.
 
+ghost use Rattle.std.specs.Prelude.{◌≡◌};
+
 use super::*;
 use pg_ast::Desc;
 use pg_type::check;
@@ -55,7 +57,11 @@ fn pokes_and_loads_are_counted(rt: HostRuntime) -> Result<(), Fail> {
     Ok(())
 }
 
-fn psw(p: u32, l: u32, b: u32) -> Psw {
+fn psw(p: u32, l: u32, b: u32) -> Psw
+    ensures p { result.p ≡ p }
+    ensures l { result.l ≡ l }
+    ensures b { result.b ≡ b }
+{
     Psw {
         mode: Mode::S,
         p,

@@ -38,9 +38,9 @@ unfolding fare_of
 fare_of-trap at place lets = ap (λ f. f place lets) (ap (fare_of at) (sym rolls-Trap) ∙ fold-roll-Stmt Faring (fare_step at) Open.Trap)
 
 pub fare_of-if : (c : Expr) (held : List Stmt) (other : Option (List Stmt)) (at : Setting) (place : ℕ) (lets : LetWidths) → fare_of at (If c held other) place lets
-  ≡ then_fares (wants 1 (width_of at c lets) place lets) (λ next same.
-      then_fares (after_block lets (fares_in_order (map (fare_of at) held) next lets)) (λ later inner.
-        after_block lets (fares_if_any (option_map (map (fare_of at)) other) later lets)))
+    ≡ then_fares (wants 1 (width_of at c lets) place lets) (λ next same.
+    then_fares (after_block lets (fares_in_order (map (fare_of at) held) next lets)) (λ later inner.
+    after_block lets (fares_if_any (option_map (map (fare_of at)) other) later lets)))
 unfolding fare_of
 fare_of-if c held None at place lets = ap (λ f. f place lets) (ap (fare_of at) (sym (rolls-If c held None)) ∙ fold-roll-Stmt Faring (fare_step at) (Open.If c held None))
 fare_of-if c held (Some stmts) at place lets = ap (λ f. f place lets) (ap (fare_of at) (sym (rolls-If c held (Some stmts))) ∙ fold-roll-Stmt Faring (fare_step at) (Open.If c held (Some stmts)))

@@ -17,7 +17,7 @@ use Rattle.pg_type.proofs.DeedEquations.{deed_rules}
 
 -- a state of four cells below 2^32, whose fields are below 2^8
 four_cells : (i : Instr) (a b c e : ℕ) (mode : Mode) (p l bound : ℕ) → a < 2 ^ 32 → b < 2 ^ 32 → c < 2 ^ 32 → e < 2 ^ 32 →
-  p < 2 ^ 8 → l < 2 ^ 8 → bound < 2 ^ 8 → IsState (alone i) (state (a ∷ b ∷ c ∷ e ∷ []) mode p l bound)
+    p < 2 ^ 8 → l < 2 ^ 8 → bound < 2 ^ 8 → IsState (alone i) (state (a ∷ b ∷ c ∷ e ∷ []) mode p l bound)
 four_cells i a b c e mode p l bound ha hb hc he hp hl hbound = record {
   size_least = lit≤ tt;
   size_most = lit≤ tt;
@@ -37,7 +37,7 @@ rtu_in_u = simp (deed_rules, value_rules)
 pub rtu_shows_control : RtuShowsControl
 unfolding matches
 rtu_shows_control = record {
-  state = four_cells rtu 0 0 0x05000000 0 S 2 0 4 (lit< tt) (lit< tt) (lit< tt) (lit< tt) (lit< tt) (lit< tt) (lit< tt) ;
+  state = four_cells rtu 0 0 0x05000000 0 S 2 0 4 (lit< tt) (lit< tt) (lit< tt) (lit< tt) (lit< tt) (lit< tt) (lit< tt);
   same = refl;
   at = refl;
   changes = rw rtu_in_s (inl (λ e. cc));
@@ -56,7 +56,7 @@ pub rtu_breaks_privilege : RtuBreaksPrivilege
 unfolding matches
 rtu_breaks_privilege = record {
   pair = record {
-    state = four_cells rtu 0 0 0x05000000 0 S 2 0 4 (lit< tt) (lit< tt) (lit< tt) (lit< tt) (lit< tt) (lit< tt) (lit< tt) ;
+    state = four_cells rtu 0 0 0x05000000 0 S 2 0 4 (lit< tt) (lit< tt) (lit< tt) (lit< tt) (lit< tt) (lit< tt) (lit< tt);
     supervisor = refl;
     same_in_user = refl;
     at_first = refl;
@@ -94,7 +94,7 @@ pub store_mode_shows_mode : StoreModeShowsMode
 unfolding matches
 store_mode_shows_mode = record {
   pair = record {
-    state = four_cells store_mode 0 0 0x06000000 0 S 2 0 4 (lit< tt) (lit< tt) (lit< tt) (lit< tt) (lit< tt) (lit< tt) (lit< tt) ;
+    state = four_cells store_mode 0 0 0x06000000 0 S 2 0 4 (lit< tt) (lit< tt) (lit< tt) (lit< tt) (lit< tt) (lit< tt) (lit< tt);
     supervisor = refl;
     same_in_user = refl;
     at_first = refl;
@@ -125,7 +125,7 @@ pub supervisor_load_shows_mode : SupervisorLoadShowsMode
 unfolding matches
 supervisor_load_shows_mode = record {
   pair = record {
-    state = four_cells supervisor_load 0 0 0x060000ff 0 S 2 0 4 (lit< tt) (lit< tt) (lit< tt) (lit< tt) (lit< tt) (lit< tt) (lit< tt) ;
+    state = four_cells supervisor_load 0 0 0x060000ff 0 S 2 0 4 (lit< tt) (lit< tt) (lit< tt) (lit< tt) (lit< tt) (lit< tt) (lit< tt);
     supervisor = refl;
     same_in_user = refl;
     at_first = refl;
@@ -148,7 +148,7 @@ pub user_jump_shows_mode : UserJumpShowsMode
 unfolding matches
 user_jump_shows_mode = record {
   pair = record {
-    state = four_cells user_jump 0 0 0x06000000 0 S 2 0 4 (lit< tt) (lit< tt) (lit< tt) (lit< tt) (lit< tt) (lit< tt) (lit< tt) ;
+    state = four_cells user_jump 0 0 0x06000000 0 S 2 0 4 (lit< tt) (lit< tt) (lit< tt) (lit< tt) (lit< tt) (lit< tt) (lit< tt);
     supervisor = refl;
     same_in_user = refl;
     at_first = refl;
@@ -162,7 +162,7 @@ pub user_jump_breaks_privilege : UserJumpBreaksPrivilege
 unfolding matches
 user_jump_breaks_privilege = record {
   pair = record {
-    state = four_cells user_jump 0 0 0x06000000 0 S 2 0 4 (lit< tt) (lit< tt) (lit< tt) (lit< tt) (lit< tt) (lit< tt) (lit< tt) ;
+    state = four_cells user_jump 0 0 0x06000000 0 S 2 0 4 (lit< tt) (lit< tt) (lit< tt) (lit< tt) (lit< tt) (lit< tt) (lit< tt);
     supervisor = refl;
     same_in_user = refl;
     at_first = refl;
@@ -183,8 +183,8 @@ store_rel_at_1 = simp (deed_rules, value_rules)
 pub store_rel_shows_location : StoreRelShowsLocation
 unfolding matches
 store_rel_shows_location = record {
-  first = four_cells store_rel 0x06000000 0 0 0 S 0 0 3 (lit< tt) (lit< tt) (lit< tt) (lit< tt) (lit< tt) (lit< tt) (lit< tt) ;
-  second = four_cells store_rel 0 0x06000000 0 0 S 0 1 3 (lit< tt) (lit< tt) (lit< tt) (lit< tt) (lit< tt) (lit< tt) (lit< tt) ;
+  first = four_cells store_rel 0x06000000 0 0 0 S 0 0 3 (lit< tt) (lit< tt) (lit< tt) (lit< tt) (lit< tt) (lit< tt) (lit< tt);
+  second = four_cells store_rel 0 0x06000000 0 0 S 0 1 3 (lit< tt) (lit< tt) (lit< tt) (lit< tt) (lit< tt) (lit< tt) (lit< tt);
   at_first = refl;
   at_second = refl;
   same_size = refl;
@@ -209,8 +209,8 @@ store_rel_user_at_1 = simp (deed_rules, value_rules)
 pub store_rel_user_shows_location : StoreRelUserShowsLocation
 unfolding matches
 store_rel_user_shows_location = record {
-  first = four_cells store_rel 0x06000000 0 0 0 U 0 0 3 (lit< tt) (lit< tt) (lit< tt) (lit< tt) (lit< tt) (lit< tt) (lit< tt) ;
-  second = four_cells store_rel 0 0x06000000 0 0 U 0 1 3 (lit< tt) (lit< tt) (lit< tt) (lit< tt) (lit< tt) (lit< tt) (lit< tt) ;
+  first = four_cells store_rel 0x06000000 0 0 0 U 0 0 3 (lit< tt) (lit< tt) (lit< tt) (lit< tt) (lit< tt) (lit< tt) (lit< tt);
+  second = four_cells store_rel 0 0x06000000 0 0 U 0 1 3 (lit< tt) (lit< tt) (lit< tt) (lit< tt) (lit< tt) (lit< tt) (lit< tt);
   at_first = refl;
   at_second = refl;
   same_size = refl;
@@ -251,8 +251,8 @@ store_bound_5 = simp (deed_rules, value_rules)
 pub store_bound_shows_bound : StoreBoundShowsBound
 unfolding matches
 store_bound_shows_bound = record {
-  first = four_cells store_bound 0 0 0x06000000 0 S 2 0 4 (lit< tt) (lit< tt) (lit< tt) (lit< tt) (lit< tt) (lit< tt) (lit< tt) ;
-  second = four_cells store_bound 0 0 0x06000000 0 S 2 0 5 (lit< tt) (lit< tt) (lit< tt) (lit< tt) (lit< tt) (lit< tt) (lit< tt) ;
+  first = four_cells store_bound 0 0 0x06000000 0 S 2 0 4 (lit< tt) (lit< tt) (lit< tt) (lit< tt) (lit< tt) (lit< tt) (lit< tt);
+  second = four_cells store_bound 0 0 0x06000000 0 S 2 0 5 (lit< tt) (lit< tt) (lit< tt) (lit< tt) (lit< tt) (lit< tt) (lit< tt);
   at_first = refl;
   at_second = refl;
   same_l = refl;
@@ -276,8 +276,8 @@ store_bound_user_5 = simp (deed_rules, value_rules)
 pub store_bound_user_shows_bound : StoreBoundUserShowsBound
 unfolding matches
 store_bound_user_shows_bound = record {
-  first = four_cells store_bound 0 0 0x06000000 0 U 2 0 4 (lit< tt) (lit< tt) (lit< tt) (lit< tt) (lit< tt) (lit< tt) (lit< tt) ;
-  second = four_cells store_bound 0 0 0x06000000 0 U 2 0 5 (lit< tt) (lit< tt) (lit< tt) (lit< tt) (lit< tt) (lit< tt) (lit< tt) ;
+  first = four_cells store_bound 0 0 0x06000000 0 U 2 0 4 (lit< tt) (lit< tt) (lit< tt) (lit< tt) (lit< tt) (lit< tt) (lit< tt);
+  second = four_cells store_bound 0 0 0x06000000 0 U 2 0 5 (lit< tt) (lit< tt) (lit< tt) (lit< tt) (lit< tt) (lit< tt) (lit< tt);
   at_first = refl;
   at_second = refl;
   same_l = refl;
@@ -313,7 +313,7 @@ open_lr_keeps = simp (deed_rules, value_rules)
 pub open_lr_shows_control : OpenLrShowsControl
 unfolding matches
 open_lr_shows_control = record {
-  state = four_cells open_lr 0 0 0x04000002 0 U 2 0 4 (lit< tt) (lit< tt) (lit< tt) (lit< tt) (lit< tt) (lit< tt) (lit< tt) ;
+  state = four_cells open_lr 0 0 0x04000002 0 U 2 0 4 (lit< tt) (lit< tt) (lit< tt) (lit< tt) (lit< tt) (lit< tt) (lit< tt);
   same = refl;
   at = refl;
   changes = rw open_lr_changes (inr (inr (λ e. cc)));

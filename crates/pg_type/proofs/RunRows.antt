@@ -82,4 +82,3 @@ trap_cause = simp (deed_rules, value_rules)
 pub widens_and_shifts : WidensAndShifts
 unfolding bare power_on steps step ending matching matches body in_order run_length field_of_letter let_value
 widens_and_shifts = simp (deed_rules, value_rules)
-

@@ -57,7 +57,7 @@ placed_none k (Some x) later h = absurd (cc h)
 
 -- what holds of an instruction that some word matches
 well_formed_among : (w k : ℕ) (is : List Instr) (word : ℕ) (i : Instr) → pattern_broken w k is ≡ None → matching is word ≡ Some i →
-  is_well_formed w i.pattern.bytes ≡ true
+    is_well_formed w i.pattern.bytes ≡ true
 unfolding pattern_broken matching
 well_formed_among w k [] word i h m = absurd (cc m)
 well_formed_among w k (j ∷ js) word i h m = by_form (is_well_formed w j.pattern.bytes) refl h
@@ -65,10 +65,12 @@ well_formed_among w k (j ∷ js) word i h m = by_form (is_well_formed w j.patter
   where
     Rest : Type 0
     Rest = pattern_broken w (k + 1) js ≡ None → is_well_formed w j.pattern.bytes ≡ true → is_well_formed w i.pattern.bytes ≡ true
+
     by_match : (b : Bool) → (if b then Some j else matching js word) ≡ Some i →
-      (matching js word ≡ Some i → pattern_broken w (k + 1) js ≡ None → is_well_formed w i.pattern.bytes ≡ true) → Rest
+        (matching js word ≡ Some i → pattern_broken w (k + 1) js ≡ None → is_well_formed w i.pattern.bytes ≡ true) → Rest
     by_match true e later = λ none formed. let same : j ≡ i = cc e in subst (λ z. is_well_formed w z.pattern.bytes ≡ true) same formed
     by_match false e later = λ none formed. later e none
+
     by_form : (b : Bool) → is_well_formed w j.pattern.bytes ≡ b → (if b then pattern_broken w (k + 1) js else Some k) ≡ None → Rest → is_well_formed w i.pattern.bytes ≡ true
     by_form true e none rest = rest none e
     by_form false e none rest = absurd (cc none)
@@ -81,7 +83,7 @@ widths_among d k (j ∷ js) word i h m =
     by_match (matches j.pattern.bytes word) m none.0 (λ e. widths_among d (k + 1) js word i none.1 e)
   where
     by_match : (b : Bool) → (if b then Some j else matching js word) ≡ Some i → width_broken_in d j ≡ None →
-      (matching js word ≡ Some i → width_broken_in d i ≡ None) → width_broken_in d i ≡ None
+        (matching js word ≡ Some i → width_broken_in d i ≡ None) → width_broken_in d i ≡ None
     by_match true e here later = let same : j ≡ i = cc e in subst (λ z. width_broken_in d z ≡ None) same here
     by_match false e here later = later e
 

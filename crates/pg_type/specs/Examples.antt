@@ -193,11 +193,11 @@ let_v = named (codes "v") refl
 
 -- { let v = mem[a]; if (cut(v, 7, 0) < 16:8) { mem[a] = sext(cut(v, 3, 0), 32); } else { mem[a] = (v << 4:3); } }
 abbrev pub widen_body : List Stmt
-widen_body = 
+widen_body =
     Let (name_of (codes "v") refl) (Load field_a) ∷
     If (Bin Lt (Cut let_v 7 0) (Lit 16 8))
-      (Store field_a (Sext (Cut let_v 3 0) 32) ∷ [])
-      (Some (Store field_a (Bin Shl let_v (Lit 4 3)) ∷ [])) ∷ []
+    (Store field_a (Sext (Cut let_v 3 0) 32) ∷ [])
+    (Some (Store field_a (Bin Shl let_v (Lit 4 3)) ∷ [])) ∷ []
 
 pub widen_body-shallow : IsShallow widen_body
 widen_body-shallow = record { blocks = simp block_levels_rules (lit≤ tt); exprs = simp (expr_levels_rules, depth_of_rules) (lit≤ tt) }

@@ -18,8 +18,7 @@ pub fn worked_runs()
     ensures memory_trap_cause { MemoryTrapCause }
     ensures trap_cause { TrapCause }
     ensures widens_and_shifts { WidensAndShifts }
-{
-}
+{}
 
 /// For each kind a pair of states that shows it, and a near pair that does not.
 pub fn worked_kinds()
@@ -40,5 +39,4 @@ pub fn worked_kinds()
     ensures store_bound_outside_does_not { StoreBoundOutsideDoesNot }
     ensures open_lr_shows_control { OpenLrShowsControl }
     ensures open_lr_of_the_same_does_not { OpenLrOfTheSameDoesNot }
-{
-}
+{}
