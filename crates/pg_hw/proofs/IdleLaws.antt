@@ -1,5 +1,5 @@
 -- A machine without instructions traps at every step.
-use Rattle.std.proofs.Common.{◌≡◌, ℕ, zero, suc, ◌+◌, ◌<◌, Bool, true, false, ◌&&◌, nat_lt, if◌then◌else◌, List, [], length, slice_set, slice_get, slice_index, Option, None, Some, refl, sym, ◌∙◌, ap, subst, arith, inl, inr}
+use Rattle.std.proofs.Common.{◌≡◌, ℕ, zero, suc, ◌<◌, Bool, true, false, ◌&&◌, nat_lt, if◌then◌else◌, List, [], length, slice_set, slice_index, None, refl, sym, subst, arith, inl, inr}
 use Rattle.std.proofs.lemmas.Option.{slice_get_cases}
 use Rattle.std.proofs.lemmas.Bool.{lt-ltb, le-ltb}
 use Rattle.pg_word.specs.declared.shape.Shape.{Shape}
@@ -9,10 +9,10 @@ use Rattle.pg_ast.specs.declared.tree.Instr.{Instr}
 use Rattle.pg_ast.specs.declared.tree.Desc.{Desc}
 use Rattle.pg_type.specs.Patterns.{matching}
 use Rattle.pg_type.specs.States.{State, shape_of, window, window_length}
-use Rattle.pg_type.specs.Steps.{Ending, ByMemTrap, ByNoPattern, ending, executed, fetched, left_by, trapped, step, steps}
+use Rattle.pg_type.specs.Steps.{Ending, ByMemTrap, ByNoPattern, ending, left_by, trapped, step, steps}
 use Rattle.pg_type.proofs.StepSound.{window-length}
-use Rattle.pg_hw.specs.Tallies.{Bottom, RisesWithin, raised_by}
-use Rattle.pg_hw.specs.Bursts.{is_trap, is_user, one_if, traps, untrapped_at, untrapped_among, supervisor_among, burst_length, BottomRises}
+use Rattle.pg_hw.specs.Tallies.{raised_by}
+use Rattle.pg_hw.specs.Bursts.{is_trap, is_user, one_if, traps, untrapped_at, untrapped_among, burst_length, BottomRises}
 use Rattle.pg_hw.specs.Idling.{cause_where}
 
 -- no instruction matches

@@ -1,5 +1,5 @@
 -- Serving: words and status words of a machine that may be run.
-use Rattle.std.proofs.Common.{◌≡◌, ℕ, ◌-◌, ◌<◌, ◌≤◌, ◌^◌, List, [], replicate, ap, arith}
+use Rattle.std.proofs.Common.{◌≡◌, ℕ, ◌-◌, ◌<◌, ◌≤◌, ◌^◌, [], replicate, ap, arith}
 use Rattle.pg_word.specs.declared.psw.Psw.{Psw}
 use Rattle.pg_word.specs.Psw.{IsPsw}
 use Rattle.pg_ast.specs.declared.tree.Desc.{Desc}

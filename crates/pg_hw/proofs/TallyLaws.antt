@@ -1,7 +1,7 @@
 -- Counts: they never fall, and rises add up.
-use Rattle.std.proofs.Common.{◌≡◌, ℕ, ◌+◌, ◌-◌, ◌^◌, ◌≤◌, min, max, ap, arith}
+use Rattle.std.proofs.Common.{◌≡◌, ℕ, ◌+◌, ◌-◌, ◌^◌, ◌≤◌, arith}
 use Rattle.pg_hw.specs.declared.counts.Counts.{Counts}
-use Rattle.pg_hw.specs.Tallies.{raised_by, Bottom, RisesWithin, after_steps}
+use Rattle.pg_hw.specs.Tallies.{raised_by, RisesWithin, after_steps}
 
 pub raised_by-zero : (c : ℕ) → raised_by 0 c ≡ c
 raised_by-zero c = omega arith

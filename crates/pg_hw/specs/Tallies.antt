@@ -1,5 +1,5 @@
 -- Counts that never fall and stop at 2^64 - 1.
-use Rattle.std.specs.Prelude.{◌≡◌, ℕ, ◌+◌, ◌-◌, ◌^◌, ◌≤◌, min, max}
+use Rattle.std.specs.Prelude.{ℕ, ◌+◌, ◌-◌, ◌^◌, ◌≤◌, min, max}
 use Rattle.pg_hw.specs.declared.counts.Counts.{Counts}
 
 -- a count that rises by n; at 2^64 - 1 it stands still

@@ -7,7 +7,7 @@ use Rattle.pg_ast.specs.declared.tree.Stmt.{Stmt}
 use Rattle.pg_ast.specs.declared.tree.Stmt.TheVariants.{Let, Store, Pc, Mode, Rel, Bound, Trap, If, rolls-Let, rolls-Store, rolls-Pc, rolls-Mode, rolls-Rel, rolls-Bound, rolls-Trap, rolls-If}
 use Rattle.pg_ast.specs.declared.tree.Stmt.TheOpen as Open
 use Rattle.pg_ast.specs.declared.tree.Stmt.TheFolds.{fold-roll-Stmt}
-use Rattle.pg_type.specs.Widths.{Setting, LetWidths, width_of, Fare, Keeps, wants, binds, then_fares, Faring, fares_in_order, fares_if_any, after_block, fare_step, fare_of}
+use Rattle.pg_type.specs.Widths.{Setting, LetWidths, width_of, Keeps, wants, binds, then_fares, Faring, fares_in_order, fares_if_any, after_block, fare_step, fare_of}
 
 pub fare_of-let : (n : Names) (e : Expr) (at : Setting) (place : ℕ) (lets : LetWidths) → fare_of at (Let n e) place lets ≡ binds n.bytes (width_of at e lets) place lets
 unfolding fare_of

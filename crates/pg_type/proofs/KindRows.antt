@@ -1,15 +1,14 @@
 -- For each kind a pair of states that shows it, and a near pair that does not.
-use Rattle.std.proofs.Common.{◌≡◌, ◌≢◌, ◌⊎◌, ℕ, ◌<◌, ◌^◌, List, [], ◌∷◌, refl, lit<, lit≤, inl, inr}
+use Rattle.std.proofs.Common.{◌≡◌, ◌≢◌, ◌⊎◌, ℕ, ◌<◌, ◌^◌, [], ◌∷◌, refl, lit<, lit≤, inl, inr}
 use Rattle.std.proofs.lemmas.List.Elements.{All-from_recursion}
 use Rattle.pg_word.specs.declared.psw.Mode.{Mode}
 use Rattle.pg_word.specs.declared.psw.Mode.TheVariants.{S, U}
-use Rattle.pg_ast.specs.declared.tree.Desc.{Desc}
 use Rattle.pg_ast.specs.declared.tree.Instr.{Instr}
 use Rattle.pg_type.specs.Patterns.{matches, run_length, field_of_letter}
 use Rattle.pg_type.specs.Values.{let_value}
-use Rattle.pg_type.specs.Bodies.{Course, MemTrapped, Trapped, Going, After, body, in_order}
-use Rattle.pg_type.specs.States.{State, IsState, in_user}
-use Rattle.pg_type.specs.Kinds.{IsAt, course_at, BreaksPrivilege, ShowsControl, ShowsMode, ShowsLocation, ShowsBound, IsModePair}
+use Rattle.pg_type.specs.Bodies.{MemTrapped, Trapped, Going, body, in_order}
+use Rattle.pg_type.specs.States.{IsState}
+use Rattle.pg_type.specs.Kinds.{course_at}
 use Rattle.pg_type.specs.Examples.{alone, state, rtu, lr, store_mode, store_rel, store_bound, supervisor_load, user_jump, open_lr}
 use Rattle.pg_type.specs.WorkedKinds.{RtuShowsControl, RtuInUserModeDoesNot, RtuBreaksPrivilege, LrBreaksNoPrivilege, StoreModeShowsMode, StoreModeOutsideDoesNot, SupervisorLoadShowsMode, UserJumpShowsMode, UserJumpBreaksPrivilege, StoreRelShowsLocation, StoreRelUserShowsLocation, StoreRelOutsideDoesNot, StoreBoundShowsBound, StoreBoundUserShowsBound, StoreBoundOutsideDoesNot, OpenLrShowsControl, OpenLrOfTheSameDoesNot}
 use Rattle.pg_type.proofs.ValueEquations.{value_rules}

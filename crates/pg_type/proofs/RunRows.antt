@@ -1,15 +1,10 @@
 -- Runs of bare machines, worked out.
-use Rattle.std.proofs.Common.{◌≡◌, ℕ, List, [], ◌∷◌, ◌++◌, replicate, refl, ap, ◌∙◌, sym}
-use Rattle.pg_word.specs.declared.psw.Psw.{Psw}
-use Rattle.pg_word.specs.declared.psw.Mode.{Mode}
-use Rattle.pg_word.specs.declared.psw.Mode.TheVariants.{S, U}
-use Rattle.pg_ast.specs.declared.tree.Desc.{Desc}
+use Rattle.std.proofs.Common.{◌≡◌, refl, ap, ◌∙◌, sym}
 use Rattle.pg_type.specs.Patterns.{matches, matching, run_length, field_of_letter}
-use Rattle.pg_type.specs.Values.{value, let_value}
-use Rattle.pg_type.specs.Bodies.{body, in_order, deed_of}
-use Rattle.pg_type.specs.States.{State}
+use Rattle.pg_type.specs.Values.{let_value}
+use Rattle.pg_type.specs.Bodies.{body, in_order}
 use Rattle.pg_type.specs.Steps.{step, steps, ending, power_on, bare}
-use Rattle.pg_type.specs.Examples.{m0, m0_causes, widen, machine, state}
+use Rattle.pg_type.specs.Examples.{m0}
 use Rattle.pg_type.specs.WorkedRuns.{window_image, window_after, loop_image, loop_after, NoPattern, NoWindow, PastStorage, LastUsable, FirstPastBound, FirstPastSize, RunsPastWindow, DoublesInALoop, WindowOfOneCell, NoPatternCause, MemoryTrapCause, TrapCause, WidensAndShifts}
 use Rattle.pg_type.proofs.StepLaws.{steps-add, steps-around}
 use Rattle.pg_type.proofs.ValueEquations.{value_rules}

@@ -1,47 +1,21 @@
 -- What a valid description tells of its numbers and of each of its instructions.
-use Rattle.std.proofs.Common.{◌≡◌, ℕ, ◌+◌, ◌*◌, ◌%◌, ◌^◌, ◌<◌, ◌≤◌, Bool, true, false, ◌&&◌, not, ◌==◌, nat_le, nat_lt, if◌then◌else◌, List, [], ◌∷◌, length, Option, None, Some, refl, sym, ◌∙◌, ap, subst, arith}
-use Rattle.std.proofs.lemmas.Bool.{eqb-true, leb-true, ltb-true}
-use Rattle.pg_word.specs.Shape.{AreShapeNumbers, IsShape, bits_above}
+use Rattle.std.proofs.Common.{◌≡◌, ℕ, ◌+◌, Bool, true, false, not, ◌==◌, if◌then◌else◌, List, [], ◌∷◌, length, Option, None, Some, refl, subst, arith}
+use Rattle.std.proofs.lemmas.Bool.{eqb-true}
+use Rattle.pg_word.specs.Shape.{IsShape}
 use Rattle.pg_word.specs.Bits.{IsWidth}
 use Rattle.pg_ast.specs.declared.tree.Instr.{Instr}
 use Rattle.pg_ast.specs.declared.tree.Desc.{Desc}
-use Rattle.pg_type.specs.declared.fault.TypeFault.{TypeFault}
-use Rattle.pg_type.specs.declared.fault.TypeFault.TheVariants.{Shape}
 use Rattle.pg_type.specs.Patterns.{matches, matching}
 use Rattle.pg_type.specs.States.{shape_of}
 use Rattle.pg_type.specs.Overlaps.{has_split_letter, is_well_formed, pattern_broken}
 use Rattle.pg_type.specs.Widths.{width_broken, width_broken_in, placed_at}
-use Rattle.pg_type.specs.Valid.{IsValid, has_shape, shape_fault, as_pattern, pattern_fault, as_width, width_fault}
+use Rattle.pg_type.specs.Valid.{IsValid, as_pattern, as_width}
+use Rattle.pg_type.proofs.ShapeLemmas.{shape_valid}
 use Rattle.pg_type.proofs.ValueSound.{and_both}
-
--- a test of the head that holds
-has_shape_holds : (b : Bool) → (if b then None else Some Shape) ≡ None → b ≡ true
-has_shape_holds true h = refl
-has_shape_holds false h = absurd (cc h)
-
-pub AreShapeNumbers-from_test : (w a q : ℕ) (causes : Bool) → has_shape w a q causes ≡ true → AreShapeNumbers w a q causes
-AreShapeNumbers-from_test w a q causes h =
-    let h7 = and_both (w % 8 == 0 && nat_le 16 w && nat_le w 64 && nat_le 4 a && nat_le a 20 && nat_le (3 * a + bits_above causes) w && nat_le 4 q) (nat_lt q (2 ^ a)) h in
-    let h6 = and_both (w % 8 == 0 && nat_le 16 w && nat_le w 64 && nat_le 4 a && nat_le a 20 && nat_le (3 * a + bits_above causes) w) (nat_le 4 q) h7.0 in
-    let h5 = and_both (w % 8 == 0 && nat_le 16 w && nat_le w 64 && nat_le 4 a && nat_le a 20) (nat_le (3 * a + bits_above causes) w) h6.0 in
-    let h4 = and_both (w % 8 == 0 && nat_le 16 w && nat_le w 64 && nat_le 4 a) (nat_le a 20) h5.0 in
-    let h3 = and_both (w % 8 == 0 && nat_le 16 w && nat_le w 64) (nat_le 4 a) h4.0 in
-    let h2 = and_both (w % 8 == 0 && nat_le 16 w) (nat_le w 64) h3.0 in
-    let h1 = and_both (w % 8 == 0) (nat_le 16 w) h2.0 in
-    record {
-      whole_bytes = eqb-true (w % 8) 0 h1.0;
-      word_least = leb-true 16 w h1.1;
-      word_most = leb-true w 64 h2.1;
-      address_least = leb-true 4 a h3.1;
-      address_most = leb-true a 20 h4.1;
-      psw_fits = leb-true (3 * a + bits_above causes) w h5.1;
-      size_least = leb-true 4 q h6.1;
-      size_most = ltb-true q (2 ^ a) h7.1;
-    }
 
 -- the numbers of a valid description
 pub IsShape-of_valid : (d : Desc) → IsValid d → IsShape (shape_of d)
-IsShape-of_valid d v = AreShapeNumbers-from_test d.word d.address d.size d.causes (has_shape_holds (has_shape d.word d.address d.size d.causes) v.shape)
+IsShape-of_valid d v = shape_valid d v.shape
 
 as_pattern_none : (o : Option ℕ) → as_pattern o ≡ None → o ≡ None
 as_pattern_none None h = refl

@@ -1,5 +1,5 @@
 -- Descriptions that the laws of this crate and of those above compute on.
-use Rattle.std.specs.Prelude.{ℕ, ◌+◌, ◌≤◌, Bool, true, false, List, [], ◌∷◌, codes, IsTrue, None, Some, refl}
+use Rattle.std.specs.Prelude.{ℕ, true, false, List, [], ◌∷◌, codes, IsTrue, None, Some, refl}
 use Rattle.std.specs.List.{list_all}
 use Rattle.std.proofs.Common.{lit≤}
 use Rattle.pg_token.specs.Words.{is_name, is_pattern_byte}

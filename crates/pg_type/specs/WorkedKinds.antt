@@ -1,5 +1,5 @@
 -- For each kind a pair of states that shows it, and a near pair that does not: each is a law of the crate.
-use Rattle.std.specs.Prelude.{◌≡◌, ℕ, List, [], ◌∷◌}
+use Rattle.std.specs.Prelude.{[], ◌∷◌}
 use Rattle.pg_word.specs.declared.psw.Mode.TheVariants.{S, U}
 use Rattle.pg_type.specs.Kinds.{BreaksPrivilege, ShowsControl, ShowsMode, ShowsLocation, ShowsBound}
 use Rattle.pg_type.specs.Examples.{alone, state, rtu, lr, store_mode, store_rel, store_bound, supervisor_load, user_jump, open_lr}

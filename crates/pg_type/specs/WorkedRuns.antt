@@ -1,6 +1,6 @@
 -- Runs of bare machines, worked out by hand: each is a law of the crate.
 use Rattle.std.specs.Prelude.{◌≡◌, ℕ, List, [], ◌∷◌, replicate}
-use Rattle.pg_word.specs.declared.psw.Mode.TheVariants.{S, U}
+use Rattle.pg_word.specs.declared.psw.Mode.TheVariants.{S}
 use Rattle.pg_type.specs.States.{State}
 use Rattle.pg_type.specs.Steps.{bare}
 use Rattle.pg_type.specs.Examples.{m0, m0_causes, widen, machine, state}

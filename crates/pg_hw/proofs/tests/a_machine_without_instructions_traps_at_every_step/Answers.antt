@@ -1,4 +1,4 @@
-use Rattle.std.proofs.Common.{◌≡◌, sym, ap, subst, arith, lit≤}
+use Rattle.std.proofs.Common.{sym, ap, subst, arith, lit≤}
 use Rattle.pg_ast.specs.declared.tree.Desc.{Desc}
 use Rattle.pg_type.specs.States.{IsState}
 use Rattle.pg_type.proofs.StepSound.{step-state}

@@ -1,6 +1,5 @@
-use Rattle.std.proofs.Common.{◌≡◌, refl, arith, lit<, [], false}
+use Rattle.std.proofs.Common.{refl, arith, lit<, [], false}
 use Rattle.pg_ast.specs.declared.tree.Desc.{Desc}
-use Rattle.pg_hw.specs.Serving.{IsServedWord, IsServedPsw}
 use Rattle.pg_hw.proofs.tests.pokes_and_loads_are_counted.Goals as goal
 
 none : Desc

@@ -1,4 +1,4 @@
-use Rattle.std.proofs.Common.{◌≡◌, ℕ, zero, suc, ◌<◌, refl, sym, ◌∙◌, ap, subst, arith}
+use Rattle.std.proofs.Common.{◌≡◌, ℕ, refl, sym, ◌∙◌, ap, subst, arith}
 use Rattle.pg_type.specs.States.{State}
 use Rattle.pg_type.specs.Steps.{steps}
 use Rattle.pg_ast.specs.declared.tree.Desc.{Desc}
@@ -6,7 +6,7 @@ use Rattle.pg_hw.specs.Bursts.{burst_length, untrapped_among}
 use Rattle.pg_hw.specs.Tallies.{after_steps}
 use Rattle.pg_hw.proofs.TallyLaws.{after_steps-none}
 use Rattle.pg_hw.proofs.BurstLaws.{BottomRises-none, untrapped_among-one}
-use Rattle.pg_hw.proofs.IdleLaws.{burst_length-idle, untrapped_at-idle, untrapped_among-idle}
+use Rattle.pg_hw.proofs.IdleLaws.{burst_length-idle}
 use Rattle.pg_hw.proofs.idle.IdleHardware.burst.Goals as goal
 
 no_steps : (d : Desc) (k : ℕ) (s : State) → k ≡ 0 → 0 ≡ burst_length d k s

@@ -1,5 +1,3 @@
-use Rattle.std.proofs.Common.{◌≡◌, sym, ◌∙◌, ap, ℕ, ◌+◌}
-use Rattle.pg_hw.specs.Tallies.{raised_by}
 use Rattle.pg_hw.proofs.TallyLaws.{raised_by-zero}
 use Rattle.pg_hw.proofs.IdleLaws.{step-idle_by, untrapped_at-idle, BottomRises-idle}
 use Rattle.pg_hw.proofs.idle.IdleHardware.step.Goals as goal
