@@ -40,3 +40,6 @@ pub use overlaps::{clash, overlap};
 pub use patterns::{Field, field_of, matches, pattern_broken, run_length};
 pub use scopes::name_unknown;
 pub use twice::let_twice_among;
+
+#[cfg(test)]
+mod tests;
