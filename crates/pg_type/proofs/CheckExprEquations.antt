@@ -1,10 +1,8 @@
 -- The equations of what is tested of expressions, one for each form.
-use Rattle.std.proofs.Common.{◌≡◌, ℕ, ◌+◌, ◌++◌, ◌==◌, ◌||◌, nat_le, if◌then◌else◌, List, [], ◌∷◌, map, Option, None, Some, ap, sym, ◌∙◌}
-use Rattle.std.specs.Option.{option_map}
+use Rattle.std.proofs.Common.{◌≡◌, ℕ, ◌+◌, ◌==◌, ◌||◌, nat_le, if◌then◌else◌, List, Option, None, Some, ap, sym, ◌∙◌}
 use Rattle.pg_ast.specs.declared.name.Name.{Name as Names}
 use Rattle.pg_ast.specs.declared.tree.Op.{Op}
 use Rattle.pg_ast.specs.declared.tree.Expr.{Expr}
-use Rattle.pg_ast.specs.declared.tree.Stmt.{Stmt}
 use Rattle.pg_ast.specs.declared.tree.Expr.TheVariants.{Lit, Name, Pc, Mode, Rel, Bound, Load, Not, Bin, Cat, Cut, Ext, Sext, Sel, rolls-Lit, rolls-Name, rolls-Pc, rolls-Mode, rolls-Rel, rolls-Bound, rolls-Load, rolls-Not, rolls-Bin, rolls-Cat, rolls-Cut, rolls-Ext, rolls-Sext, rolls-Sel}
 use Rattle.pg_ast.specs.declared.tree.Expr.TheOpen as Open
 use Rattle.pg_ast.specs.declared.tree.Expr.TheFolds.{fold-roll-Expr}

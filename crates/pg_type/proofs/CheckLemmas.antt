@@ -1,5 +1,5 @@
 -- Lemmas of the checks.
-use Rattle.std.proofs.Common.{◌≡◌, ℕ, ◌+◌, ◌<◌, ◌≤◌, ◌⊎◌, inl, inr, ◌^◌, ◌/◌, ◌%◌, min, length, drop, Bool, true, false, List, [], ◌∷◌, refl, arith, ap, ◌∙◌}
+use Rattle.std.proofs.Common.{◌≡◌, ℕ, ◌<◌, ◌≤◌, inl, inr, ◌^◌, ◌/◌, ◌%◌, min, length, drop, false, List, [], ◌∷◌, refl, arith, ap, ◌∙◌}
 use Rattle.std.proofs.Math.Pow.{pow_mono}
 use Rattle.std.proofs.lemmas.Nat.{div_below, pow_pos}
 use Rattle.std.proofs.lemmas.List.{drop_all}

@@ -1,8 +1,7 @@
 -- The equations of what is tested of statements, one for each form.
-use Rattle.std.proofs.Common.{◌≡◌, ℕ, ◌+◌, ◌++◌, ◌==◌, ◌||◌, nat_le, if◌then◌else◌, List, [], ◌∷◌, map, Option, None, Some, ap, sym, ◌∙◌}
+use Rattle.std.proofs.Common.{◌≡◌, ℕ, ◌+◌, ◌++◌, List, [], ◌∷◌, map, Option, None, Some, ap, sym, ◌∙◌}
 use Rattle.std.specs.Option.{option_map}
 use Rattle.pg_ast.specs.declared.name.Name.{Name as Names}
-use Rattle.pg_ast.specs.declared.tree.Op.{Op}
 use Rattle.pg_ast.specs.declared.tree.Expr.{Expr}
 use Rattle.pg_ast.specs.declared.tree.Stmt.{Stmt}
 use Rattle.pg_ast.specs.declared.tree.Stmt.TheVariants.{Let, Store, Pc, Mode, Rel, Bound, Trap, If, rolls-Let, rolls-Store, rolls-Pc, rolls-Mode, rolls-Rel, rolls-Bound, rolls-Trap, rolls-If}
@@ -11,7 +10,7 @@ use Rattle.pg_ast.specs.declared.tree.Stmt.TheFolds.{fold-roll-Stmt}
 use Rattle.pg_type.specs.Limits.{Tally, both, all_of, if_any, one_access, one_statement, one_let, expr_tally, stmt_tally_step, stmt_tally}
 use Rattle.pg_type.specs.Twice.{all_names, names_if_any, let_names_step, let_names, first_of_two}
 use Rattle.pg_type.specs.Scopes.{Scope, Sight, sight, seen_in_order, seen_if_any, sight_step, sight_of, unknown_name}
-use Rattle.pg_type.specs.Widths.{Setting, LetWidths, Fare, Keeps, Faring, binds, wants, then_fares, after_block, fares_in_order, fares_if_any, fare_step, fare_of, width_of}
+use Rattle.pg_type.specs.Widths.{Setting, LetWidths, Keeps, Faring, binds, wants, then_fares, after_block, fares_in_order, fares_if_any, fare_step, fare_of, width_of}
 
 pub stmt_tally-let : (n : Names) (e : Expr) → stmt_tally (Let n e) ≡ both one_statement (both one_let (expr_tally e))
 unfolding stmt_tally

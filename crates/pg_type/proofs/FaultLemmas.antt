@@ -1,10 +1,9 @@
 -- The first fault of several classes.
-use Rattle.std.proofs.Common.{◌≡◌, ◌⊎◌, inl, inr, ℕ, List, [], Option, None, Some, Bool, refl, ap, sym, ◌∙◌}
+use Rattle.std.proofs.Common.{◌≡◌, inl, inr, ℕ, List, [], Option, None, Some, refl, ap, ◌∙◌}
 use Rattle.pg_ast.specs.declared.tree.Desc.{Desc}
-use Rattle.pg_ast.specs.declared.tree.Instr.{Instr}
 use Rattle.pg_type.specs.declared.fault.TypeFault.{TypeFault}
 use Rattle.pg_type.specs.declared.fault.TypeFault.TheVariants.{Memory}
-use Rattle.pg_type.specs.Twice.{first_of_two, first_twice, instr_names, let_twice_among, name_twice}
+use Rattle.pg_type.specs.Twice.{first_of_two, first_twice, instr_names, let_twice_among}
 use Rattle.pg_type.specs.Valid.{shape_fault, limit_fault, as_twice, twice_fault, pattern_fault, overlap_fault, name_fault, width_fault, IsValid, fault_of}
 use Rattle.pg_type.specs.Verdicts.{IsFaultOf, IsFault}
 

@@ -1,6 +1,6 @@
 -- Lets that stay visible.
-use Rattle.std.proofs.Common.{◌≡◌, ℕ, ◌+◌, ◌-◌, ◌≤◌, List, [], ◌∷◌, ◌++◌, length, take, drop, reverse, refl, ap, sym, ◌∙◌, arith, map}
-use Rattle.std.proofs.lemmas.List.{length-take, length-drop, take-append-drop, reverse-append, length-reverse, drop-drop, drop_at, take-map}
+use Rattle.std.proofs.Common.{◌≡◌, ℕ, ◌+◌, ◌-◌, ◌≤◌, List, ◌∷◌, ◌++◌, length, take, drop, reverse, ap, sym, ◌∙◌, arith, map}
+use Rattle.std.proofs.lemmas.List.{length-drop, take-append-drop, reverse-append, length-reverse, drop-drop, drop_at, take-map}
 use Rattle.pg_type.specs.Widths.{LetWidths}
 use Rattle.pg_type.specs.Fares.{Grows}
 

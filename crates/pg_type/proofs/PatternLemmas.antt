@@ -1,11 +1,11 @@
 -- Patterns and words.
-use Rattle.std.proofs.Common.{◌≡◌, ℕ, ◌+◌, ◌-◌, ◌*◌, ◌<◌, ◌≤◌, ◌⊎◌, inl, inr, Bool, true, false, not, ◌&&◌, ◌||◌, ◌==◌, if◌then◌else◌, List, [], ◌∷◌, length, zero, suc, Option, None, Some, slice_get, refl, ap, sym, subst, ◌∙◌, arith}
+use Rattle.std.proofs.Common.{◌≡◌, ℕ, ◌+◌, ◌-◌, ◌<◌, ◌≤◌, ◌⊎◌, inl, inr, Bool, true, false, not, ◌&&◌, ◌||◌, ◌==◌, if◌then◌else◌, List, [], ◌∷◌, length, zero, suc, Option, None, Some, slice_get, refl, ap, sym, ◌∙◌, arith}
 use Rattle.std.proofs.lemmas.Bool.{eqb-true}
 use Rattle.pg_ast.specs.declared.tree.Instr.{Instr}
 use Rattle.pg_ast.specs.declared.tree.Desc.{Desc}
 use Rattle.pg_type.specs.Patterns.{byte_0, byte_1, bit_of_word, takes_bit, matches, run_length, Field, field_of_letter, field_of}
 use Rattle.pg_type.specs.Overlaps.{has_split_letter, is_well_formed, pattern_broken, bytes_clash, clash, overlap_with, paired, overlap}
-use Rattle.pg_type.specs.Valid.{as_pattern, as_overlap, pattern_fault, overlap_fault, IsValid}
+use Rattle.pg_type.specs.Valid.{as_pattern, as_overlap, IsValid}
 
 both_true : (x y : Bool) → (x && y) ≡ true → (x ≡ true) × (y ≡ true)
 both_true true y e = (refl, e)

@@ -1,7 +1,7 @@
 -- The test of a shape, and its numbers.
-use Rattle.std.proofs.Common.{◌≡◌, ℕ, ◌+◌, ◌*◌, ◌%◌, ◌^◌, ◌<◌, ◌≤◌, Bool, true, false, ◌&&◌, ◌==◌, nat_le, nat_lt, if◌then◌else◌, None, Some, refl, ap, sym, ◌∙◌}
+use Rattle.std.proofs.Common.{◌≡◌, ℕ, Bool, true, false, ◌&&◌, if◌then◌else◌, None, Some, refl, ap, sym, ◌∙◌}
 use Rattle.std.proofs.lemmas.Bool.{leb-true, ltb-true, eqb-true, le-leb, lt-ltb, eq-eqb}
-use Rattle.pg_word.specs.Shape.{bits_above, AreShapeNumbers}
+use Rattle.pg_word.specs.Shape.{AreShapeNumbers}
 use Rattle.pg_ast.specs.declared.tree.Desc.{Desc}
 use Rattle.pg_type.specs.declared.fault.TypeFault.TheVariants.{Shape}
 use Rattle.pg_type.specs.Valid.{has_shape, shape_fault}

@@ -1,5 +1,5 @@
 -- The sixth class of validity: names that mean nothing where they stand.
-use Rattle.std.specs.Prelude.{ℕ, ◌+◌, Bool, ◌||◌, if◌then◌else◌, List, [], ◌∷◌, ◌++◌, map, Option, None, Some}
+use Rattle.std.specs.Prelude.{ℕ, ◌+◌, ◌||◌, if◌then◌else◌, List, [], ◌∷◌, ◌++◌, map, Option, None, Some}
 use Rattle.pg_ast.specs.declared.tree.Expr.{Expr}
 use Rattle.pg_ast.specs.declared.tree.Expr.TheOpen.{Expr-F, Lit, Name, Pc, Mode, Rel, Bound, Load, Not, Bin, Cat, Cut, Ext, Sext, Sel}
 use Rattle.pg_ast.specs.declared.tree.Expr.TheFolds.{fold-Expr}

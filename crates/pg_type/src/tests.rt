@@ -28,7 +28,8 @@ fn add(alloc: Global, desc: &mut Desc, name: &[u8], pattern: &[u8]) -> Result<()
 {
     let name = Name::new(Items::from_slice(alloc, name)?);
     let bytes = Items::from_slice(alloc, pattern)?;
-    desc.instrs.push(Instr::new(name, PatternText { bytes }, Items::new(alloc)))
+    desc.instrs
+        .push(Instr::new(name, PatternText { bytes }, Items::new(alloc)))
 }
 
 /// The name that is given twice.
@@ -43,11 +44,31 @@ fn twice(fault: TypeFault) -> Option<Items<u8>> {
 fn tests_shapes(rt: HostRuntime) -> Result<(), Fail> {
     let alloc = rt.alloc();
     assert!(rt; check(alloc, head(alloc, 16, 5, 8, false)).is_ok());
-    assert!(rt; matches!(check(alloc, head(alloc, 16, 5, 8, true)), Err((_, TypeFault::Shape))));
+    assert!(rt;
+        matches!(
+            check(alloc, head(alloc, 16, 5, 8, true)),
+            Err((_, TypeFault::Shape))
+        )
+    );
     assert!(rt; check(alloc, head(alloc, 64, 20, 1_048_575, false)).is_ok());
-    assert!(rt; matches!(check(alloc, head(alloc, 64, 21, 1_048_575, false)), Err((_, TypeFault::Shape))));
-    assert!(rt; matches!(check(alloc, head(alloc, 16, 6, 8, false)), Err((_, TypeFault::Shape))));
-    assert!(rt; matches!(check(alloc, head(alloc, 64, u64::MAX, 8, false)), Err((_, TypeFault::Shape))));
+    assert!(rt;
+        matches!(
+            check(alloc, head(alloc, 64, 21, 1_048_575, false)),
+            Err((_, TypeFault::Shape))
+        )
+    );
+    assert!(rt;
+        matches!(
+            check(alloc, head(alloc, 16, 6, 8, false)),
+            Err((_, TypeFault::Shape))
+        )
+    );
+    assert!(rt;
+        matches!(
+            check(alloc, head(alloc, 64, u64::MAX, 8, false)),
+            Err((_, TypeFault::Shape))
+        )
+    );
     Ok(())
 }
 
@@ -82,7 +103,12 @@ fn tests_patterns(rt: HostRuntime) -> Result<(), Fail> {
     add(alloc, &mut overlapping, b"A", b"00aaaaaaaaaaaaaa")?;
     add(alloc, &mut overlapping, b"B", b"01aaaaaaaaaaaaaa")?;
     add(alloc, &mut overlapping, b"C", b".011111111111111")?;
-    assert!(rt; matches!(check(alloc, overlapping), Err((_, TypeFault::Overlap(0, 2)))));
+    assert!(rt;
+        matches!(
+            check(alloc, overlapping),
+            Err((_, TypeFault::Overlap(0, 2)))
+        )
+    );
     Ok(())
 }
 
@@ -114,6 +140,11 @@ fn holds_256_instructions(rt: HostRuntime) -> Result<(), Fail> {
         _ => return Err("twice".into()),
     };
     add(alloc, &mut desc, b"A", b"0")?;
-    assert!(rt; matches!(check(alloc, desc), Err((_, TypeFault::Limit(Limit::Instructions, 256)))));
+    assert!(rt;
+        matches!(
+            check(alloc, desc),
+            Err((_, TypeFault::Limit(Limit::Instructions, 256)))
+        )
+    );
     Ok(())
 }

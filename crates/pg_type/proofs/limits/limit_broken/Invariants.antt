@@ -1,4 +1,4 @@
-use Rattle.std.proofs.Common.{◌≡◌, ℕ, ◌+◌, length, drop}
+use Rattle.std.proofs.Common.{◌≡◌, drop}
 use Rattle.pg_type.specs.Limits.{limit_broken}
 use Rattle.pg_type.proofs.limits.limit_broken.Given as goal
 

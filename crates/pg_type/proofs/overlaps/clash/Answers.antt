@@ -1,4 +1,4 @@
-use Rattle.std.proofs.Common.{◌≡◌, sym, ◌∙◌, arith}
+use Rattle.std.proofs.Common.{sym, ◌∙◌, arith}
 use Rattle.pg_type.proofs.CheckLemmas.{clash-end}
 use Rattle.pg_type.proofs.overlaps.clash.Goals as goal
 

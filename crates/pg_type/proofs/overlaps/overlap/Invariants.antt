@@ -1,4 +1,4 @@
-use Rattle.std.proofs.Common.{◌≡◌, ℕ, ◌+◌, length, drop}
+use Rattle.std.proofs.Common.{◌≡◌, drop}
 use Rattle.pg_type.specs.Overlaps.{overlap}
 use Rattle.pg_type.proofs.overlaps.overlap.Given as goal
 

@@ -1,5 +1,4 @@
-use Rattle.std.proofs.Common.{◌≡◌, ◌<◌, ◌^◌, ◌/◌, ◌%◌, ◌≤◌, sym, arith}
-use Rattle.pg_type.specs.Patterns.{bit_of_word}
+use Rattle.std.proofs.Common.{sym}
 use Rattle.pg_type.proofs.CheckLemmas.{bit_above}
 use Rattle.pg_type.proofs.patterns.bit_of_word.Goals as goal
 

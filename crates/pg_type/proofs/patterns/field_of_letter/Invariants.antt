@@ -1,4 +1,4 @@
-use Rattle.std.proofs.Common.{◌≡◌, ℕ, ◌+◌, length, drop}
+use Rattle.std.proofs.Common.{◌≡◌, length}
 use Rattle.pg_type.specs.Patterns.{field_of_letter}
 use Rattle.pg_type.proofs.patterns.field_of_letter.Given as goal
 

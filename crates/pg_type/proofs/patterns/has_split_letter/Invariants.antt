@@ -1,4 +1,4 @@
-use Rattle.std.proofs.Common.{◌≡◌, ℕ, ◌+◌, length, drop}
+use Rattle.std.proofs.Common.{◌≡◌, length}
 use Rattle.pg_type.specs.Overlaps.{has_split_letter}
 use Rattle.pg_type.proofs.patterns.has_split_letter.Given as goal
 

@@ -1,4 +1,4 @@
-use Rattle.std.proofs.Common.{◌≡◌, ℕ, ◌+◌, length, drop}
+use Rattle.std.proofs.Common.{◌≡◌, length}
 use Rattle.pg_type.specs.Patterns.{matches}
 use Rattle.pg_type.proofs.patterns.matches.Given as goal
 

@@ -1,4 +1,4 @@
-use Rattle.std.proofs.Common.{◌≡◌, ℕ, ◌+◌, length, drop}
+use Rattle.std.proofs.Common.{◌≡◌, ◌+◌, drop}
 use Rattle.pg_type.specs.Patterns.{run_length}
 use Rattle.pg_type.proofs.patterns.run_length.Given as goal
 

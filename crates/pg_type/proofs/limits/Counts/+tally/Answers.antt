@@ -1,8 +1,6 @@
-use Rattle.std.proofs.Common.{ap, sym, ◌∙◌, arith, map}
-use Rattle.pg_ast.specs.declared.tree.Stmt.TheVariants.{If}
-use Rattle.pg_type.specs.Limits.{tally, both, all_of, expr_tally, stmt_tally}
+use Rattle.std.proofs.Common.{ap, ◌∙◌, arith}
+use Rattle.pg_type.specs.Limits.{both, stmt_tally}
 use Rattle.pg_type.specs.Counted.{capped, added}
-use Rattle.pg_type.proofs.CheckStmtEquations.{stmt_tally-if_none, stmt_tally-if_some}
 use Rattle.pg_type.proofs.CountLemmas.{added-capped, counted_more, counted_all}
 use Rattle.pg_type.proofs.limits.Counts.+tally.Goals as goal
 

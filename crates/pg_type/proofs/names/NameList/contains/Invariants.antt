@@ -1,5 +1,4 @@
-use Rattle.std.proofs.Common.{◌≡◌, drop, map, bytes_eq}
-use Rattle.std.specs.List.{list_any}
+use Rattle.std.proofs.Common.{◌≡◌, drop, map}
 use Rattle.pg_type.specs.Twice.{is_among}
 use Rattle.pg_type.proofs.names.NameList.contains.Given as goal
 
