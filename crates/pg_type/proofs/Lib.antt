@@ -1,5 +1,14 @@
 pub mod ValueEquations
 pub mod DeedEquations
+pub mod RunRows
+pub mod StepLaws
+pub mod KindRows
+pub mod WidthEquations
+pub mod ValueSound
+pub mod FareEquations
+pub mod DeedSound
+pub mod ValidFacts
+pub mod StepSound
 pub mod CheckExprEquations
 pub mod CheckStmtEquations
 pub mod CheckLemmas
