@@ -4,6 +4,8 @@ ghost use Rattle.std.specs.Prelude.{IsTrue};
 ghost use Rattle.std.specs.List.{list_all};
 ghost use Rattle.pg_token.specs.Words.{is_name, is_pattern_byte};
 
+mod bodies;
+
 use crate::{Limit, TypeFault, check};
 use pg_ast::{Desc, Instr, Name, PatternText};
 use sqlite_items::Items;
