@@ -1,3 +1,4 @@
 pub mod CutSteps
 pub mod Digits
 pub mod Fronts
+pub mod Hex

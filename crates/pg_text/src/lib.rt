@@ -41,6 +41,7 @@ mod print;
 
 pub use cutting::{TokList, tokens};
 pub use place::{Span, TextFault};
+pub use print::{dec, hex_word};
 
 
 
