@@ -43,6 +43,5 @@ pub use cutting::{TokList, tokens};
 pub use place::{Span, TextFault};
 pub use print::{dec, hex_word};
 
-
-
-
+#[cfg(test)]
+mod tests;

@@ -4,7 +4,9 @@ ghost use Rattle.std.specs.Prelude.{◌≡◌, ◌≤◌, ◌<◌, length, slice
 ghost use Rattle.pg_token.specs.Words.{is_pattern_byte};
 ghost use Rattle.pg_text.specs.Cutting.{IsDue, word_at, number_at, pattern_at, sign_at, sign_of_two, front};
 
-use crate::classes::{inner_len, is_blank, is_letter, is_pattern_byte, line_len, sign_of_one, sign_of_two, word_len};
+use crate::classes::{
+    inner_len, is_blank, is_letter, is_pattern_byte, line_len, sign_of_one, sign_of_two, word_len,
+};
 use crate::number::number_of;
 use crate::place::TextFault;
 use pg_token::{Sign, Tok};
@@ -29,7 +31,10 @@ fn made(tok: Tok, len: usize) -> Piece
     ensures tok { result.tok ≡ Some tok }
     ensures len { result.len ≡ len }
 {
-    Piece { tok: Some(tok), len }
+    Piece {
+        tok: Some(tok),
+        len,
+    }
 }
 
 /// A word, which must have a letter at its front.
