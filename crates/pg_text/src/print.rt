@@ -25,14 +25,14 @@ pub fn dec(value: u64) -> ArrayVec<u8, 20>
 }
 
 /// The hexadecimal digit of a number below 16.
-fn hex_digit(value: u64) -> u8
-    requires { value < 16 }
-    ensures { result ≡ digit_glyph false value }
+fn hex_digit(number: u64) -> u8
+    requires { number < 16 }
+    ensures { result ≡ digit_glyph false number }
 {
-    if value < 10 {
-        b'0' + value as u8
+    if number < 10 {
+        b'0' + number as u8
     } else {
-        b'a' + (value - 10) as u8
+        b'a' + (number - 10) as u8
     }
 }
 

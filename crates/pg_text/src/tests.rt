@@ -106,7 +106,7 @@ fn signs(rt: HostRuntime) -> Result<(), Fail> {
     Ok(())
 }
 
-/// The kind of a fault and its place; nothing where memory ran out or there is no fault.
+/// The kind of a fault and its place; nothing where there is no fault.
 fn fault_of(rt: &impl AllocGlobal, text: &[u8]) -> Option<(u8, usize)> {
     match tokens(rt.alloc(), text) {
         Ok(_) => None,
@@ -114,7 +114,7 @@ fn fault_of(rt: &impl AllocGlobal, text: &[u8]) -> Option<(u8, usize)> {
         Err(TextFault::BadNumber(at)) => Some((b'n', at)),
         Err(TextFault::BadWord(at)) => Some((b'w', at)),
         Err(TextFault::BadPattern(at)) => Some((b'p', at)),
-        Err(TextFault::Memory) => None,
+        Err(TextFault::Memory) => Some((b'm', 0)),
     }
 }
 
