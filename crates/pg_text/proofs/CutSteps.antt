@@ -103,3 +103,23 @@ CutSoFar-all text list at le so_far =
     sym so_far.whole
     ∙ ap (λ xs. before list (cut_from 0 at xs)) (drop_all at text le)
     ∙ ap (λ xs. Ok xs) (append-nil list)
+
+-- ---- a text without a fault
+
+abbrev pub Tokens : Type 0
+Tokens = Result (List (Tok × Span)) TextFault
+
+abbrev pub ok : List (Tok × Span) → Tokens
+ok ts = Ok ts
+
+pub ok_is : (us ts : List (Tok × Span)) → ok us ≡ ok ts → us ≡ ts
+ok_is us ts h = cc
+
+-- where a piece and what is cut behind it give tokens, both do
+pub before_ok : (us : List (Tok × Span)) (r : Tokens) (ts : List (Tok × Span)) → before us r ≡ Ok ts → (vs : List (Tok × Span)) × (r ≡ Ok vs) × (us ++ vs ≡ ts)
+before_ok us (Ok vs) ts h = (vs, refl, cc)
+before_ok us (Err f) ts h = absurd cc
+
+pub then_ok : (place : ℕ) (r : Result Piece TextFault) (go : ℕ → Tokens) (ts : List (Tok × Span)) → then_cut place r go ≡ Ok ts → (p : Piece) × (r ≡ Ok p) × (before (placed place p) (go (p.len - 1)) ≡ Ok ts)
+then_ok place (Ok p) go ts h = (p, refl, h)
+then_ok place (Err f) go ts h = absurd cc

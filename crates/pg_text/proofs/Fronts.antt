@@ -26,7 +26,7 @@ either most true x y f g = f refl
 either most false x y f g = g refl
 
 -- a run that begins with a byte of its kind
-run_takes : (p : ℕ → Bool) (b : ℕ) (bs : List ℕ) → p b ≡ true → (0 < prefix_len p (b ∷ bs)) × (prefix_len p (b ∷ bs) ≤ length (b ∷ bs))
+pub run_takes : (p : ℕ → Bool) (b : ℕ) (bs : List ℕ) → p b ≡ true → (0 < prefix_len p (b ∷ bs)) × (prefix_len p (b ∷ bs) ≤ length (b ∷ bs))
 run_takes p b bs h = (rw h (omega arith), prefix_len-le-length p (b ∷ bs))
 
 first_holds : (x y z : Bool) → x ≡ true → ((x || y) || z) ≡ true

@@ -30,10 +30,12 @@
 //! - `piece`: what stands at the front of a text.
 //! - `cutting`: the whole text.
 //! - `print`: numbers as digits.
+//! - `laws`: what follows from the definitions alone.
 #![tactic(auto)]
 
 mod classes;
 mod cutting;
+pub mod laws;
 mod number;
 mod piece;
 mod place;
