@@ -1,4 +1,8 @@
 //! Which bytes make what.
+//!
+//! Tests of one byte, how many bytes of a kind stand at the front, and the signs. What a word byte and
+//! a pattern byte are is defined below, beside the tokens, since a tree's names and patterns rest on
+//! it too. Nothing here refuses or allocates.
 
 ghost use Rattle.std.specs.Prelude.{◌≡◌, ◌≤◌, length, not, ◌==◌};
 ghost use Rattle.std.specs.List.{prefix_len};

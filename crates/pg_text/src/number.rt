@@ -1,4 +1,8 @@
 //! What a number's text stands for.
+//!
+//! The text is a whole run of letters, digits and `_`, so what is asked here is only whether all of it
+//! makes a number: decimal digits, or `0x` and 1 to 16 hexadecimal digits. The value is built from the
+//! left, and a digit that would bring it to 2^64 ends the work, since digits behind it never lower it.
 
 ghost use Rattle.std.specs.Prelude.{◌≡◌, ◌+◌, ◌*◌, ◌<◌};
 ghost use Rattle.std.specs.List.{list_all};
@@ -41,12 +45,14 @@ fn number_below(base: u64, digits: &[u8]) -> Option<u64>
     Some(value)
 }
 
+/// Decimal digits alone.
 fn are_digits(text: &[u8]) -> bool
     ensures { result ≡ list_all is_digit text.now }
 {
     text.iter().all(|byte| byte.is_ascii_digit())
 }
 
+/// Hexadecimal digits of either case alone.
 fn are_hex_digits(text: &[u8]) -> bool
     ensures { result ≡ list_all is_ascii_hexdigit text.now }
 {
@@ -63,6 +69,7 @@ fn hex_digits(text: &[u8]) -> &[u8]
     }
 }
 
+/// The value of 1 to 16 hexadecimal digits, or `None` for other bytes, for none and for more.
 fn hex_number(digits: &[u8]) -> Option<u64>
     ensures { result ≡ hex_number digits.now }
 {

@@ -1,4 +1,9 @@
 //! What stands at the front of a text.
+//!
+//! The first byte says what begins there, and then the longest run of bytes that belong to it is
+//! taken: a blank, a comment, a word, a number, a pattern or a sign. There is one function for each,
+//! exact against its part of the definition. A word or a pattern makes at most one allocation, the
+//! others none.
 
 ghost use Rattle.std.specs.Prelude.{◌≡◌, ◌≤◌, ◌<◌, length, slice_index, filter, IfOk};
 ghost use Rattle.pg_token.specs.Words.{is_pattern_byte};
@@ -20,6 +25,7 @@ pub struct Piece {
     pub len: usize,
 }
 
+/// Bytes that make no token.
 fn skip(len: usize) -> Piece
     ensures tok { result.tok ≡ None }
     ensures len { result.len ≡ len }
@@ -27,6 +33,7 @@ fn skip(len: usize) -> Piece
     Piece { tok: None, len }
 }
 
+/// Bytes that make this token.
 fn made(tok: Tok, len: usize) -> Piece
     ensures tok { result.tok ≡ Some tok }
     ensures len { result.len ≡ len }
@@ -37,7 +44,7 @@ fn made(tok: Tok, len: usize) -> Piece
     }
 }
 
-/// A word, which must have a letter at its front.
+/// The word at the front, where a letter stands first. `BadWord` where it has more than 32 bytes.
 #[tactic(auto, unfolding(crate::specs::Cutting::word_at))]
 fn word(alloc: Global, text: &[u8], at: usize) -> Result<Piece, TextFault>
     ensures { IsDue result (word_at at text.now) }
@@ -50,7 +57,8 @@ fn word(alloc: Global, text: &[u8], at: usize) -> Result<Piece, TextFault>
     Ok(made(Tok::Word(bytes), len))
 }
 
-/// A number, which must have a digit at its front.
+/// The number at the front, where a digit stands first. `BadNumber` where the run of letters, digits
+/// and `_` there is no number below 2^64.
 #[tactic(auto, unfolding(crate::specs::Cutting::number_at))]
 fn number(text: &[u8], at: usize) -> Result<Piece, TextFault>
     ensures { IsDue result (number_at at text.now) }
@@ -75,7 +83,8 @@ fn pattern_bytes(alloc: Global, inner: &[u8]) -> Result<Items<u8>, AllocError>
     Ok(Items::from_vec(bytes))
 }
 
-/// A pattern, which must have a quote at its front.
+/// The pattern at the front, where a quote stands first. `BadPattern` where another byte, or the end,
+/// comes before the closing quote.
 #[tactic(auto, unfolding(crate::specs::Cutting::pattern_at))]
 fn pattern(alloc: Global, text: &[u8], at: usize) -> Result<Piece, TextFault>
     requires { 0 < length text.now }
@@ -100,7 +109,7 @@ fn double_sign(text: &[u8]) -> Option<Sign>
     }
 }
 
-/// A sign, of two bytes where they make one.
+/// The sign at the front, of two bytes where they make one. `BadByte` where no sign begins there.
 #[tactic(auto, unfolding(crate::specs::Cutting::sign_at))]
 fn sign(text: &[u8], at: usize) -> Result<Piece, TextFault>
     requires { 0 < length text.now }

@@ -1,4 +1,6 @@
 //! Places in a text, and what is wrong with a text.
+//!
+//! Both outlast the text: they carry numbers, and borrow nothing.
 
 ghost use Rattle.std.specs.Prelude.{◌≡◌};
 ghost use Rattle.pg_text.specs.declared.place.TextFault.TheVariants.{Memory};

@@ -1,6 +1,7 @@
 //! Numbers as digits.
 //!
-//! Both calls write into a vector that lies in the value itself, and take no memory.
+//! The decimal digits are those that std prints; the hexadecimal ones are defined here, with a law that
+//! they stand for the number. Both calls write into a vector that lies in the value itself, and take no memory.
 
 ghost use Rattle.std.specs.Prelude.{◌≡◌, ◌<◌, ◌≤◌, ◌/◌, ◌%◌, ◌^◌, false};
 ghost use Rattle.std.specs.Fmt.{decimal, digit_glyph};
