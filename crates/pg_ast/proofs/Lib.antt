@@ -1,2 +1,13 @@
+pub mod Depths
+pub mod DescExact
+pub mod DescReads
+pub mod Exact
 pub mod ExprEquations
+pub mod ExprExact
+pub mod ExprFronts
+pub mod ExprReads
+pub mod Found
 pub mod StmtEquations
+pub mod StmtExact
+pub mod StmtFronts
+pub mod StmtReads

@@ -1,3 +1,4 @@
 pub mod Levels
 pub mod ExprTokens
 pub mod Tokens
+pub mod Reading

@@ -1,4 +1,7 @@
-//! Tokens.
+//! Tokens and signs.
+//!
+//! A token owns its letters, so that it outlives the text that it was read from. It says nothing of
+//! where in the text it stood.
 
 use sqlite_items::Items;
 
@@ -52,8 +55,11 @@ pub enum Sign {
 /// A token: a word, a number, a pattern without its quotes and underscores, or a sign.
 #[derive(Debug, Drop)]
 pub enum Tok {
+    /// A word, reserved or not.
     Word(Items<u8>),
+    /// The value of a number, however it was written.
     Number(u64),
+    /// The letters of a pattern.
     Pattern(Items<u8>),
     Sign(Sign),
 }

@@ -6,18 +6,18 @@ use Rattle.pg_ast.specs.declared.tree.Desc.{Desc}
 use Rattle.pg_type.specs.States.{State, IsState, in_user}
 use Rattle.pg_type.specs.Kinds.{IsAt, course_at, IsDone, IsNoMemTrap, ShowsControl, ShowsMode, ShowsLocation, ShowsBound}
 
--- *Privileged* (section 3): in user mode the instruction traps, in some way, at every state; and where neither it nor the
+-- *Privileged* (section 3 of the paper): in user mode the instruction traps, in some way, at every state; and where neither it nor the
 -- same state in supervisor mode memory traps, the supervisor one does not trap
 pub record IsPrivileged (d : Desc) (i : Instr) : Type 0 where
   pub user_traps : (s : State) → IsState d s → s.psw.mode ≡ S → IsAt i s → ¬ IsDone (course_at d i (in_user s))
   pub supervisor_done : (s : State) → IsState d s → s.psw.mode ≡ S → IsAt i s →
       IsNoMemTrap (course_at d i s) → IsNoMemTrap (course_at d i (in_user s)) → IsDone (course_at d i s)
 
--- *ControlSensitive* (section 3): at some state it is done with another mode or another R
+-- *ControlSensitive* (section 3 of the paper): at some state it is done with another mode or another R
 abbrev pub ControlSensitive : Desc → Instr → Type 0
 ControlSensitive d i = (s : State) × (t : State) × ShowsControl d i s t
 
--- *ModeAndLocationSensitive* (section 3, behavior sensitive): what it does depends on the mode, or on where the window lies
+-- *ModeAndLocationSensitive* (section 3 of the paper, behavior sensitive): what it does depends on the mode, or on where the window lies
 abbrev pub ModeSensitive : Desc → Instr → Type 0
 ModeSensitive d i = (s : State) × (t : State) × ShowsMode d i s t
 
@@ -27,7 +27,7 @@ LocationSensitive d i = (s : State) × (t : State) × ShowsLocation d i s t
 abbrev pub ModeAndLocationSensitive : Desc → Instr → Type 0
 ModeAndLocationSensitive d i = ModeSensitive d i ⊎ LocationSensitive d i
 
--- *BoundSensitive*: what it does depends on the bound beyond the window that it leaves
+-- *BoundSensitive*: what it does depends on the bound, apart from the window that it opens
 abbrev pub BoundSensitive : Desc → Instr → Type 0
 BoundSensitive d i = (s : State) × (t : State) × ShowsBound d i s t
 
@@ -41,7 +41,7 @@ pub record IsInnocuous (d : Desc) (i : Instr) : Type 0 where
 abbrev pub IsAccepted : Desc → Type 0
 IsAccepted d = All (λ i. IsPrivileged d i ⊎ IsInnocuous d i) d.instrs
 
--- *UserSensitive* (section 6, user sensitive): the same kinds, shown by user states alone
+-- *UserSensitive* (section 6 of the paper, user sensitive): the same kinds, shown by user states alone
 abbrev pub UserControlSensitive : Desc → Instr → Type 0
 UserControlSensitive d i = (s : State) × (t : State) × ShowsControl d i s t × (s.psw.mode ≡ U)
 

@@ -1,6 +1,6 @@
 -- Privileged and sensitive instructions (sections 3 and 4 of the paper), read with a trap of any kind for a memory trap,
 -- with a trap and no trap as different, and over the machines of every size from 2 to q.
-use Rattle.std.specs.Prelude.{◌≡◌, ◌≢◌, ◌⊎◌, ℕ, ◌<◌, Bool, true, List, length, Option, None, Some, slice_get, IsSomeAnd, IsTrue}
+use Rattle.std.specs.Prelude.{◌≡◌, ◌≢◌, ◌⊎◌, ℕ, List, length, Option, None, Some, slice_get, IsSomeAnd, IsTrue}
 use Rattle.pg_word.specs.declared.psw.Psw.{Psw}
 use Rattle.pg_word.specs.declared.psw.Mode.TheVariants.{S, U}
 use Rattle.pg_ast.specs.declared.tree.Instr.{Instr}

@@ -12,3 +12,11 @@ pub mod Overlaps
 pub mod Scopes
 pub mod Widths
 pub mod Valid
+pub mod Examples
+pub mod WorkedRuns
+pub mod WorkedKinds
+pub mod Typed
+pub mod Fields
+pub mod Counted
+pub mod Fares
+pub mod Verdicts

@@ -1,5 +1,5 @@
 -- The second class of validity: how much a description may hold.
-use Rattle.std.specs.Prelude.{ℕ, ◌+◌, Bool, ◌==◌, nat_lt, if◌then◌else◌, List, [], ◌∷◌, map, Option, None, Some}
+use Rattle.std.specs.Prelude.{ℕ, ◌+◌, ◌==◌, nat_lt, if◌then◌else◌, List, [], ◌∷◌, map, Option, None, Some}
 use Rattle.pg_ast.specs.declared.tree.Expr.{Expr}
 use Rattle.pg_ast.specs.declared.tree.Expr.TheOpen.{Expr-F, Lit, Name, Pc, Mode, Rel, Bound, Load, Not, Bin, Cat, Cut, Ext, Sext, Sel}
 use Rattle.pg_ast.specs.declared.tree.Expr.TheFolds.{fold-Expr}
@@ -7,7 +7,6 @@ use Rattle.pg_ast.specs.declared.tree.Stmt.{Stmt}
 use Rattle.pg_ast.specs.declared.tree.Stmt.TheOpen.{Stmt-F, Let, Store, Pc as ToPc, Mode as ToMode, Rel as ToRel, Bound as ToBound, Trap, If}
 use Rattle.pg_ast.specs.declared.tree.Stmt.TheFolds.{fold-Stmt}
 use Rattle.pg_ast.specs.declared.tree.Instr.{Instr}
-use Rattle.pg_ast.specs.declared.tree.Desc.{Desc}
 use Rattle.pg_type.specs.declared.fault.Limit.{Limit}
 use Rattle.pg_type.specs.declared.fault.Limit.TheVariants.{Instructions, Accesses, Lets, Statements, Expressions}
 
@@ -22,7 +21,7 @@ abbrev pub tally : ℕ → ℕ → ℕ → ℕ → Tally
 tally accesses lets statements expressions =
     record { accesses = accesses; lets = lets; statements = statements; expressions = expressions }
 
-abbrev pub both : Tally → Tally → Tally
+unfoldable pub both : Tally → Tally → Tally
 both x y = tally (x.accesses + y.accesses) (x.lets + y.lets) (x.statements + y.statements) (x.expressions + y.expressions)
 
 unfoldable pub all_of : List Tally → Tally

@@ -1,5 +1,5 @@
 -- The sixth class of validity: names that mean nothing where they stand.
-use Rattle.std.specs.Prelude.{ℕ, ◌+◌, Bool, ◌||◌, if◌then◌else◌, List, [], ◌∷◌, ◌++◌, map, Option, None, Some}
+use Rattle.std.specs.Prelude.{ℕ, ◌+◌, ◌||◌, if◌then◌else◌, List, [], ◌∷◌, ◌++◌, map, Option, None, Some}
 use Rattle.pg_ast.specs.declared.tree.Expr.{Expr}
 use Rattle.pg_ast.specs.declared.tree.Expr.TheOpen.{Expr-F, Lit, Name, Pc, Mode, Rel, Bound, Load, Not, Bin, Cat, Cut, Ext, Sext, Sel}
 use Rattle.pg_ast.specs.declared.tree.Expr.TheFolds.{fold-Expr}
@@ -51,7 +51,7 @@ seen_if_any None scope = None
 seen_if_any (Some ss) scope = seen_in_order ss scope
 
 abbrev pub sight_step : List ℕ → Stmt-F (Scope → Sight) → Scope → Sight
-sight_step pattern (Let n e) scope = sight (unknown_name pattern e scope) (n.bytes ∷ scope)
+sight_step pattern (Let n e) scope = sight (unknown_name pattern e scope) (scope ++ n.bytes ∷ [])
 sight_step pattern (Store a e) scope = sight (first_of_two (unknown_name pattern a scope) (unknown_name pattern e scope)) scope
 sight_step pattern (ToPc e) scope = sight (unknown_name pattern e scope) scope
 sight_step pattern (ToMode e) scope = sight (unknown_name pattern e scope) scope

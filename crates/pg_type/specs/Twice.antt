@@ -14,7 +14,7 @@ is_among names name = list_any (λ n. bytes_eq n name) names
 -- the first name of a list that stands in it earlier, or among those that were seen before it
 unfoldable pub first_twice : List (List ℕ) → List (List ℕ) → Option (List ℕ)
 first_twice seen [] = None
-first_twice seen (n ∷ names) = (if is_among seen n then Some n else first_twice (n ∷ seen) names)
+first_twice seen (n ∷ names) = (if is_among seen n then Some n else first_twice (seen ++ n ∷ []) names)
 
 abbrev pub all_names : List (List (List ℕ)) → List (List ℕ)
 all_names [] = []
@@ -46,7 +46,7 @@ is_field pattern name = is_some (field_of pattern name)
 unfoldable pub let_twice : List ℕ → List (List ℕ) → List (List ℕ) → Option (List ℕ)
 let_twice pattern seen [] = None
 let_twice pattern seen (n ∷ names) =
-    (if is_field pattern n || is_among seen n then Some n else let_twice pattern (n ∷ seen) names)
+    (if is_field pattern n || is_among seen n then Some n else let_twice pattern (seen ++ n ∷ []) names)
 
 abbrev pub let_twice_in : Instr → Option (List ℕ)
 let_twice_in i = let_twice i.pattern.bytes [] (all_names (map let_names i.body))

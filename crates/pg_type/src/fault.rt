@@ -1,6 +1,7 @@
 //! Why a description is not valid.
 
 use sqlite_items::Items;
+use thiserror::Error;
 
 /// What is limited in a description.
 #[derive(Clone, Copy, Debug, PartialEq, Eq)]
@@ -19,24 +20,32 @@ pub enum Limit {
 
 /// Why a description is not valid: the first class of validity that fails, and what it names. Instructions are numbered
 /// from 0.
-#[derive(Debug, Drop)]
+#[derive(Debug, Drop, Error)]
 pub enum TypeFault {
     /// The numbers of the head are those of no machine.
+    #[error("the numbers of the head are those of no machine")]
     Shape,
     /// The first instruction that breaks a limit, and the least limit that it breaks.
+    #[error("instruction {1} breaks a limit: {0:?}")]
     Limit(Limit, usize),
     /// The first name of an instruction that an earlier one has, or else the first name of a let that an earlier let or
     /// a field of the same instruction has.
+    #[error("a name is given twice")]
     Twice(Items<u8>),
     /// The first instruction whose pattern has not as many places as a word has bits, or has a letter in two runs.
+    #[error("the pattern of instruction {0} is not well formed")]
     Pattern(usize),
     /// The first two instructions whose patterns some word matches both.
+    #[error("the patterns of instructions {0} and {1} match one word")]
     Overlap(usize, usize),
     /// The first instruction with a name that is neither a field nor a visible let, and its first such name.
+    #[error("instruction {0} has a name that is neither a field nor a visible let")]
     Name(usize, Items<u8>),
     /// The first instruction with a statement whose own expressions break the table of widths, and the place of its
     /// first such statement, counted from 0 in the order of the text.
+    #[error("statement {1} of instruction {0} breaks the table of widths")]
     Width(usize, usize),
     /// Memory was refused.
+    #[error("memory was refused")]
     Memory,
 }

@@ -1,10 +1,10 @@
 -- Numbers of n bits: what 64-bit arithmetic leaves of them, and that each result fits its width.
 use Rattle.std.proofs.Common.{◌≡◌, ℕ, ◌+◌, ◌-◌, ◌*◌, ◌/◌, ◌%◌, ◌^◌, ◌<◌, ◌≤◌, bit_or, suc, zero, zero-add, sym, ap, ◌∙◌, arith, inl, inr}
-use Rattle.std.proofs.Math.Nat.{add-mul-mod_self_left, mod-eq_of_lt, mul_comm, zero-mul}
+use Rattle.std.proofs.Math.Nat.{add-mul-mod_self_left, div-eq_of_lt, mod-eq_of_lt, mul_comm, zero-mul}
 use Rattle.std.proofs.Math.Pow.{pow-add, pow_mono, pow_pos, mod-mod-pow, ones_sub-lt, suc_ones}
-use Rattle.std.proofs.lemmas.Bool.{cases_lt}
+use Rattle.std.proofs.lemmas.Bool.{cases_lt, le-ltb, lt-ltb}
 use Rattle.std.proofs.lemmas.Bool.Decides.{nat_tests}
-use Rattle.std.proofs.lemmas.Nat.{mod_below, or_shifted, mul-add-lt, shr_le}
+use Rattle.std.proofs.lemmas.Nat.{mod_below, or_shifted, shr_below, le-div, mul-add-lt, shr_le}
 use Rattle.std.proofs.lemmas.Nat.Bits.{ones_shr}
 use Rattle.std.specs.Int.Bits.{or_zero_l}
 use Rattle.pg_word.specs.Bits.{sum_of, difference_of, product_of, complement_of, left_shifted, right_shifted, bits_between, joined, sign_extended, equal_bit, below_bit}
@@ -49,6 +49,20 @@ or_wrapping_shl (suc h) k l fits all =
     ap (λ t. bit_or (suc h * 2 ^ t % 2 ^ 64) l) (mod-eq_of_lt (shl_room h k l all))
     ∙ ap (λ t. bit_or t l) (mod-eq_of_lt (omega arith))
     ∙ or_shifted (suc h) k l fits
+
+-- a number of n bits has one bit from place n - 1 on
+shr_top_bit : (x n : ℕ) → 1 ≤ n → x < 2 ^ n → x / 2 ^ (n - 1) < 2
+shr_top_bit x n least h = shr_below x 1 (n - 1) (let e : 1 + (n - 1) ≡ n = omega arith in rw e h)
+
+-- the ones of a sign, added where the top bit is 1
+pub add_top_bit_mul : (x n to : ℕ) → 1 ≤ n → x < 2 ^ n → x + x / 2 ^ (n - 1) * (2 ^ to - 2 ^ n) ≡ sign_extended x n to
+add_top_bit_mul x n to least h =
+    let below : x / 2 ^ (n - 1) < 2 = shr_top_bit x n least h in
+    let pos : 0 < 2 ^ (n - 1) = pow_pos (n - 1) in
+    elim (cases_lt x (2 ^ (n - 1))) [
+      | inl e ↦ rw (lt-ltb _ _ e) (rw (div-eq_of_lt e) (omega arith))
+      | inr e ↦ let one : x / 2 ^ (n - 1) ≡ 1 = omega (arith, le-div 1 x (2 ^ (n - 1)) pos (omega arith)) in rw (le-ltb _ _ e) (rw one (omega arith))
+    ]
 
 -- ---- what fits
 

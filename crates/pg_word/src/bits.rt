@@ -153,11 +153,8 @@ pub fn sext(x: u64, n: u32, to: u32) -> u64
     ensures value { result ≡ sign_extended x n to }
     ensures fits { result < 2 ^ to }
 {
-    if x >> (n - 1) == 0 {
-        x
-    } else {
-        x + (ones(to) - ones(n))
-    }
+    let top_bit = x >> (n - 1);
+    x + top_bit * (ones(to) - ones(n))
 }
 
 /// `x` where the condition, a value of one bit, is 1, else `y`.

@@ -1,0 +1,158 @@
+-- Reading the tokens of statements gives the statements back.
+use Rattle.std.proofs.Common.{◌≡◌, ℕ, zero, suc, ◌+◌, ◌≤◌, List, [], ◌∷◌, ◌++◌, length, map, Option, None, Some, sym, subst, refl, arith}
+use Rattle.std.proofs.lemmas.List.{append_assoc, length-append}
+use Rattle.pg_token.specs.declared.tok.Tok.{Tok}
+use Rattle.pg_token.specs.declared.tok.Tok.TheVariants.{Sign}
+use Rattle.pg_token.specs.declared.tok.Sign.TheVariants.{CloseBrace}
+use Rattle.pg_ast.specs.declared.name.Name.{Name as Names}
+use Rattle.pg_ast.specs.declared.tree.Expr.{Expr}
+use Rattle.pg_ast.specs.declared.tree.Stmt.{Stmt}
+use Rattle.pg_ast.specs.declared.tree.Stmt.TheVariants.{Let, Store, Pc, Mode, Rel, Bound, Trap, If, rolls-Let, rolls-Store, rolls-Pc, rolls-Mode, rolls-Rel, rolls-Bound, rolls-Trap, rolls-If}
+use Rattle.pg_ast.specs.declared.tree.Stmt.TheOpen as Open
+use Rattle.pg_ast.specs.declared.tree.Stmt.TheFolds.{ind-Stmt, map-Stmt}
+use Rattle.pg_ast.specs.declared.tree.Stmt.TheViews.{roll-Stmt}
+use Rattle.pg_ast.specs.Tokens.{stmt_tokens, flat}
+use Rattle.pg_ast.specs.Levels.{greatest, expr_levels}
+use Rattle.pg_ast.specs.Reading.{past_close, past_else, read_expr, read_stmt_word, read_stmt, read_first, read_block}
+use Rattle.pg_ast.proofs.ExprReads.{Reads, name_of-bytes, read_expr-tokens}
+use Rattle.pg_ast.proofs.StmtEquations as equations
+use Rattle.pg_ast.proofs.StmtFronts as fronts
+
+-- a reader gives this statement for its tokens, whatever but an else follows them
+abbrev pub ReadsStmt : (List Tok → Option (Stmt × List Tok)) → Stmt → Type 0
+ReadsStmt read s = (rest : List Tok) → past_else rest ≡ None → read (stmt_tokens s ++ rest) ≡ Some (s, rest)
+
+-- a reader gives these statements for their tokens and a closing brace, whatever follows
+abbrev pub ReadsBlock : (List Tok → Option (List Stmt × List Tok)) → List Stmt → Type 0
+ReadsBlock read stmts = (rest : List Tok) → read (flat (map stmt_tokens stmts) ++ (Sign CloseBrace ∷ rest)) ≡ Some (stmts, rest)
+
+-- behind a statement of a block comes no else
+else_free : (more : List Stmt) (rest : List Tok) → past_else (flat (map stmt_tokens more) ++ (Sign CloseBrace ∷ rest)) ≡ None
+else_free [] rest = refl
+else_free (s ∷ more) rest = let begun = fronts.stmt_begins s in rw (begun.2) (simp (begun.3))
+
+-- a block does not end where a statement begins
+open_front : (s : Stmt) (rest : List Tok) → past_close (stmt_tokens s ++ rest) ≡ None
+open_front s rest = let begun = fronts.stmt_begins s in rw (begun.2) refl
+
+-- a statement has tokens
+stmt-some : (s : Stmt) → 1 ≤ length (stmt_tokens s)
+stmt-some s = let begun = fronts.stmt_begins s in rw (begun.2) (omega arith)
+
+-- one level, where x reads expressions and b reads the blocks inside
+module _ (x : List Tok → Option (Expr × List Tok)) (b : List Tok → Option (List Stmt × List Tok)) where
+  level-let : (n : Names) (e : Expr) → Reads x e → ReadsStmt (read_stmt x b) (Let n e)
+  unfolding read_stmt read_stmt_word
+  level-let n e he rest free = rw (fronts.stmt_front-let n e rest) (simp (name_of-bytes, he))
+
+  level-store : (a e : Expr) → Reads x a → Reads x e → ReadsStmt (read_stmt x b) (Store a e)
+  unfolding read_stmt read_stmt_word
+  level-store a e ha he rest free = rw (fronts.stmt_front-store a e rest) (simp (ha, he))
+
+  level-pc : (e : Expr) → Reads x e → ReadsStmt (read_stmt x b) (Pc e)
+  unfolding read_stmt read_stmt_word
+  level-pc e he rest free = rw (fronts.stmt_front-pc e rest) (simp he)
+
+  level-mode : (e : Expr) → Reads x e → ReadsStmt (read_stmt x b) (Mode e)
+  unfolding read_stmt read_stmt_word
+  level-mode e he rest free = rw (fronts.stmt_front-mode e rest) (simp he)
+
+  level-rel : (e : Expr) → Reads x e → ReadsStmt (read_stmt x b) (Rel e)
+  unfolding read_stmt read_stmt_word
+  level-rel e he rest free = rw (fronts.stmt_front-rel e rest) (simp he)
+
+  level-bound : (e : Expr) → Reads x e → ReadsStmt (read_stmt x b) (Bound e)
+  unfolding read_stmt read_stmt_word
+  level-bound e he rest free = rw (fronts.stmt_front-bound e rest) (simp he)
+
+  level-trap : ReadsStmt (read_stmt x b) Trap
+  unfolding read_stmt read_stmt_word
+  level-trap rest free = rw (fronts.stmt_front-trap rest) refl
+
+  level-if : (c : Expr) (held : List Stmt) → Reads x c → ReadsBlock b held → ReadsStmt (read_stmt x b) (If c held None)
+  unfolding read_stmt read_stmt_word
+  level-if c held hc hheld rest free = rw (fronts.stmt_front-if c held rest) (simp (hc, hheld, free))
+
+  level-if_else : (c : Expr) (held other : List Stmt) → Reads x c → ReadsBlock b held → ReadsBlock b other → ReadsStmt (read_stmt x b) (If c held (Some other))
+  unfolding read_stmt read_stmt_word
+  level-if_else c held other hc hheld hother rest free = rw (fronts.stmt_front-if_else c held other rest) (simp (hc, hheld, hother))
+
+  first-end : (rest : List Tok) → read_first x b (Sign CloseBrace ∷ rest) (past_close (Sign CloseBrace ∷ rest)) ≡ Some ([], rest)
+  unfolding read_first
+  first-end rest = refl
+
+  first-next : (s : Stmt) (more : List Stmt) → ReadsStmt (read_stmt x b) s → ReadsBlock b more → (rest : List Tok) →
+      read_first x b (flat (map stmt_tokens (s ∷ more)) ++ (Sign CloseBrace ∷ rest)) (past_close (flat (map stmt_tokens (s ∷ more)) ++ (Sign CloseBrace ∷ rest))) ≡ Some (s ∷ more, rest)
+  unfolding read_first
+  first-next s more hs hmore rest =
+      rw (append_assoc (stmt_tokens s) (flat (map stmt_tokens more)) (Sign CloseBrace ∷ rest), open_front s (flat (map stmt_tokens more) ++ (Sign CloseBrace ∷ rest)), hs (flat (map stmt_tokens more) ++ (Sign CloseBrace ∷ rest)) (else_free more rest), hmore rest) refl
+
+-- with fuel for its levels and its tokens a reader gives this statement
+abbrev IsRead : Stmt → Type 0
+IsRead s = (n k : ℕ) → expr_levels s ≤ n → length (stmt_tokens s) ≤ k → ReadsStmt (read_stmt (read_expr n) (read_block (read_expr n) k)) s
+
+block-reads : (stmts : List ((s : Stmt) × IsRead s)) (n k : ℕ) → greatest (map expr_levels (map (λ p. p.0) stmts)) ≤ n → length (flat (map stmt_tokens (map (λ p. p.0) stmts))) + 1 ≤ k →
+    ReadsBlock (read_block (read_expr n) k) (map (λ p. p.0) stmts)
+unfolding read_block
+block-reads [] n zero levels fuel rest = absurd (omega arith)
+block-reads [] n (suc k) levels fuel rest = first-end (read_expr n) (read_block (read_expr n) k) rest
+block-reads (s ∷ more) n zero levels fuel rest = absurd (omega arith)
+block-reads (s ∷ more) n (suc k) levels fuel rest =
+    let total = length-append (stmt_tokens s.0) (flat (map stmt_tokens (map (λ p. p.0) more))) in
+    let some = stmt-some s.0 in
+    first-next (read_expr n) (read_block (read_expr n) k) s.0 (map (λ p. p.0) more)
+    (s.1 n k (omega arith) (omega (arith, total)))
+    (block-reads more n k (omega arith) (omega (arith, total, some)))
+    rest
+
+if-length : (c : Expr) (held : List Stmt) (other : Option (List Stmt)) → length (flat (map stmt_tokens held)) + 1 ≤ length (stmt_tokens (If c held other))
+if-length c held other =
+    rw (equations.stmt_tokens-if c held other) (simp length-append (omega arith))
+
+else-length : (c : Expr) (held other : List Stmt) → length (flat (map stmt_tokens other)) + 1 ≤ length (stmt_tokens (If c held (Some other)))
+else-length c held other =
+    rw (equations.stmt_tokens-if c held (Some other)) (simp length-append (omega arith))
+
+layer : (y : Open.Stmt-F ((s : Stmt) × IsRead s)) → IsRead (roll-Stmt (map-Stmt ((s : Stmt) × IsRead s) Stmt (λ p. p.0) y))
+layer (Open.Let m e) = subst IsRead (sym (rolls-Let m e)) (λ n k levels fuel.
+    level-let (read_expr n) (read_block (read_expr n) k) m e (read_expr-tokens e n (omega (arith, equations.expr_levels-let m e))))
+layer (Open.Store a e) = subst IsRead (sym (rolls-Store a e)) (λ n k levels fuel.
+    level-store (read_expr n) (read_block (read_expr n) k) a e (read_expr-tokens a n (omega (arith, equations.expr_levels-store a e))) (read_expr-tokens e n (omega (arith, equations.expr_levels-store a e))))
+layer (Open.Pc e) = subst IsRead (sym (rolls-Pc e)) (λ n k levels fuel.
+    level-pc (read_expr n) (read_block (read_expr n) k) e (read_expr-tokens e n (omega (arith, equations.expr_levels-pc e))))
+layer (Open.Mode e) = subst IsRead (sym (rolls-Mode e)) (λ n k levels fuel.
+    level-mode (read_expr n) (read_block (read_expr n) k) e (read_expr-tokens e n (omega (arith, equations.expr_levels-mode e))))
+layer (Open.Rel e) = subst IsRead (sym (rolls-Rel e)) (λ n k levels fuel.
+    level-rel (read_expr n) (read_block (read_expr n) k) e (read_expr-tokens e n (omega (arith, equations.expr_levels-rel e))))
+layer (Open.Bound e) = subst IsRead (sym (rolls-Bound e)) (λ n k levels fuel.
+    level-bound (read_expr n) (read_block (read_expr n) k) e (read_expr-tokens e n (omega (arith, equations.expr_levels-bound e))))
+layer Open.Trap = subst IsRead (sym rolls-Trap) (λ n k levels fuel. level-trap (read_expr n) (read_block (read_expr n) k))
+layer (Open.If c held None) = subst IsRead (sym (rolls-If c (map (λ p. p.0) held) None)) (λ n k levels fuel.
+    let within = equations.expr_levels-if c (map (λ p. p.0) held) None in
+    level-if (read_expr n) (read_block (read_expr n) k) c (map (λ p. p.0) held)
+    (read_expr-tokens c n (omega (arith, within)))
+    (block-reads held n k (omega (arith, within)) (omega (arith, if-length c (map (λ p. p.0) held) None))))
+layer (Open.If c held (Some other)) = subst IsRead (sym (rolls-If c (map (λ p. p.0) held) (Some (map (λ p. p.0) other)))) (λ n k levels fuel.
+    let within = equations.expr_levels-if c (map (λ p. p.0) held) (Some (map (λ p. p.0) other)) in
+    level-if_else (read_expr n) (read_block (read_expr n) k) c (map (λ p. p.0) held) (map (λ p. p.0) other)
+    (read_expr-tokens c n (omega (arith, within)))
+    (block-reads held n k (omega (arith, within)) (omega (arith, if-length c (map (λ p. p.0) held) (Some (map (λ p. p.0) other)))))
+    (block-reads other n k (omega (arith, within)) (omega (arith, else-length c (map (λ p. p.0) held) (map (λ p. p.0) other)))))
+
+-- the tokens of a statement, read with fuel for its expressions and for its tokens, give it back and leave what follows, unless that is an else
+pub read_stmt-tokens : (s : Stmt) → IsRead s
+read_stmt-tokens = ind-Stmt IsRead (λ x y is. subst (λ z. IsRead (roll-Stmt z)) is (layer y))
+
+-- the same of the statements of a block
+pub read_block-tokens : (stmts : List Stmt) (n k : ℕ) → greatest (map expr_levels stmts) ≤ n → length (flat (map stmt_tokens stmts)) + 1 ≤ k → ReadsBlock (read_block (read_expr n) k) stmts
+unfolding read_block
+read_block-tokens [] n zero levels fuel rest = absurd (omega arith)
+read_block-tokens [] n (suc k) levels fuel rest = first-end (read_expr n) (read_block (read_expr n) k) rest
+read_block-tokens (s ∷ more) n zero levels fuel rest = absurd (omega arith)
+read_block-tokens (s ∷ more) n (suc k) levels fuel rest =
+    let total = length-append (stmt_tokens s) (flat (map stmt_tokens more)) in
+    let some = stmt-some s in
+    first-next (read_expr n) (read_block (read_expr n) k) s more
+    (read_stmt-tokens s n k (omega arith) (omega (arith, total)))
+    (read_block-tokens more n k (omega arith) (omega (arith, total, some)))
+    rest

@@ -1,0 +1,7 @@
+pub mod CountLaws
+mod FileLemmas
+pub mod PutsLaws
+pub mod ShelfLaws
+mod ShelfLemmas
+mod SinkLemmas
+pub mod ToldLaws

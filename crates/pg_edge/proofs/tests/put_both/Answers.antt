@@ -1,0 +1,12 @@
+use Rattle.std.proofs.lemmas.Result.{err_from_is_err_and}
+use Rattle.pg_edge.proofs.PutsLaws.{Puts-then, Puts-stopped}
+use Rattle.pg_edge.proofs.tests.put_both.Goals as goal
+
+pub returns-in_err-put : goal.returns-in_err-put
+returns-in_err-put g c =
+    let fault = err_from_is_err_and c.from_residual.result c.from_residual.ensures.1 in
+    rw fault.1 (Puts-stopped _ _ _ _ c.args.first.now c.args.next.now _ _ c.in_err-put.ensures.puts)
+
+pub returns : goal.returns
+returns g c =
+    Puts-then _ _ _ _ _ _ c.args.first.now c.args.next.now _ _ c.in_ok-put.ensures.puts c.put-2.ensures.puts

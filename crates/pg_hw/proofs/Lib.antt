@@ -1,0 +1,4 @@
+pub mod TallyLaws
+pub mod BurstLaws
+pub mod ServingLaws
+pub mod IdleLaws

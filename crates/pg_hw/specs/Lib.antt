@@ -1,0 +1,4 @@
+pub mod Tallies
+pub mod Bursts
+pub mod Serving
+pub mod Idling

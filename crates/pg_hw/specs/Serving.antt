@@ -1,0 +1,28 @@
+-- Which machines a hardware may run, what it may be given, and the state that it begins with.
+use Rattle.std.specs.Prelude.{ℕ, ◌^◌, ◌<◌, replicate}
+use Rattle.pg_word.specs.declared.psw.Psw.{Psw}
+use Rattle.pg_word.specs.declared.psw.Mode.TheVariants.{S}
+use Rattle.pg_word.specs.Psw.{IsPsw}
+use Rattle.pg_ast.specs.declared.tree.Desc.{Desc}
+use Rattle.pg_type.specs.States.{State}
+
+-- the same machines may be run
+pub record SameServed (old new : Desc → Type 0) : Type 0 where
+  pub kept : (d : Desc) → old d → new d
+  pub none_more : (d : Desc) → new d → old d
+
+-- a word of some machine that may be run
+pub record IsServedWord (serves : Desc → Type 0) (word : ℕ) : Type 0 where
+  pub machine : Desc
+  pub served : serves machine
+  pub fits : word < 2 ^ machine.word
+
+-- a program status word of some machine that may be run
+pub record IsServedPsw (serves : Desc → Type 0) (psw : Psw) : Type 0 where
+  pub machine : Desc
+  pub served : serves machine
+  pub fits : IsPsw machine.address psw
+
+-- the state of n cells that a hardware begins with: zeros, and PSW (s, 2, (0, n))
+unfoldable pub blank : ℕ → State
+blank n = record { cells = replicate n 0; psw = record { mode = S; p = 2; l = 0; b = n } }

@@ -1,0 +1,109 @@
+//! The trait of hardware.
+
+use super::counts::Counts;
+use pg_type::Machine;
+use pg_word::Psw;
+use std::alloc::AllocError;
+
+/// A machine that runs: a storage of cells and a program status word that move by *Step*.
+///
+/// A call leaves everything as it was but what it names: the state, the counts, the counts at the bottom, the room and
+/// the machines served.
+pub trait Hardware {
+    ghost use Rattle.std.specs.Prelude.{◌≡◌, ℕ, ◌+◌, ◌≤◌, ◌<◌, length, slice_get, slice_set, OnOk, OnErr};
+    ghost use Rattle.pg_ast.specs.declared.tree.Desc.{Desc};
+    ghost use Rattle.pg_type.specs.States.{State, IsState};
+    ghost use Rattle.pg_type.specs.Steps.{step as stepped, steps as stepped_often};
+    ghost use Rattle.pg_hw.specs.declared.counts.Counts.{Counts as Tally};
+    ghost use Rattle.pg_hw.specs.Tallies.{Bottom, after_steps, after_poke, after_load};
+    ghost use Rattle.pg_hw.specs.Bursts.{untrapped_at, untrapped_among, burst_length, BottomRises};
+    ghost use Rattle.pg_hw.specs.Serving.{SameServed, IsServedWord, IsServedPsw, blank};
+
+    /// The cells of the storage and the program status word.
+    ghost state: { Self → State };
+
+    /// The four counts.
+    ghost tally: { Self → Tally };
+
+    /// Two counts of the hardware at the bottom: under a monitor, that of the machine that does the work in the end.
+    ghost bottom: { Self → Bottom };
+
+    /// The greatest size that it can be given.
+    ghost most_cells: { Self → ℕ };
+
+    /// The machines that it may run.
+    ghost serves: { Self → Desc → Type 0 };
+
+    /// Gives it `size` cells of zero and the program status word (s, 2, (0, size)); refused only for want of memory, and
+    /// then all is as before.
+    fn install(&mut self, size: u32) -> Result<(), AllocError>
+        requires least { 2 ≤ size }
+        requires most { size ≤ most_cells self.old }
+        ensures installed { OnOk result (state self.new ≡ blank size) }
+        ensures refused { OnErr result (state self.new ≡ state self.old) }
+        ensures tally { tally self.new ≡ tally self.old }
+        ensures bottom { bottom self.new ≡ bottom self.old }
+        ensures room { most_cells self.new ≡ most_cells self.old }
+        ensures served { SameServed (serves self.old) (serves self.new) };
+
+    /// The number of cells.
+    fn size(&self) -> u32
+        ensures { result ≡ length (state self.now).cells };
+
+    /// The greatest size that it can be given.
+    fn room(&self) -> u32
+        ensures { result ≡ most_cells self.now };
+
+    /// One step of the machine.
+    fn step(&mut self, m: &Machine)
+        requires served { serves self.old m.now.desc }
+        requires state { IsState m.now.desc (state self.old) }
+        ensures state { state self.new ≡ stepped m.now.desc (state self.old) }
+        ensures tally { tally self.new ≡ after_steps (tally self.old) 1 (untrapped_at m.now.desc (state self.old)) }
+        ensures bottom { BottomRises m.now.desc 1 (state self.old) (bottom self.old) (bottom self.new) }
+        ensures room { most_cells self.new ≡ most_cells self.old }
+        ensures served { SameServed (serves self.old) (serves self.new) };
+
+    /// Steps until `k` were done or one trapped; how many were done.
+    fn burst(&mut self, m: &Machine, k: u64) -> u64
+        requires served { serves self.old m.now.desc }
+        requires state { IsState m.now.desc (state self.old) }
+        ensures count { result ≡ burst_length m.now.desc k (state self.old) }
+        ensures state { state self.new ≡ stepped_often m.now.desc result (state self.old) }
+        ensures tally { tally self.new ≡ after_steps (tally self.old) result (untrapped_among m.now.desc result (state self.old)) }
+        ensures bottom { BottomRises m.now.desc result (state self.old) (bottom self.old) (bottom self.new) }
+        ensures room { most_cells self.new ≡ most_cells self.old }
+        ensures served { SameServed (serves self.old) (serves self.new) };
+
+    /// The cell at an address of the storage.
+    fn peek(&self, at: u32) -> u64
+        requires { at < length (state self.now).cells }
+        ensures { slice_get (state self.now).cells at ≡ Some result };
+
+    /// Sets a cell.
+    fn poke(&mut self, at: u32, word: u64)
+        requires within { at < length (state self.old).cells }
+        requires word { IsServedWord (serves self.old) word }
+        ensures state { state self.new ≡ record (state self.old) { cells = slice_set (state self.old).cells at word } }
+        ensures tally { tally self.new ≡ after_poke (tally self.old) }
+        ensures bottom { bottom self.new ≡ bottom self.old }
+        ensures room { most_cells self.new ≡ most_cells self.old }
+        ensures served { SameServed (serves self.old) (serves self.new) };
+
+    /// The program status word.
+    fn psw(&self) -> Psw
+        ensures { result ≡ (state self.now).psw };
+
+    /// Loads a program status word.
+    fn set_psw(&mut self, psw: Psw)
+        requires { IsServedPsw (serves self.old) psw }
+        ensures state { state self.new ≡ record (state self.old) { psw = psw } }
+        ensures tally { tally self.new ≡ after_load (tally self.old) }
+        ensures bottom { bottom self.new ≡ bottom self.old }
+        ensures room { most_cells self.new ≡ most_cells self.old }
+        ensures served { SameServed (serves self.old) (serves self.new) };
+
+    /// The four counts.
+    fn counts(&self) -> Counts
+        ensures { result ≡ tally self.now };
+}

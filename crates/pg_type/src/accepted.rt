@@ -1,0 +1,56 @@
+//! Machines whose instructions are known to be as a monitor needs them.
+
+ghost use Rattle.std.specs.Prelude.{◌≡◌};
+ghost use Rattle.pg_type.specs.Accepting.{IsAccepted, IsHybridAccepted};
+
+use crate::machine::Machine;
+
+/// A machine of which each instruction is privileged or not sensitive.
+#[derive(Clone, Copy)]
+pub struct Accepted<'m> {
+    machine: &'m Machine,
+    ghost accepted: { ∥ IsAccepted machine.now.desc ∥₁ },
+}
+
+impl<'m> Accepted<'m> {
+    /// A machine that is known to be so.
+    pub fn of(machine: &'m Machine) -> Accepted<'m>
+        requires { IsAccepted machine.now.desc }
+        ensures { result.machine.now ≡ machine.now }
+    {
+        Accepted { machine }
+    }
+
+    /// The machine.
+    pub fn machine(self) -> &'m Machine
+        ensures same { result.now ≡ self.entry.machine.now }
+        ensures accepted { ∥ IsAccepted result.now.desc ∥₁ }
+    {
+        self.machine
+    }
+}
+
+/// A machine of which each instruction is privileged or not sensitive in user mode.
+#[derive(Clone, Copy)]
+pub struct HybridAccepted<'m> {
+    machine: &'m Machine,
+    ghost accepted: { ∥ IsHybridAccepted machine.now.desc ∥₁ },
+}
+
+impl<'m> HybridAccepted<'m> {
+    /// A machine that is known to be so.
+    pub fn of(machine: &'m Machine) -> HybridAccepted<'m>
+        requires { IsHybridAccepted machine.now.desc }
+        ensures { result.machine.now ≡ machine.now }
+    {
+        HybridAccepted { machine }
+    }
+
+    /// The machine.
+    pub fn machine(self) -> &'m Machine
+        ensures same { result.now ≡ self.entry.machine.now }
+        ensures accepted { ∥ IsHybridAccepted result.now.desc ∥₁ }
+    {
+        self.machine
+    }
+}

@@ -1,0 +1,42 @@
+//! Worked runs and worked kinds, as laws: the definitions of this crate, computed on machines of a few instructions.
+
+ghost use Rattle.pg_type.specs.WorkedRuns.{NoPattern, NoWindow, PastStorage, LastUsable, FirstPastBound, FirstPastSize, RunsPastWindow, DoublesInALoop, WindowOfOneCell, NoPatternCause, MemoryTrapCause, TrapCause, WidensAndShifts};
+ghost use Rattle.pg_type.specs.WorkedKinds.{RtuShowsControl, RtuInUserModeDoesNot, RtuBreaksPrivilege, LrBreaksNoPrivilege, StoreModeShowsMode, StoreModeOutsideDoesNot, SupervisorLoadShowsMode, UserJumpShowsMode, UserJumpBreaksPrivilege, StoreRelShowsLocation, StoreRelUserShowsLocation, StoreRelOutsideDoesNot, StoreBoundShowsBound, StoreBoundUserShowsBound, StoreBoundOutsideDoesNot, OpenLrShowsControl, OpenLrOfTheSameDoesNot};
+
+/// Runs of bare machines, each with the state that it ends in.
+pub fn worked_runs()
+    ensures no_pattern { NoPattern }
+    ensures no_window { NoWindow }
+    ensures past_storage { PastStorage }
+    ensures last_usable { LastUsable }
+    ensures first_past_bound { FirstPastBound }
+    ensures first_past_size { FirstPastSize }
+    ensures runs_past_window { RunsPastWindow }
+    ensures doubles_in_a_loop { DoublesInALoop }
+    ensures window_of_one_cell { WindowOfOneCell }
+    ensures no_pattern_cause { NoPatternCause }
+    ensures memory_trap_cause { MemoryTrapCause }
+    ensures trap_cause { TrapCause }
+    ensures widens_and_shifts { WidensAndShifts }
+{}
+
+/// For each kind a pair of states that shows it, and a near pair that does not.
+pub fn worked_kinds()
+    ensures rtu_shows_control { RtuShowsControl }
+    ensures rtu_in_user_mode_does_not { RtuInUserModeDoesNot }
+    ensures rtu_breaks_privilege { RtuBreaksPrivilege }
+    ensures lr_breaks_no_privilege { LrBreaksNoPrivilege }
+    ensures store_mode_shows_mode { StoreModeShowsMode }
+    ensures store_mode_outside_does_not { StoreModeOutsideDoesNot }
+    ensures supervisor_load_shows_mode { SupervisorLoadShowsMode }
+    ensures user_jump_shows_mode { UserJumpShowsMode }
+    ensures user_jump_breaks_privilege { UserJumpBreaksPrivilege }
+    ensures store_rel_shows_location { StoreRelShowsLocation }
+    ensures store_rel_user_shows_location { StoreRelUserShowsLocation }
+    ensures store_rel_outside_does_not { StoreRelOutsideDoesNot }
+    ensures store_bound_shows_bound { StoreBoundShowsBound }
+    ensures store_bound_user_shows_bound { StoreBoundUserShowsBound }
+    ensures store_bound_outside_does_not { StoreBoundOutsideDoesNot }
+    ensures open_lr_shows_control { OpenLrShowsControl }
+    ensures open_lr_of_the_same_does_not { OpenLrOfTheSameDoesNot }
+{}
