@@ -6,10 +6,10 @@
 
 ghost use Rattle.std.specs.Prelude.{◌≡◌, ◌≤◌, length, not, ◌==◌};
 ghost use Rattle.std.specs.List.{prefix_len};
-ghost use Rattle.pg_token.specs.Words.{is_letter, is_word_byte, is_pattern_byte};
+ghost use Rattle.pg_token.specs.Words.{is_letter, is_word_byte};
 ghost use Rattle.pg_text.specs.Cutting.{is_blank, is_inner, sign_of_one, sign_of_two};
 
-use pg_token::Sign;
+use pg_token::{Sign, is_pattern_byte};
 
 /// What separates tokens: space, tab, CR or LF.
 pub fn is_blank(byte: u8) -> bool
@@ -30,13 +30,6 @@ fn is_word_byte(byte: u8) -> bool
     ensures { result ≡ is_word_byte byte }
 {
     is_letter(byte) || byte.is_ascii_digit() || byte == b'_'
-}
-
-/// A bit, `.` or a small letter.
-pub fn is_pattern_byte(byte: u8) -> bool
-    ensures { result ≡ is_pattern_byte byte }
-{
-    byte == b'0' || byte == b'1' || byte == b'.' || byte.is_ascii_lowercase()
 }
 
 /// What may stand between the quotes of a pattern.

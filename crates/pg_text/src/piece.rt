@@ -10,11 +10,11 @@ ghost use Rattle.pg_token.specs.Words.{is_pattern_byte};
 ghost use Rattle.pg_text.specs.Cutting.{IsDue, word_at, number_at, pattern_at, sign_at, sign_of_two, front};
 
 use crate::classes::{
-    inner_len, is_blank, is_letter, is_pattern_byte, line_len, sign_of_one, sign_of_two, word_len,
+    inner_len, is_blank, is_letter, line_len, sign_of_one, sign_of_two, word_len,
 };
 use crate::number::number_of;
 use crate::place::TextFault;
-use pg_token::{Sign, Tok};
+use pg_token::{Sign, Tok, is_pattern_byte};
 use sqlite_items::Items;
 use std::alloc::{AllocError, Global};
 
