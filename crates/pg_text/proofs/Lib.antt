@@ -1,0 +1,6 @@
+pub mod CutSteps
+pub mod Digits
+pub mod Fronts
+pub mod Hex
+pub mod Places
+pub mod Formed

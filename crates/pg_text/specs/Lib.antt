@@ -1,0 +1,4 @@
+pub mod Cutting
+pub mod Printing
+pub mod Places
+pub mod Formed

@@ -1,0 +1,49 @@
+//! Text to tokens, and numbers to text.
+//!
+//! `tokens` cuts the bytes of a description into its tokens, each with its place. `dec` and
+//! `hex_word` write numbers as digits. This crate knows nothing of what the tokens say.
+//!
+//! # What the bytes of a text make
+//!
+//! The bytes space, tab, CR and LF separate tokens. `#` begins a comment, which reaches up to, and
+//! does not take, the next LF, or to the end, and may hold any byte. Tokens are read from the left,
+//! the longest first.
+//!
+//! | Token | The bytes that make it | What it carries |
+//! |---|---|---|
+//! | word | a letter, then every letter, digit and `_` that follows, at most 32 bytes in all | its bytes |
+//! | number | a digit, then every letter, digit and `_` that follows: decimal digits, or `0x` and 1 to 16 hexadecimal digits of either case; leading zeros are fine | its value, below 2^64 |
+//! | pattern | `"`, then any number of the bytes `0`, `1`, `.`, `_` and `a` to `z`, then `"` | the bytes between the quotes without `_` |
+//! | sign | one of `{ } ( ) [ ] ; , : = == ~ + - * & \| ^ < << >>` | which sign |
+//!
+//! What is none of these is a fault. Its place is a byte's, counted from 0, and the first fault from
+//! the left is the answer. `BadWord` is a longer word, at its first byte; `BadNumber` a number that
+//! is not as above, as `12a`, `0X1`, `0x` or 2^64, at its first byte; `BadPattern` a pattern with
+//! another byte in it, or with no closing quote, at its opening quote; `BadByte` any other byte
+//! outside a comment, as a lone `>`, or the third of `>>>`.
+//!
+//! # Modules
+//!
+//! - `place`: places, and the faults of a text.
+//! - `classes`: which bytes make what.
+//! - `number`: what a number's text stands for.
+//! - `piece`: what stands at the front of a text.
+//! - `cutting`: the whole text.
+//! - `print`: numbers as digits.
+//! - `laws`: what follows from the definitions alone.
+#![tactic(auto)]
+
+mod classes;
+mod cutting;
+pub mod laws;
+mod number;
+mod piece;
+mod place;
+mod print;
+
+pub use cutting::{TokList, tokens};
+pub use place::{Span, TextFault};
+pub use print::{dec, hex_word};
+
+#[cfg(test)]
+mod tests;
