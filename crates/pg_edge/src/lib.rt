@@ -9,7 +9,8 @@
 //! An implementation may tell its contents to proofs or keep them to itself. Of one that tells, the
 //! contracts speak byte for byte; of the others they bound what comes in and say what is counted.
 //! [`MemShelf`] and [`MemSink`] hold everything in memory and tell it. They fail at the calls that they
-//! were asked to fail at and nowhere else, so that tests can meet every refusal.
+//! were asked to fail at, where a write would pass the room, and where a save names no file, and nowhere
+//! else, so that tests can meet every refusal.
 #![tactic(auto)]
 
 mod count;

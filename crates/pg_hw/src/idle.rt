@@ -27,7 +27,11 @@ pub struct Idle {
 
 impl Idle {
     /// A hardware without cells, on which nothing was done.
-    pub fn new(alloc: Global) -> Idle {
+    pub fn new(alloc: Global) -> Idle
+        ensures cells { result.cells.items ≡ [] }
+        ensures psw { result.psw ≡ record { mode = Mode.S; p = 2; l = 0; b = 0 } }
+        ensures counts { result.counts ≡ record { steps = 0; untrapped = 0; pokes = 0; loads = 0 } }
+    {
         Idle {
             alloc,
             cells: Vec::new(alloc),

@@ -10,7 +10,7 @@ use Rattle.pg_type.specs.Bodies.{MemTrapped, Trapped, Going, body, in_order}
 use Rattle.pg_type.specs.States.{IsState}
 use Rattle.pg_type.specs.Kinds.{course_at}
 use Rattle.pg_type.specs.Examples.{alone, state, rtu, lr, store_mode, store_rel, store_bound, supervisor_load, user_jump, open_lr}
-use Rattle.pg_type.specs.WorkedKinds.{RtuShowsControl, RtuInUserModeDoesNot, RtuBreaksPrivilege, LrBreaksNoPrivilege, StoreModeShowsMode, StoreModeOutsideDoesNot, SupervisorLoadShowsMode, UserJumpShowsMode, UserJumpBreaksPrivilege, StoreRelShowsLocation, StoreRelUserShowsLocation, StoreRelOutsideDoesNot, StoreBoundShowsBound, StoreBoundUserShowsBound, StoreBoundOutsideDoesNot, OpenLrShowsControl, OpenLrOfTheSameDoesNot}
+use Rattle.pg_type.specs.WorkedKinds.{RtuShowsControl, RtuInUserModeDoesNot, RtuBreaksPrivilege, LrBreaksNoPrivilege, StoreModeShowsMode, StoreModeOutsideDoesNot, SupervisorLoadShowsMode, UserJumpShowsMode, UserJumpBreaksPrivilege, StoreRelShowsLocation, StoreRelUserShowsLocation, StoreRelOutsideDoesNot, StoreBoundShowsBound, StoreBoundUserShowsBound, StoreBoundOutsideDoesNot, OpenLrShowsControl, OpenLrOfTheSameDoesNot, StoreRelIsNoUserPair, StoreBoundIsNoUserPair}
 use Rattle.pg_type.proofs.ValueEquations.{value_rules}
 use Rattle.pg_type.proofs.DeedEquations.{deed_rules}
 
@@ -207,20 +207,23 @@ store_rel_user_at_1 = simp (deed_rules, value_rules)
 
 pub store_rel_user_shows_location : StoreRelUserShowsLocation
 unfolding matches
-store_rel_user_shows_location = record {
-  first = four_cells store_rel 0x06000000 0 0 0 U 0 0 3 (lit< tt) (lit< tt) (lit< tt) (lit< tt) (lit< tt) (lit< tt) (lit< tt);
-  second = four_cells store_rel 0 0x06000000 0 0 U 0 1 3 (lit< tt) (lit< tt) (lit< tt) (lit< tt) (lit< tt) (lit< tt) (lit< tt);
-  at_first = refl;
-  at_second = refl;
-  same_size = refl;
-  same_bound = refl;
-  same_mode = refl;
-  same_p = refl;
-  same_window = refl;
-  moved = λ e. cc;
-  done = rw store_rel_user_at_0 (inl tt);
-  differ = rw (store_rel_user_at_0, store_rel_user_at_1) (λ e. cc);
-}
+store_rel_user_shows_location = (
+  record {
+    first = four_cells store_rel 0x06000000 0 0 0 U 0 0 3 (lit< tt) (lit< tt) (lit< tt) (lit< tt) (lit< tt) (lit< tt) (lit< tt);
+    second = four_cells store_rel 0 0x06000000 0 0 U 0 1 3 (lit< tt) (lit< tt) (lit< tt) (lit< tt) (lit< tt) (lit< tt) (lit< tt);
+    at_first = refl;
+    at_second = refl;
+    same_size = refl;
+    same_bound = refl;
+    same_mode = refl;
+    same_p = refl;
+    same_window = refl;
+    moved = λ e. cc;
+    done = rw store_rel_user_at_0 (inl tt);
+    differ = rw (store_rel_user_at_0, store_rel_user_at_1) (λ e. cc);
+  },
+  refl,
+)
 
 -- the same to an address that is not usable: a memory trap at both places
 store_rel_outside_at_0 : course_at (alone store_rel) store_rel (state (0x060000ff ∷ 0 ∷ 0 ∷ 0 ∷ []) S 0 0 3) ≡ MemTrapped
@@ -274,19 +277,22 @@ store_bound_user_5 = simp (deed_rules, value_rules)
 
 pub store_bound_user_shows_bound : StoreBoundUserShowsBound
 unfolding matches
-store_bound_user_shows_bound = record {
-  first = four_cells store_bound 0 0 0x06000000 0 U 2 0 4 (lit< tt) (lit< tt) (lit< tt) (lit< tt) (lit< tt) (lit< tt) (lit< tt);
-  second = four_cells store_bound 0 0 0x06000000 0 U 2 0 5 (lit< tt) (lit< tt) (lit< tt) (lit< tt) (lit< tt) (lit< tt) (lit< tt);
-  at_first = refl;
-  at_second = refl;
-  same_l = refl;
-  same_mode = refl;
-  same_p = refl;
-  same_window = refl;
-  other_bound = λ e. cc;
-  done = rw store_bound_user_4 (inl tt);
-  differ = rw (store_bound_user_4, store_bound_user_5) (λ e. cc);
-}
+store_bound_user_shows_bound = (
+  record {
+    first = four_cells store_bound 0 0 0x06000000 0 U 2 0 4 (lit< tt) (lit< tt) (lit< tt) (lit< tt) (lit< tt) (lit< tt) (lit< tt);
+    second = four_cells store_bound 0 0 0x06000000 0 U 2 0 5 (lit< tt) (lit< tt) (lit< tt) (lit< tt) (lit< tt) (lit< tt) (lit< tt);
+    at_first = refl;
+    at_second = refl;
+    same_l = refl;
+    same_mode = refl;
+    same_p = refl;
+    same_window = refl;
+    other_bound = λ e. cc;
+    done = rw store_bound_user_4 (inl tt);
+    differ = rw (store_bound_user_4, store_bound_user_5) (λ e. cc);
+  },
+  refl,
+)
 
 -- the same to an address that is not usable: a memory trap under both
 store_bound_outside_4 : course_at (alone store_bound) store_bound (state (0 ∷ 0 ∷ 0x060000ff ∷ 0 ∷ []) S 2 0 4) ≡ MemTrapped
@@ -311,12 +317,21 @@ open_lr_keeps = simp (deed_rules, value_rules)
 
 pub open_lr_shows_control : OpenLrShowsControl
 unfolding matches
-open_lr_shows_control = record {
-  state = four_cells open_lr 0 0 0x04000002 0 U 2 0 4 (lit< tt) (lit< tt) (lit< tt) (lit< tt) (lit< tt) (lit< tt) (lit< tt);
-  same = refl;
-  at = refl;
-  changes = rw open_lr_changes (inr (inr (λ e. cc)));
-}
+open_lr_shows_control = (
+  record {
+    state = four_cells open_lr 0 0 0x04000002 0 U 2 0 4 (lit< tt) (lit< tt) (lit< tt) (lit< tt) (lit< tt) (lit< tt) (lit< tt);
+    same = refl;
+    at = refl;
+    changes = rw open_lr_changes (inr (inr (λ e. cc)));
+  },
+  refl,
+)
 
 pub open_lr_of_the_same_does_not : OpenLrOfTheSameDoesNot
-open_lr_of_the_same_does_not h = no_change U 0 4 (rw open_lr_keeps at h.changes)
+open_lr_of_the_same_does_not h = no_change U 0 4 (rw open_lr_keeps at h.0.changes)
+
+pub store_rel_is_no_user_pair : StoreRelIsNoUserPair
+store_rel_is_no_user_pair h = cc (h.1)
+
+pub store_bound_is_no_user_pair : StoreBoundIsNoUserPair
+store_bound_is_no_user_pair h = cc (h.1)

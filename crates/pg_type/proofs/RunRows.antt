@@ -1,12 +1,13 @@
 -- Runs of bare machines, worked out.
-use Rattle.std.proofs.Common.{◌≡◌, refl, ap, ◌∙◌, sym}
+use Rattle.std.proofs.Common.{◌≡◌, [], ◌∷◌, replicate, refl, ap, ◌∙◌, sym}
 use Rattle.pg_type.specs.Patterns.{matches, matching, run_length, field_of_letter}
 use Rattle.pg_type.specs.Values.{let_value}
 use Rattle.pg_type.specs.Bodies.{body, in_order}
 use Rattle.pg_type.specs.Steps.{step, steps, ending, power_on, bare}
-use Rattle.pg_type.specs.Examples.{m0}
-use Rattle.pg_type.specs.WorkedRuns.{window_image, window_after, loop_image, loop_after, NoPattern, NoWindow, PastStorage, LastUsable, FirstPastBound, FirstPastSize, RunsPastWindow, DoublesInALoop, WindowOfOneCell, NoPatternCause, MemoryTrapCause, TrapCause, WidensAndShifts}
-use Rattle.pg_type.proofs.StepLaws.{steps-add, steps-around}
+use Rattle.pg_word.specs.declared.psw.Mode.TheVariants.{S}
+use Rattle.pg_type.specs.Examples.{m0, m0_causes, state}
+use Rattle.pg_type.specs.WorkedRuns.{window_image, window_after, loop_image, loop_after, NoPattern, NoWindow, PastStorage, LastUsable, FirstPastBound, FirstPastSize, RunsPastWindow, DoublesInALoop, WindowOfOneCell, NoPatternCause, MemoryTrapCause, TrapCause, TrapsForEver, WidensAndShifts}
+use Rattle.pg_type.proofs.StepLaws.{steps-add, steps-around, steps-stay}
 use Rattle.pg_type.proofs.ValueEquations.{value_rules}
 use Rattle.pg_type.proofs.DeedEquations.{deed_rules}
 
@@ -77,3 +78,17 @@ trap_cause = simp (deed_rules, value_rules)
 pub widens_and_shifts : WidensAndShifts
 unfolding bare power_on steps step ending matching matches body in_order run_length field_of_letter let_value
 widens_and_shifts = simp (deed_rules, value_rules)
+
+trapped_once : step m0_causes (state (0x02000000 ∷ replicate 7 0) S 0 0 0) ≡ state (0x02000000 ∷ replicate 7 0) S 0 0 0
+unfolding step ending
+trapped_once = refl
+
+trapped_twice : steps m0_causes 2 (power_on [] 8) ≡ state (0x02000000 ∷ replicate 7 0) S 0 0 0
+unfolding steps step ending power_on matching matches
+trapped_twice = refl
+
+pub traps_for_ever : TrapsForEver
+unfolding bare
+traps_for_ever =
+    sym (steps-add m0_causes 2 999998 (power_on [] 8)) ∙ ap (steps m0_causes 999998) trapped_twice
+    ∙ steps-stay m0_causes 999998 (state (0x02000000 ∷ replicate 7 0) S 0 0 0) trapped_once

@@ -41,7 +41,7 @@ pub record IsInnocuous (d : Desc) (i : Instr) : Type 0 where
 abbrev pub IsAccepted : Desc → Type 0
 IsAccepted d = All (λ i. IsPrivileged d i ⊎ IsInnocuous d i) d.instrs
 
--- *UserSensitive* (section 6 of the paper, user sensitive): the same kinds, shown by user states alone
+-- *UserSensitive* (the paper on hybrid virtual machines, user sensitive): the same kinds, shown by user states alone
 abbrev pub UserControlSensitive : Desc → Instr → Type 0
 UserControlSensitive d i = (s : State) × (t : State) × ShowsControl d i s t × (s.psw.mode ≡ U)
 

@@ -1,4 +1,4 @@
--- Privileged and sensitive instructions (sections 3 and 4 of the paper), read with a trap of any kind for a memory trap,
+-- Privileged and sensitive instructions (section 3 of the paper), read with a trap of any kind for a memory trap,
 -- with a trap and no trap as different, and over the machines of every size from 2 to q.
 use Rattle.std.specs.Prelude.{◌≡◌, ◌≢◌, ◌⊎◌, ℕ, List, length, Option, None, Some, slice_get, IsSomeAnd, IsTrue}
 use Rattle.pg_word.specs.declared.psw.Psw.{Psw}

@@ -9,6 +9,6 @@ use Rattle.pg_type.specs.Valid.{fault_of}
 abbrev pub IsFaultOf : Option TypeFault → TypeFault → Type 0
 IsFaultOf due fault = (fault ≡ Memory) ⊎ (due ≡ Some fault)
 
--- *Fault*: the fault of the first class that has one, unless memory was refused
+-- the fault of the first class that has one, unless memory was refused
 abbrev pub IsFault : Desc → TypeFault → Type 0
 IsFault d fault = IsFaultOf (fault_of d) fault

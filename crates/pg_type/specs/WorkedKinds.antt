@@ -1,57 +1,65 @@
 -- For each kind a pair of states that shows it, and a near pair that does not: each is a law of the crate.
 use Rattle.std.specs.Prelude.{[], ◌∷◌}
 use Rattle.pg_word.specs.declared.psw.Mode.TheVariants.{S, U}
-use Rattle.pg_type.specs.Kinds.{BreaksPrivilege, ShowsControl, ShowsMode, ShowsLocation, ShowsBound}
+use Rattle.pg_type.specs.declared.kind.Kind.TheVariants.{Privileged, Control, ModeDep, Location, Bound, UControl, ULocation, UBound}
+use Rattle.pg_type.specs.Kinds.{Shows}
 use Rattle.pg_type.specs.Examples.{alone, state, rtu, lr, store_mode, store_rel, store_bound, supervisor_load, user_jump, open_lr}
 
 abbrev pub RtuShowsControl : Type 0
-RtuShowsControl = ShowsControl (alone rtu) rtu (state (0 ∷ 0 ∷ 0x05000000 ∷ 0 ∷ []) S 2 0 4) (state (0 ∷ 0 ∷ 0x05000000 ∷ 0 ∷ []) S 2 0 4)
+RtuShowsControl = Shows (alone rtu) rtu Control (state (0 ∷ 0 ∷ 0x05000000 ∷ 0 ∷ []) S 2 0 4) (state (0 ∷ 0 ∷ 0x05000000 ∷ 0 ∷ []) S 2 0 4)
 
 abbrev pub RtuInUserModeDoesNot : Type 0
-RtuInUserModeDoesNot = ¬ ShowsControl (alone rtu) rtu (state (0 ∷ 0 ∷ 0x05000000 ∷ 0 ∷ []) U 2 0 4) (state (0 ∷ 0 ∷ 0x05000000 ∷ 0 ∷ []) U 2 0 4)
+RtuInUserModeDoesNot = ¬ Shows (alone rtu) rtu Control (state (0 ∷ 0 ∷ 0x05000000 ∷ 0 ∷ []) U 2 0 4) (state (0 ∷ 0 ∷ 0x05000000 ∷ 0 ∷ []) U 2 0 4)
 
 -- the pair of that state and the same in user mode: the user one is done
 abbrev pub RtuBreaksPrivilege : Type 0
-RtuBreaksPrivilege = BreaksPrivilege (alone rtu) rtu (state (0 ∷ 0 ∷ 0x05000000 ∷ 0 ∷ []) S 2 0 4) (state (0 ∷ 0 ∷ 0x05000000 ∷ 0 ∷ []) U 2 0 4)
+RtuBreaksPrivilege = Shows (alone rtu) rtu Privileged (state (0 ∷ 0 ∷ 0x05000000 ∷ 0 ∷ []) S 2 0 4) (state (0 ∷ 0 ∷ 0x05000000 ∷ 0 ∷ []) U 2 0 4)
 
 abbrev pub LrBreaksNoPrivilege : Type 0
-LrBreaksNoPrivilege = ¬ BreaksPrivilege (alone lr) lr (state (0 ∷ 0 ∷ 0x04000004 ∷ 0 ∷ []) S 2 0 4) (state (0 ∷ 0 ∷ 0x04000004 ∷ 0 ∷ []) U 2 0 4)
+LrBreaksNoPrivilege = ¬ Shows (alone lr) lr Privileged (state (0 ∷ 0 ∷ 0x04000004 ∷ 0 ∷ []) S 2 0 4) (state (0 ∷ 0 ∷ 0x04000004 ∷ 0 ∷ []) U 2 0 4)
 
 abbrev pub StoreModeShowsMode : Type 0
-StoreModeShowsMode = ShowsMode (alone store_mode) store_mode (state (0 ∷ 0 ∷ 0x06000000 ∷ 0 ∷ []) S 2 0 4) (state (0 ∷ 0 ∷ 0x06000000 ∷ 0 ∷ []) U 2 0 4)
+StoreModeShowsMode = Shows (alone store_mode) store_mode ModeDep (state (0 ∷ 0 ∷ 0x06000000 ∷ 0 ∷ []) S 2 0 4) (state (0 ∷ 0 ∷ 0x06000000 ∷ 0 ∷ []) U 2 0 4)
 
 abbrev pub StoreModeOutsideDoesNot : Type 0
-StoreModeOutsideDoesNot = ¬ ShowsMode (alone store_mode) store_mode (state (0 ∷ 0 ∷ 0x060000ff ∷ 0 ∷ []) S 2 0 4) (state (0 ∷ 0 ∷ 0x060000ff ∷ 0 ∷ []) U 2 0 4)
+StoreModeOutsideDoesNot = ¬ Shows (alone store_mode) store_mode ModeDep (state (0 ∷ 0 ∷ 0x060000ff ∷ 0 ∷ []) S 2 0 4) (state (0 ∷ 0 ∷ 0x060000ff ∷ 0 ∷ []) U 2 0 4)
 
 abbrev pub SupervisorLoadShowsMode : Type 0
-SupervisorLoadShowsMode = ShowsMode (alone supervisor_load) supervisor_load (state (0 ∷ 0 ∷ 0x060000ff ∷ 0 ∷ []) S 2 0 4) (state (0 ∷ 0 ∷ 0x060000ff ∷ 0 ∷ []) U 2 0 4)
+SupervisorLoadShowsMode = Shows (alone supervisor_load) supervisor_load ModeDep (state (0 ∷ 0 ∷ 0x060000ff ∷ 0 ∷ []) S 2 0 4) (state (0 ∷ 0 ∷ 0x060000ff ∷ 0 ∷ []) U 2 0 4)
 
 abbrev pub UserJumpShowsMode : Type 0
-UserJumpShowsMode = ShowsMode (alone user_jump) user_jump (state (0 ∷ 0 ∷ 0x06000000 ∷ 0 ∷ []) S 2 0 4) (state (0 ∷ 0 ∷ 0x06000000 ∷ 0 ∷ []) U 2 0 4)
+UserJumpShowsMode = Shows (alone user_jump) user_jump ModeDep (state (0 ∷ 0 ∷ 0x06000000 ∷ 0 ∷ []) S 2 0 4) (state (0 ∷ 0 ∷ 0x06000000 ∷ 0 ∷ []) U 2 0 4)
 
 abbrev pub UserJumpBreaksPrivilege : Type 0
-UserJumpBreaksPrivilege = BreaksPrivilege (alone user_jump) user_jump (state (0 ∷ 0 ∷ 0x06000000 ∷ 0 ∷ []) S 2 0 4) (state (0 ∷ 0 ∷ 0x06000000 ∷ 0 ∷ []) U 2 0 4)
+UserJumpBreaksPrivilege = Shows (alone user_jump) user_jump Privileged (state (0 ∷ 0 ∷ 0x06000000 ∷ 0 ∷ []) S 2 0 4) (state (0 ∷ 0 ∷ 0x06000000 ∷ 0 ∷ []) U 2 0 4)
 
 abbrev pub StoreRelShowsLocation : Type 0
-StoreRelShowsLocation = ShowsLocation (alone store_rel) store_rel (state (0x06000000 ∷ 0 ∷ 0 ∷ 0 ∷ []) S 0 0 3) (state (0 ∷ 0x06000000 ∷ 0 ∷ 0 ∷ []) S 0 1 3)
+StoreRelShowsLocation = Shows (alone store_rel) store_rel Location (state (0x06000000 ∷ 0 ∷ 0 ∷ 0 ∷ []) S 0 0 3) (state (0 ∷ 0x06000000 ∷ 0 ∷ 0 ∷ []) S 0 1 3)
 
 abbrev pub StoreRelUserShowsLocation : Type 0
-StoreRelUserShowsLocation = ShowsLocation (alone store_rel) store_rel (state (0x06000000 ∷ 0 ∷ 0 ∷ 0 ∷ []) U 0 0 3) (state (0 ∷ 0x06000000 ∷ 0 ∷ 0 ∷ []) U 0 1 3)
+StoreRelUserShowsLocation = Shows (alone store_rel) store_rel ULocation (state (0x06000000 ∷ 0 ∷ 0 ∷ 0 ∷ []) U 0 0 3) (state (0 ∷ 0x06000000 ∷ 0 ∷ 0 ∷ []) U 0 1 3)
 
 abbrev pub StoreRelOutsideDoesNot : Type 0
-StoreRelOutsideDoesNot = ¬ ShowsLocation (alone store_rel) store_rel (state (0x060000ff ∷ 0 ∷ 0 ∷ 0 ∷ []) S 0 0 3) (state (0 ∷ 0x060000ff ∷ 0 ∷ 0 ∷ []) S 0 1 3)
+StoreRelOutsideDoesNot = ¬ Shows (alone store_rel) store_rel Location (state (0x060000ff ∷ 0 ∷ 0 ∷ 0 ∷ []) S 0 0 3) (state (0 ∷ 0x060000ff ∷ 0 ∷ 0 ∷ []) S 0 1 3)
 
 abbrev pub StoreBoundShowsBound : Type 0
-StoreBoundShowsBound = ShowsBound (alone store_bound) store_bound (state (0 ∷ 0 ∷ 0x06000000 ∷ 0 ∷ []) S 2 0 4) (state (0 ∷ 0 ∷ 0x06000000 ∷ 0 ∷ []) S 2 0 5)
+StoreBoundShowsBound = Shows (alone store_bound) store_bound Bound (state (0 ∷ 0 ∷ 0x06000000 ∷ 0 ∷ []) S 2 0 4) (state (0 ∷ 0 ∷ 0x06000000 ∷ 0 ∷ []) S 2 0 5)
 
 abbrev pub StoreBoundUserShowsBound : Type 0
-StoreBoundUserShowsBound = ShowsBound (alone store_bound) store_bound (state (0 ∷ 0 ∷ 0x06000000 ∷ 0 ∷ []) U 2 0 4) (state (0 ∷ 0 ∷ 0x06000000 ∷ 0 ∷ []) U 2 0 5)
+StoreBoundUserShowsBound = Shows (alone store_bound) store_bound UBound (state (0 ∷ 0 ∷ 0x06000000 ∷ 0 ∷ []) U 2 0 4) (state (0 ∷ 0 ∷ 0x06000000 ∷ 0 ∷ []) U 2 0 5)
 
 abbrev pub StoreBoundOutsideDoesNot : Type 0
-StoreBoundOutsideDoesNot = ¬ ShowsBound (alone store_bound) store_bound (state (0 ∷ 0 ∷ 0x060000ff ∷ 0 ∷ []) S 2 0 4) (state (0 ∷ 0 ∷ 0x060000ff ∷ 0 ∷ []) S 2 0 5)
+StoreBoundOutsideDoesNot = ¬ Shows (alone store_bound) store_bound Bound (state (0 ∷ 0 ∷ 0x060000ff ∷ 0 ∷ []) S 2 0 4) (state (0 ∷ 0 ∷ 0x060000ff ∷ 0 ∷ []) S 2 0 5)
 
 abbrev pub OpenLrShowsControl : Type 0
-OpenLrShowsControl = ShowsControl (alone open_lr) open_lr (state (0 ∷ 0 ∷ 0x04000002 ∷ 0 ∷ []) U 2 0 4) (state (0 ∷ 0 ∷ 0x04000002 ∷ 0 ∷ []) U 2 0 4)
+OpenLrShowsControl = Shows (alone open_lr) open_lr UControl (state (0 ∷ 0 ∷ 0x04000002 ∷ 0 ∷ []) U 2 0 4) (state (0 ∷ 0 ∷ 0x04000002 ∷ 0 ∷ []) U 2 0 4)
 
 abbrev pub OpenLrOfTheSameDoesNot : Type 0
-OpenLrOfTheSameDoesNot = ¬ ShowsControl (alone open_lr) open_lr (state (0 ∷ 0 ∷ 0x04000004 ∷ 0 ∷ []) U 2 0 4) (state (0 ∷ 0 ∷ 0x04000004 ∷ 0 ∷ []) U 2 0 4)
+OpenLrOfTheSameDoesNot = ¬ Shows (alone open_lr) open_lr UControl (state (0 ∷ 0 ∷ 0x04000004 ∷ 0 ∷ []) U 2 0 4) (state (0 ∷ 0 ∷ 0x04000004 ∷ 0 ∷ []) U 2 0 4)
+
+-- the pairs in supervisor mode are none of user states
+abbrev pub StoreRelIsNoUserPair : Type 0
+StoreRelIsNoUserPair = ¬ Shows (alone store_rel) store_rel ULocation (state (0x06000000 ∷ 0 ∷ 0 ∷ 0 ∷ []) S 0 0 3) (state (0 ∷ 0x06000000 ∷ 0 ∷ 0 ∷ []) S 0 1 3)
+
+abbrev pub StoreBoundIsNoUserPair : Type 0
+StoreBoundIsNoUserPair = ¬ Shows (alone store_bound) store_bound UBound (state (0 ∷ 0 ∷ 0x06000000 ∷ 0 ∷ []) S 2 0 4) (state (0 ∷ 0 ∷ 0x06000000 ∷ 0 ∷ []) S 2 0 5)

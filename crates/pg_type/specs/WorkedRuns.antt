@@ -68,3 +68,7 @@ TrapCause = bare m0_causes (0 ∷ 0 ∷ 0x03000000 ∷ []) 8 1 ≡ state (0x0402
 -- lets, an else, four bits widened by their top bit, and a shift
 abbrev pub WidensAndShifts : Type 0
 WidensAndShifts = bare (machine (widen ∷ [])) (0 ∷ 0 ∷ 0x09000004 ∷ 0x09000005 ∷ 0x0000000c ∷ 0x00000123 ∷ []) 8 2 ≡ state (0 ∷ 0 ∷ 0x09000004 ∷ 0x09000005 ∷ 0xfffffffc ∷ 0x00001230 ∷ replicate 2 0) S 4 0 8
+
+-- and so on for ever: a million steps of a storage of zeros
+abbrev pub TrapsForEver : Type 0
+TrapsForEver = bare m0_causes [] 8 1000000 ≡ state (0x02000000 ∷ replicate 7 0) S 0 0 0

@@ -5,8 +5,9 @@
 //! asked of an instruction, `PaperWords` the paper's own words, and `Valid` which descriptions are valid, in seven
 //! classes. They compute: `rows` has runs and pairs of states that were worked out by hand.
 //!
-//! `check` tests a description and makes a `Machine` of it, which is valid by its type. Each class of validity has a
-//! module, whose functions are the definitions one for one. `states` says that a valid description's machine never
+//! `check` tests a description and makes a `Machine` of it, which is valid by its type. The seven classes are tested in
+//! `classes`, over `limits`, `twice`, `patterns`, `overlaps`, `scopes` and `widths`, whose functions are the definitions one
+//! for one. `states` says that a valid description's machine never
 //! leaves its states, and `laws` what else follows from the definitions alone. An `Accepted` is a machine whose
 //! instructions are as the monitor of Theorem 1 needs them.
 #![tactic(auto)]
@@ -34,12 +35,8 @@ pub use accepted::{Accepted, HybridAccepted};
 pub use check_desc::check;
 pub use fault::{Limit, TypeFault};
 pub use kind::Kind;
-pub use limits::limit_broken;
 pub use machine::Machine;
-pub use overlaps::{clash, overlap};
-pub use patterns::{Field, field_of, matches, pattern_broken, run_length};
-pub use scopes::name_unknown;
-pub use twice::let_twice_among;
+pub use patterns::{Field, field_of, matches};
 
 #[cfg(test)]
 mod tests;

@@ -1,7 +1,7 @@
 //! Worked runs and worked kinds, as laws: the definitions of this crate, computed on machines of a few instructions.
 
-ghost use Rattle.pg_type.specs.WorkedRuns.{NoPattern, NoWindow, PastStorage, LastUsable, FirstPastBound, FirstPastSize, RunsPastWindow, DoublesInALoop, WindowOfOneCell, NoPatternCause, MemoryTrapCause, TrapCause, WidensAndShifts};
-ghost use Rattle.pg_type.specs.WorkedKinds.{RtuShowsControl, RtuInUserModeDoesNot, RtuBreaksPrivilege, LrBreaksNoPrivilege, StoreModeShowsMode, StoreModeOutsideDoesNot, SupervisorLoadShowsMode, UserJumpShowsMode, UserJumpBreaksPrivilege, StoreRelShowsLocation, StoreRelUserShowsLocation, StoreRelOutsideDoesNot, StoreBoundShowsBound, StoreBoundUserShowsBound, StoreBoundOutsideDoesNot, OpenLrShowsControl, OpenLrOfTheSameDoesNot};
+ghost use Rattle.pg_type.specs.WorkedRuns.{NoPattern, NoWindow, PastStorage, LastUsable, FirstPastBound, FirstPastSize, RunsPastWindow, DoublesInALoop, WindowOfOneCell, NoPatternCause, MemoryTrapCause, TrapCause, TrapsForEver, WidensAndShifts};
+ghost use Rattle.pg_type.specs.WorkedKinds.{RtuShowsControl, RtuInUserModeDoesNot, RtuBreaksPrivilege, LrBreaksNoPrivilege, StoreModeShowsMode, StoreModeOutsideDoesNot, SupervisorLoadShowsMode, UserJumpShowsMode, UserJumpBreaksPrivilege, StoreRelShowsLocation, StoreRelUserShowsLocation, StoreRelOutsideDoesNot, StoreBoundShowsBound, StoreBoundUserShowsBound, StoreBoundOutsideDoesNot, OpenLrShowsControl, OpenLrOfTheSameDoesNot, StoreRelIsNoUserPair, StoreBoundIsNoUserPair};
 
 /// Runs of bare machines, each with the state that it ends in.
 pub fn worked_runs()
@@ -17,6 +17,7 @@ pub fn worked_runs()
     ensures no_pattern_cause { NoPatternCause }
     ensures memory_trap_cause { MemoryTrapCause }
     ensures trap_cause { TrapCause }
+    ensures traps_for_ever { TrapsForEver }
     ensures widens_and_shifts { WidensAndShifts }
 {}
 
@@ -39,4 +40,6 @@ pub fn worked_kinds()
     ensures store_bound_outside_does_not { StoreBoundOutsideDoesNot }
     ensures open_lr_shows_control { OpenLrShowsControl }
     ensures open_lr_of_the_same_does_not { OpenLrOfTheSameDoesNot }
+    ensures store_rel_is_no_user_pair { StoreRelIsNoUserPair }
+    ensures store_bound_is_no_user_pair { StoreBoundIsNoUserPair }
 {}

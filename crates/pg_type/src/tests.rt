@@ -1,19 +1,21 @@
 //! Each class of validity with its fault, worked out by hand.
 
-ghost use Rattle.std.specs.Prelude.{IsTrue};
+ghost use Rattle.std.specs.Prelude.{◌≡◌, [], IsTrue};
 ghost use Rattle.std.specs.List.{list_all};
 ghost use Rattle.pg_token.specs.Words.{is_name, is_pattern_byte};
 
 mod bodies;
 
-use crate::{Limit, TypeFault, check};
+use crate::{Accepted, HybridAccepted, Limit, TypeFault, check, field_of, matches};
 use pg_ast::{Desc, Instr, Name, PatternText};
 use sqlite_items::Items;
 use std::alloc::{AllocError, Global};
 use std::test::Fail;
 
 /// A description with no instruction.
-fn head(alloc: Global, word: u64, address: u64, size: u64, causes: bool) -> Desc {
+fn head(alloc: Global, word: u64, address: u64, size: u64, causes: bool) -> Desc
+    ensures { result.instrs ≡ [] }
+{
     Desc {
         word,
         address,
@@ -88,6 +90,9 @@ fn finds_instructions(rt: HostRuntime) -> Result<(), Fail> {
     assert_eq!(rt; machine.find("SUB"), Some(1));
     assert_eq!(rt; machine.find("ADD"), Some(0));
     assert_eq!(rt; machine.find("add"), None);
+    assert_eq!(rt; machine.name(1), b"SUB".as_slice());
+    assert_eq!(rt; machine.shape().w, 16);
+    assert_eq!(rt; machine.shape().q, 8);
     Ok(())
 }
 
@@ -148,5 +153,28 @@ fn holds_256_instructions(rt: HostRuntime) -> Result<(), Fail> {
             Err((_, TypeFault::Limit(Limit::Instructions, 256)))
         )
     );
+    Ok(())
+}
+
+#[test]
+fn reads_patterns(rt: HostRuntime) -> Result<(), Fail> {
+    assert!(rt; matches(b"01..aab1", 0b0110_1011));
+    assert!(rt; !matches(b"01..aab1", 0b0110_1010));
+    let field = field_of(b"01..aab1", b"a").ok_or("a field")?;
+    assert_eq!(rt; (field.width, field.low), (2, 2));
+    assert!(rt; field_of(b"01..aab1", b"c").is_none());
+    assert!(rt; field_of(b"01..aab1", b"aa").is_none());
+    Ok(())
+}
+
+#[test]
+fn a_machine_without_instructions_is_accepted(rt: HostRuntime) -> Result<(), Fail> {
+    let alloc = rt.alloc();
+    let machine = match check(alloc, head(alloc, 16, 4, 8, false)) {
+        Ok(machine) => machine,
+        Err(_) => return Err("valid".into()),
+    };
+    assert_eq!(rt; Accepted::of(&machine).machine().count(), 0);
+    assert_eq!(rt; HybridAccepted::of(&machine).machine().count(), 0);
     Ok(())
 }
