@@ -1,0 +1,38 @@
+//! What is wrong with an image.
+
+ghost use Rattle.std.specs.Prelude.{◌≡◌};
+ghost use Rattle.pg_image.specs.declared.fault.ImageFault.TheVariants.{Memory};
+
+use std::alloc::AllocError;
+use thiserror::Error;
+
+/// Why the bytes of an image gave no image: its first fault, or want of memory. Lines are numbered from 1.
+#[derive(Debug, PartialEq, Eq, Drop, Error)]
+pub enum ImageFault {
+    /// More than 33,554,432 bytes.
+    #[error("more than 33554432 bytes")]
+    Long,
+    /// A byte that may not stand in an image, at this place, counted from 0.
+    #[error("bad byte at {0}")]
+    Token(usize),
+    /// This line is no address with words behind it.
+    #[error("line {0} is not an address and words")]
+    Grammar(usize),
+    /// A word of this line would stand at or past the size.
+    #[error("line {0} passes the size")]
+    Address(usize),
+    /// A cell of this line was given by an earlier one.
+    #[error("line {0} gives a cell again")]
+    Overlap(usize),
+    /// Memory ran out. It says nothing of the bytes.
+    #[error("out of memory")]
+    Memory,
+}
+
+impl From<AllocError> for ImageFault {
+    ghost from_gives = { λ _ fault. fault ≡ Memory };
+
+    fn from(_error: AllocError) -> ImageFault {
+        ImageFault::Memory
+    }
+}

@@ -1,0 +1,145 @@
+//! What one line of an image says.
+//!
+//! A line has no part and says nothing, or its parts are an address and words and make a row, or it is of another form.
+//! A row is not copied out: its words stay text, of which it is known that each part is a word, and how many there are.
+
+ghost use Rattle.std.specs.Prelude.{◌≡◌, ◌+◌, ◌*◌, ◌/◌, ◌%◌, ◌^◌, ◌<◌, ◌≤◌, ◌==◌, ◌&&◌, length, All, IsTrue, if◌then◌else◌, Some, None};
+ghost use Rattle.std.specs.List.{list_all};
+ghost use Rattle.std.specs.Char.{digit_value, is_ascii_digit, is_ascii_hexdigit};
+ghost use Rattle.std.specs.Str.Parse.{digits_value};
+ghost use Rattle.pg_image.specs.Images.{content, parts_of, is_address, address_digits, is_word};
+ghost use Rattle.pg_image.specs.Forms.{IsForm};
+
+use crate::cutting::{content, split_part};
+
+/// The row of a line: the first cell that it gives, how many cells it gives, and the text of its words.
+#[derive(Drop)]
+pub struct RowText<'a> {
+    pub first: usize,
+    pub count: usize,
+    pub words: &'a [u8],
+}
+
+/// What a line says.
+#[derive(Drop)]
+pub enum Form<'a> {
+    /// Nothing: it has no part.
+    Blank,
+    /// A row.
+    Row(RowText<'a>),
+    /// Its parts make no row.
+    Other,
+}
+
+/// The value of a digit up to `z` of either case, and 36 for a byte that is none.
+fn digit_value(byte: u8) -> u8
+    ensures { result ≡ digit_value byte }
+{
+    match byte {
+        b'0'..=b'9' => byte - b'0',
+        b'A'..=b'Z' => byte - b'A' + 10,
+        b'a'..=b'z' => byte - b'a' + 10,
+        _ => 36,
+    }
+}
+
+/// The number that digits of this base write, of which there are few enough that it fits.
+fn number(base: u64, digits: &[u8]) -> u64
+    requires base { 2 ≤ base }
+    requires digits { All (λ c. digit_value c < base) digits.now }
+    requires fits { base ^ length digits.now ≤ 2 ^ 64 }
+    ensures value { result ≡ digits_value base digits.now }
+    ensures below { result < base ^ length digits.now }
+{
+    let mut value = 0u64;
+    for digit in digits {
+        value = value * base + u64::from(digit_value(*digit));
+    }
+    value
+}
+
+/// Decimal digits alone.
+fn are_digits(text: &[u8]) -> bool
+    ensures { result ≡ list_all is_ascii_digit text.now }
+{
+    text.iter().all(|byte| byte.is_ascii_digit())
+}
+
+/// Hexadecimal digits of either case alone.
+fn are_hex_digits(text: &[u8]) -> bool
+    ensures { result ≡ list_all is_ascii_hexdigit text.now }
+{
+    text.iter().all(|byte| byte.is_ascii_hexdigit())
+}
+
+/// Whether a part is an address: 1 to 7 decimal digits, and a colon behind them.
+#[tactic(auto, unfolding(crate::specs::Images::is_address))]
+fn is_address(part: &[u8]) -> bool
+    ensures { result ≡ is_address part.now }
+{
+    match part {
+        [digits @ .., b':'] => !digits.is_empty() && digits.len() <= 7 && are_digits(digits),
+        _ => false,
+    }
+}
+
+/// The number of an address.
+fn address(part: &[u8]) -> usize
+    requires { IsTrue (is_address part.now) }
+    ensures { result ≡ digits_value 10 (address_digits part.now) }
+{
+    let digits = &part[..part.len() - 1];
+    number(10, digits) as usize
+}
+
+/// Whether a part is a word of `w` bits: `w / 4` hexadecimal digits.
+#[tactic(auto, unfolding(crate::specs::Images::is_word))]
+fn is_word(w: u32, part: &[u8]) -> bool
+    ensures { result ≡ is_word w part.now }
+{
+    part.len() == (w / 4) as usize && are_hex_digits(part)
+}
+
+/// The value of a word of `w` bits.
+pub fn word(w: u32, part: &[u8]) -> u64
+    requires bytes { w % 8 ≡ 0 }
+    requires most { w ≤ 64 }
+    requires word { IsTrue (is_word w part.now) }
+    ensures value { result ≡ digits_value 16 part.now }
+    ensures fits { result < 2 ^ w }
+{
+    number(16, part)
+}
+
+/// How many parts there are, where each of them is a word.
+fn count_words(w: u32, text: &[u8]) -> Option<usize>
+    ensures { result ≡ (if list_all (is_word w) (parts_of text.now) then Some (length (parts_of text.now)) else None) }
+{
+    let mut count = 0usize;
+    let mut left = text;
+    while let Some((part, rest)) = split_part(left) {
+        if !is_word(w, part) {
+            return None;
+        }
+        count += 1;
+        left = rest;
+    }
+    Some(count)
+}
+
+/// What a line says.
+pub fn form_of(w: u32, line: &[u8]) -> Form<'_>
+    ensures { IsForm w (parts_of (content line.now)) result }
+{
+    match split_part(content(line)) {
+        None => Form::Blank,
+        Some((head, words)) => match count_words(w, words) {
+            Some(count) if count > 0 && is_address(head) => Form::Row(RowText {
+                first: address(head),
+                count,
+                words,
+            }),
+            _ => Form::Other,
+        },
+    }
+}
