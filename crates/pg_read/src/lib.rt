@@ -1,0 +1,30 @@
+//! The reader of descriptions.
+//!
+//! `read_desc` makes a tree of the bytes of a description. What it answers is the only answer that the text allows: a
+//! description exactly where the text's tokens are that description's, and a fault exactly where it has that cause
+//! (`specs/Answer.antt`). The language is the one that `tokens_of` of `pg_ast` writes.
+//!
+//! A text of any kind is safe to read. It has at most `TEXT_LIMIT` bytes, expressions are read down to 32 levels and blocks
+//! down to 16, so that no text makes the reader recurse further, and its time grows with the bytes alone. What is read
+//! owns its memory, and nothing of the text is kept.
+//!
+//! - `fault`: why there is no description.
+//! - `cursor`: the tokens that are left, and the small steps over them.
+//! - `words`: the words that begin expressions and statements.
+//! - `exprs`, `stmts`, `instrs`: each form of the language, one function for each definition of `specs/`, which are the
+//!   readers of `pg_ast` step by step.
+//! - `whole`: the text.
+#![tactic(auto)]
+
+mod cursor;
+mod exprs;
+mod fault;
+mod instrs;
+mod stmts;
+#[cfg(test)]
+mod tests;
+mod whole;
+mod words;
+
+pub use fault::DescFault;
+pub use whole::{TEXT_LIMIT, read_desc};
