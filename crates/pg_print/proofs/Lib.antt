@@ -1,0 +1,5 @@
+pub mod Laying
+pub mod Listing
+pub mod Pieces
+pub mod ReadsBack
+pub mod Spelt

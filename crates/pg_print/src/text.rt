@@ -1,0 +1,23 @@
+//! A description as text.
+
+ghost use Rattle.std.specs.Prelude.{◌≡◌, Some, IfOk};
+ghost use Rattle.pg_ast.specs.Tokens.{tokens_of};
+ghost use Rattle.pg_text.specs.Cutting.{tokens_in};
+ghost use Rattle.pg_print.specs.Layout.{printed};
+
+use crate::lines::layout;
+use crate::tokens::desc_tokens;
+use pg_ast::Desc;
+use std::alloc::{AllocError, Global};
+
+/// The text of a description. `AllocError` comes where an allocation fails, and from nothing else.
+#[tactic(auto, using(crate::proofs::ReadsBack::reads_back), unfolding(crate::specs::Layout::printed))]
+pub fn print(alloc: Global, desc: &Desc) -> Result<Vec<u8>, AllocError>
+    ensures text { IfOk result (λ text. text.items ≡ printed desc.now) }
+
+    // It reads as the description.
+    ensures reads { IfOk result (λ text. tokens_in text.items ≡ Some (tokens_of desc.now)) }
+{
+    let toks = desc_tokens(alloc, desc)?;
+    layout(alloc, toks.as_slice())
+}
