@@ -19,6 +19,8 @@ mod lets;
 mod numbers;
 mod overlay;
 mod run;
+#[cfg(test)]
+mod tests;
 mod values;
 
 pub use cells::Cells;

@@ -15,7 +15,7 @@ use crate::numbers::{
     Number, choose, complement, cut, join, mode_number, operate, sign_widen, widen,
 };
 use pg_ast::Expr;
-use pg_type::{Field, field_of};
+use pg_type::Field;
 use pg_word::bits;
 
 /// The bits of the fetched word that stand in a field, which lies within 64 bits.
@@ -34,7 +34,7 @@ fn field_number(word: u64, field: Field) -> Number
 fn name_number(at: &Entry<'_>, lets: &Lets<'_>, name: &[u8]) -> Number
     ensures { bits_as result ≡ name_value (entry_as at.now) lets.now name.now }
 {
-    match field_of(at.pattern, name) {
+    match at.decoder.field(at.pattern, name) {
         None => lets.number(name),
         Some(field) => field_number(at.word, field),
     }
@@ -59,12 +59,17 @@ fn load<C: Cells>(at: &Entry<'_>, cells: &C, address: Option<Number>) -> Option<
 
 /// The number of an expression that keeps to the table of widths; `None` where an address in it is outside the window.
 #[cycle(value)]
+#[tactic(auto, using(pg_type::proofs::ValueEquations::value_rules))]
 pub fn value<C: Cells>(at: &Entry<'_>, lets: &Lets<'_>, cells: &C, expr: &Expr) -> Option<Number>
     requires ready { IsReady (entry_as at.now) lets.now (C.window cells.now) }
     requires typed { IsTyped (entry_as at.now) lets.now expr.now }
     ensures value { numbers_as result ≡ value expr.now (entry_as at.now) lets.now (C.window cells.now) }
     ensures width { OnNumber (entry_as at.now) lets.now expr.now result }
 {
+    // names are the most, and a frame with a place for each part costs more than they do
+    if let Expr::Name(name) = expr {
+        return Some(name_number(at, lets, name.as_bytes()));
+    }
     form(at, lets, cells, expr)
 }
 

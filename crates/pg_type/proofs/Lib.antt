@@ -19,3 +19,4 @@ pub mod FaultLemmas
 pub mod TableLemmas
 pub mod ShapeLemmas
 pub mod PatternLemmas
+pub mod DecoderLemmas

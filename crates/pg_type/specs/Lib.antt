@@ -17,6 +17,7 @@ pub mod WorkedRuns
 pub mod WorkedKinds
 pub mod Typed
 pub mod Fields
+pub mod Decoders
 pub mod Counted
 pub mod Fares
 pub mod Verdicts

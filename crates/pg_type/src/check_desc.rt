@@ -10,6 +10,7 @@ use crate::classes::{
     test_limits, test_names_known, test_names_once, test_overlaps, test_patterns, test_shape,
     test_widths,
 };
+use crate::decoder::decoders_of;
 use crate::fault::TypeFault;
 use crate::machine::Machine;
 use crate::table::NameTable;
@@ -63,6 +64,9 @@ pub fn check(alloc: Global, desc: Desc) -> Result<Machine, (Desc, TypeFault)>
 {
     match test_all(alloc, &desc) {
         Err(fault) => Err((desc, fault)),
-        Ok(names) => Ok(Machine::of(desc, names)),
+        Ok(names) => match decoders_of(alloc, desc.instrs.as_slice()) {
+            Err(_) => Err((desc, TypeFault::Memory)),
+            Ok(decoders) => Ok(Machine::of(desc, names, decoders)),
+        },
     }
 }

@@ -15,6 +15,7 @@
 mod accepted;
 mod check_desc;
 mod classes;
+mod decoder;
 mod fault;
 mod kind;
 pub mod laws;
@@ -33,6 +34,7 @@ mod widths;
 
 pub use accepted::{Accepted, HybridAccepted};
 pub use check_desc::check;
+pub use decoder::Decoder;
 pub use fault::{Limit, TypeFault};
 pub use kind::Kind;
 pub use machine::Machine;

@@ -68,7 +68,7 @@ pub fn run_length(letter: u8, pattern: &[u8]) -> usize
 
 /// The field of a letter: the run in which it first stands.
 #[tactic(auto, unfolding(crate::specs::Patterns::field_of_letter))]
-fn field_of_letter(letter: u8, pattern: &[u8]) -> Option<Field>
+pub fn field_of_letter(letter: u8, pattern: &[u8]) -> Option<Field>
     ensures { fields_as result ≡ field_of_letter letter pattern.now }
 {
     let mut left = pattern;

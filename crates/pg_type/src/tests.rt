@@ -6,7 +6,7 @@ ghost use Rattle.pg_token.specs.Words.{is_name, is_pattern_byte};
 
 mod bodies;
 
-use crate::{Accepted, HybridAccepted, Limit, TypeFault, check, field_of, matches};
+use crate::{Accepted, Decoder, HybridAccepted, Limit, TypeFault, check, field_of, matches};
 use pg_ast::{Desc, Instr, Name, PatternText};
 use sqlite_items::Items;
 use std::alloc::{AllocError, Global};
@@ -164,6 +164,33 @@ fn reads_patterns(rt: HostRuntime) -> Result<(), Fail> {
     assert_eq!(rt; (field.width, field.low), (2, 2));
     assert!(rt; field_of(b"01..aab1", b"c").is_none());
     assert!(rt; field_of(b"01..aab1", b"aa").is_none());
+    Ok(())
+}
+
+#[test]
+fn looks_fields_up(rt: HostRuntime) -> Result<(), Fail> {
+    let pattern = b"01..aab1";
+    let decoder = Decoder::of(pattern);
+    let field = decoder.field(pattern, b"a").ok_or("a field")?;
+    assert_eq!(rt; (field.width, field.low), (2, 2));
+    assert!(rt; decoder.field(pattern, b"c").is_none());
+    assert!(rt; decoder.field(pattern, b"aa").is_none());
+    Ok(())
+}
+
+#[test]
+fn decodes_words(rt: HostRuntime) -> Result<(), Fail> {
+    let alloc = rt.alloc();
+    let mut desc = head(alloc, 16, 5, 8, false);
+    add(alloc, &mut desc, b"A", b"0000000.aaaabbbb")?;
+    add(alloc, &mut desc, b"B", b"0000001....ccccc")?;
+    let machine = match check(alloc, desc) {
+        Ok(machine) => machine,
+        Err(_) => return Err("valid".into()),
+    };
+    assert_eq!(rt; machine.decode(0b0000_0001_1111_0101), Some(0));
+    assert_eq!(rt; machine.decode(0b0000_0011_1111_0101), Some(1));
+    assert_eq!(rt; machine.decode(0b0100_0011_1111_0101), None);
     Ok(())
 }
 

@@ -1,4 +1,4 @@
-use Rattle.std.proofs.Common.{ℕ, ◌+◌, ◌*◌, drop, map}
+use Rattle.std.proofs.Common.{◌+◌, ◌*◌, drop, map}
 use Rattle.pg_type.specs.Limits.{all_of, stmt_tally}
 use Rattle.pg_interp.specs.EntryView.{entry_as}
 use Rattle.pg_interp.specs.Runs.{OnTheWay}

@@ -1,5 +1,5 @@
-use Rattle.std.proofs.Common.{rules, arith}
-use Rattle.pg_interp.proofs.Typing.{part-load, part-not, part-bin_left, part-bin_right, part-cat_left, part-cat_right, part-cut, part-ext, part-sext, part-sel_test, part-sel_left, part-sel_right, is_number, agrees, joins, cuts, widens-ext, widens-sext, addresses, literal_most, sound, part, known, number_of}
+use Rattle.std.proofs.Common.{Some, rules, arith}
+use Rattle.pg_interp.proofs.Typing.{part-load, part-not, part-bin_left, part-bin_right, part-cat_left, part-cat_right, part-cut, part-ext, part-sext, part-sel_test, part-sel_left, part-sel_right, is_number, agrees, joins, cuts, widens-ext, widens-sext, addresses, literal_most, sound, named, part, known, number_of}
 use Rattle.pg_interp.proofs.values.+value.Goals as goal
 
 pub form-overflow_cast-result : goal.form-overflow_cast-result
@@ -82,3 +82,8 @@ form-value-requires-in-Sel-3 g t c κs within =
 pub value-returns-clause-width : goal.value-returns-clause-width
 value-returns-clause-width g t c =
     sound _ _ _ c.args.expr.now c.form.result c.args.at.now.fits c.requires.ready c.requires.typed c.form.ensures
+
+pub value-returns-in-Name-clause-width : goal.value-returns-in-Name-clause-width
+value-returns-in-Name-clause-width g t c =
+    sound _ _ (g.C.Cells.window c.args.cells.now) c.args.expr.now (Some c.name_number.result) c.args.at.now.fits c.requires.ready c.requires.typed
+    (named _ _ _ c.args.expr.now c.in-Name.name c.name_number.result c.as_bytes.result.now c.in-Name.is c.as_bytes.ensures c.name_number.ensures)

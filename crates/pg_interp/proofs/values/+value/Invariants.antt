@@ -1,4 +1,4 @@
-use Rattle.std.proofs.Common.{ℕ, ◌+◌, ◌*◌}
+use Rattle.std.proofs.Common.{◌+◌, ◌*◌}
 use Rattle.pg_type.specs.Limits.{expr_tally}
 use Rattle.pg_interp.proofs.values.+value.Given as goal
 
