@@ -1,0 +1,4 @@
+pub mod StoreLemmas
+pub mod StepLemmas
+pub mod RunLemmas
+pub mod PokeLemmas
