@@ -1,0 +1,6 @@
+mod AnswerLaws
+mod LeafLaws
+mod LineLaws
+mod NumberLaws
+mod RowLaws
+mod WalkLaws

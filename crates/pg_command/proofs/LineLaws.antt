@@ -1,0 +1,124 @@
+-- What a command of the line holds where its words have no fault.
+use Rattle.std.proofs.Common.{◌≡◌, ◌∷◌, ap, sym, refl, cond, Bool, true, false, true≢false, List, [], Option, Some, None, codes, arith, inl, inr}
+use Rattle.std.specs.Prelude.{find, option_map, pos}
+use Rattle.std.specs.Option.{is_some, option_map_or}
+use Rattle.clap.specs.Walk.{Row, Rule, Text, answers_to, nothing_held, rows_after, stop_after}
+use Rattle.clap.specs.Simple.{App, Shape, argument_words, built, built_leaf, entered, filled, inherited, is_simple, label_of, names_of, rows_at, subcommand_of, with_index}
+use Rattle.clap.specs.Faults.{entered_fault, fault_of, is_simple_and_free, level_fault}
+use Rattle.clap.proofs.OnLiterals.{clap_on_literals}
+use Rattle.clap.proofs.ValueTestLemmas.{accepts-Accepts}
+use Rattle.clap.specs.declared.builder.value_parser.ValueParser.TheVariants as parser
+use Rattle.pg_command.specs.Line as line_spec
+use Rattle.pg_command.specs.Line.{line}
+use Rattle.pg_command.specs.Reads.{HasText, HoldsBare, HoldsCommand, HoldsOne, HoldsPrint}
+use Rattle.pg_command.proofs.RowLaws.{AreSingle}
+use Rattle.pg_command.proofs.LeafLaws.{IsGiven, command_met, leaf_given}
+use Rattle.pg_command.proofs.NumberLaws.{signed_number, unsigned_number}
+
+-- the line is one of which clap's model gives the matches and the faults
+pub line_simple : is_simple_and_free line ≡ true
+unfolding clap_on_literals
+line_simple = refl
+
+pub line_plain : is_simple line ≡ true
+unfolding clap_on_literals
+line_plain = refl
+
+-- ---- bare
+
+-- the command as it is built
+abbrev built_bare : Shape
+built_bare = built_leaf (inherited line_spec.program line_spec.bare)
+
+abbrev desc : Rule
+desc = with_index 1 (filled (line_spec.place (codes "DESC")))
+
+abbrev image : Rule
+image = with_index 2 (filled (line_spec.place (codes "IMAGE")))
+
+abbrev grant : Rule
+grant = filled line_spec.grant
+
+abbrev steps : Rule
+steps = filled line_spec.steps
+
+bare_single : AreSingle built_bare.rules built_bare.rules
+bare_single = (
+  record { own = refl; action = refl; range = refl; defaults = refl },
+  (
+    record { own = refl; action = refl; range = refl; defaults = refl },
+    (
+      record { own = refl; action = refl; range = refl; defaults = refl },
+      (record { own = refl; action = refl; range = refl; defaults = refl }, tt),
+    ),
+  ),
+)
+
+has_text : (a : Rule) (rows : List Row) → IsGiven a rows → HasText a.id rows
+has_text a rows g = ap is_some g.is_first
+
+bare_holds : (words : List Text) → level_fault built_bare [] nothing_held words false [] ≡ [] → HoldsBare (rows_after built_bare.rules [] words)
+bare_holds words none =
+    let given = leaf_given built_bare words bare_single none in
+    let rows = rows_after built_bare.rules [] words in
+    let cells = given grant refl refl in
+    let most = given steps refl refl in
+    record {
+      desc = has_text desc rows (given desc refl refl);
+      image = has_text image rows (given image refl refl);
+      grant = signed_number (codes "grant") 2 1048575 rows cells.text (omega arith) cells.is_one (accepts-Accepts false (parser.Signed (pos 2) (pos 1048575)) cells.text cells.passes);
+      steps = unsigned_number (codes "steps") 0 1000000 rows most.text most.is_one (accepts-Accepts false (parser.Unsigned 0 1000000) most.text most.passes);
+    }
+
+-- ---- print
+
+abbrev built_print : Shape
+built_print = built_leaf (inherited line_spec.program line_spec.print)
+
+print_single : AreSingle built_print.rules built_print.rules
+print_single = (record { own = refl; action = refl; range = refl; defaults = refl }, tt)
+
+print_holds : (words : List Text) → level_fault built_print [] nothing_held words false [] ≡ [] → HoldsPrint (rows_after built_print.rules [] words)
+print_holds words none =
+    record { desc = has_text desc (rows_after built_print.rules [] words) (leaf_given built_print words print_single none desc refl refl) }
+
+-- ---- the whole line
+
+-- each of the commands holds what it wants where a level of the parse has no fault
+abbrev EachHolds : List Shape → Type 0
+EachHolds [] = Unit {0}
+EachHolds (s ∷ more) =
+    ((words : List Text) → level_fault s [] nothing_held words false [] ≡ [] → HoldsOne s.name (rows_after s.rules [] words)) × EachHolds more
+
+all_hold : EachHolds (built line).subs
+all_hold = ((λ words none. inl (refl, bare_holds words none)), ((λ words none. inr (refl, print_holds words none)), tt))
+
+-- the command that a test finds
+found_holds : (subs : List Shape) (test : Shape → Bool) (words : List Text) → EachHolds subs
+    → option_map_or (λ s. level_fault s [] nothing_held words false []) (find test subs) [] ≡ []
+    → is_some (option_map (λ s. rows_at s words) (find test subs)) ≡ true
+    → HoldsCommand (option_map (λ s. rows_at s words) (find test subs))
+found_holds [] test words each none there = absurd (true≢false (sym there))
+found_holds (s ∷ more) test words each none there =
+    go (test s) none there (λ fine some. found_holds more test words each.1 fine some)
+  where
+    go : (b : Bool) → option_map_or (λ x. level_fault x [] nothing_held words false []) (cond b (Some s) (find test more)) [] ≡ []
+        → is_some (option_map (λ x. rows_at x words) (cond b (Some s) (find test more))) ≡ true
+        → (option_map_or (λ x. level_fault x [] nothing_held words false []) (find test more) [] ≡ []
+        → is_some (option_map (λ x. rows_at x words) (find test more)) ≡ true → HoldsCommand (option_map (λ x. rows_at x words) (find test more)))
+        → HoldsCommand (option_map (λ x. rows_at x words) (cond b (Some s) (find test more)))
+    go true fine some rec = record { name = s.name; rows = rows_after s.rules [] words; is_named = refl; holds = each.0 words fine }
+    go false fine some rec = rec fine some
+
+-- the command at which the walk stopped
+entered_holds : (a : App) (stop : Option (Text × List Text)) → EachHolds a.subs → entered_fault a stop ≡ [] → is_some (entered a stop) ≡ true
+    → HoldsCommand (entered a stop)
+entered_holds a None each none there = absurd (true≢false (sym there))
+entered_holds a (Some p) each none there = found_holds a.subs (λ s. answers_to p.0 (label_of s)) p.1 each none there
+
+-- words with no fault name a command, and its arguments hold what it wants
+pub line_holds : (words : List Text) → fault_of line words ≡ [] → HoldsCommand (subcommand_of line words)
+line_holds words none =
+    let stop = stop_after (built line).top.rules (names_of (built line)) (argument_words line words) in
+    let met = command_met (built line).top (names_of (built line)) (argument_words line words) (is_some (entered (built line) stop)) (entered_fault (built line) stop) refl none in
+    entered_holds (built line) stop all_hold met.0 met.1

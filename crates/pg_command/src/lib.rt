@@ -1,0 +1,70 @@
+//! The command line of the program, read by `clap`.
+//!
+//! [`request`] says what the words of a command line ask for, as a [`Request`] with one variant a command.
+//! Which words it takes is said by a description of the line alone, its commands and their arguments, under
+//! the rules of `clap`: how options and values are written, in which order, how often, and which numbers
+//! they may be. Nothing is added to those rules, and nothing is taken away. The line has no word for help or
+//! for a version, so a user who asks for either is refused like one who mistypes a command.
+//!
+//! A request is handed out only where the line takes the words, and a refusal only where it does not. That a
+//! line which was taken has each of its arguments, and numbers within their bounds, is proved of `clap`'s
+//! rules and not tested again, so the only other answer is that there was no memory.
+//!
+//! A command is added by its description beside `bare` in the definitions, what its arguments hold, and what
+//! they ask for, and in the code by a variant, a builder and a reader.
+#![tactic(auto)]
+
+ghost use Rattle.std.specs.Prelude.{◌≡◌, ◌≢◌, ◌↔◌, IfOk, IsErrOf, Some, None, [], map, string_bytes};
+ghost use Rattle.clap.specs.Faults.{fault_of};
+ghost use Rattle.clap.specs.declared.error.kind.ErrorKind.TheVariants.{OutOfMemory};
+ghost use Rattle.pg_command.specs.Asked.{IsBounded, asked_as, request_of};
+ghost use Rattle.pg_command.specs.Line.{line};
+ghost use Rattle.pg_command.specs.declared.ask.Fault.TheVariants.{Memory, Refused};
+
+mod ask;
+mod line;
+mod read;
+#[cfg(test)]
+mod tests;
+
+pub use ask::{Bare, Fault, Print, Request};
+use clap::error::ErrorKind;
+use line::command_line;
+use read::asked;
+use std::alloc::Global;
+
+/// What the words ask for, of which the first is the program's name.
+///
+/// # Errors
+/// `Refused` where the command line takes no such words, and `Memory` where there is no memory to read them.
+pub fn request(alloc: Global, words: &[String]) -> Result<Request, Fault>
+    ensures ok { IfOk result (λ r. request_of (map string_bytes words.now) ≡ Some (asked_as r)) }
+    ensures bounds { IfOk result (λ r. IsBounded (asked_as r)) }
+    ensures refused { IsErrOf result Refused → request_of (map string_bytes words.now) ≡ None }
+    // nothing is asked for exactly where the rules of `clap` refuse the line
+    ensures faults { (request_of (map string_bytes words.now) ≡ None) ↔ (fault_of line (map string_bytes words.now) ≢ []) }
+{
+    let command = match command_line(alloc) {
+        Ok(command) => command,
+        Err(_) => return Err(Fault::Memory),
+    };
+    let matches = match command.try_get_matches_from(words) {
+        Ok(matches) => matches,
+        Err(error) => return Err(cause(error.kind())),
+    };
+    match asked(alloc, &matches) {
+        Ok(request) => Ok(request),
+        Err(_) => Err(Fault::Memory),
+    }
+}
+
+/// Why there is no request, where a parse failed in this way.
+fn cause(kind: ErrorKind) -> Fault
+    ensures memory { kind ≡ OutOfMemory → result ≡ Memory }
+    ensures refused { kind ≢ OutOfMemory → result ≡ Refused }
+{
+    match kind {
+        ErrorKind::OutOfMemory => Fault::Memory,
+        _ => Fault::Refused,
+    }
+}
