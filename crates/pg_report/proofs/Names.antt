@@ -1,0 +1,23 @@
+-- Names are short.
+use Rattle.std.proofs.Common.{◌≡◌, ℕ, ◌≤◌, min, true, ◌&&◌, not, nat_le, List, [], ◌∷◌, length, take, ap, ◌∙◌, arith}
+use Rattle.std.proofs.lemmas.List.{take_min}
+use Rattle.std.proofs.lemmas.Bool.{and_parts}
+use Rattle.std.specs.Prelude.{IsTrue}
+use Rattle.std.specs.List.{list_all}
+use Rattle.pg_token.specs.Words.{is_name, is_word, is_letter, is_word_byte, is_reserved}
+
+-- a word has at most 32 bytes
+length-word : (w : List ℕ) → is_word w ≡ true → length w ≤ 32
+length-word [] h = omega arith
+length-word (c ∷ cs) h =
+    let rest = (and_parts (is_letter c && list_all is_word_byte cs) (nat_le (length cs) 31) h).1 in
+    grind (arith, rest)
+
+pub length-name : (w : List ℕ) → IsTrue (is_name w) → length w ≤ 32
+length-name w h = length-word w (and_parts (is_word w) (not (is_reserved w)) h).0
+
+-- as many bytes as are wanted, where there are so many
+pub take-within : (n m : ℕ) (xs : List ℕ) → n ≡ min (length xs) m → take n xs ≡ take m xs
+take-within n m xs h =
+    let turned : n ≡ min m (length xs) = omega (arith, h) in
+    ap (λ k. take k xs) turned ∙ take_min m xs

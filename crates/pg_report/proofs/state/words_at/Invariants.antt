@@ -1,0 +1,9 @@
+use Rattle.std.proofs.Common.{◌≡◌, length}
+use Rattle.pg_report.specs.Spans.{span}
+use Rattle.pg_report.proofs.state.words_at.Given as goal
+
+abbrev pub invariant-loop-i : goal.invariant-loop-i
+invariant-loop-i g l = record {
+  read : l.words.items ≡ span l.base l.i (g.H.Hardware.state l.hw).cells;
+  len : length l.words.items ≡ l.i;
+}

@@ -1,0 +1,65 @@
+-- The texts of refusals and of usage: what is put where a command is refused. Every line ends with LF; numbers are decimal.
+use Rattle.std.specs.Prelude.{ℕ, List, [], ◌∷◌, ◌++◌, take, codes}
+use Rattle.std.specs.Fmt.{decimal}
+use Rattle.pg_type.specs.declared.fault.Limit.{Limit as Limits}
+use Rattle.pg_type.specs.declared.fault.Limit.TheVariants.{Instructions, Accesses, Lets, Statements, Expressions}
+use Rattle.pg_report.specs.declared.line.RefusalLine.{RefusalLine}
+use Rattle.pg_report.specs.declared.line.RefusalLine.TheVariants.{Description, Image, Room}
+use Rattle.pg_report.specs.declared.line.DescriptionLine.{DescriptionLine}
+use Rattle.pg_report.specs.declared.line.DescriptionLine.TheVariants.{Long, Token, Unread, Shape, Limit, Twice, Pattern, Overlap, Name, Width}
+use Rattle.pg_report.specs.declared.line.ImageLine.{ImageLine}
+use Rattle.pg_report.specs.declared.line.ImageLine.TheVariants.{Long as LongImage, Token as Foreign, Grammar, Address, Overlap as Again}
+
+-- limits by number
+abbrev pub limit_number : Limits → ℕ
+limit_number Instructions = 1
+limit_number Accesses = 2
+limit_number Lets = 3
+limit_number Statements = 4
+limit_number Expressions = 5
+
+-- a name: names have at most 32 bytes
+abbrev pub name_text : List ℕ → List ℕ
+name_text name = take 32 name
+
+-- two numbers with a space between
+abbrev pub two_numbers : ℕ → ℕ → List ℕ
+two_numbers m n = decimal m ++ codes " " ++ decimal n
+
+-- why a description is refused
+unfoldable pub description_text : DescriptionLine → List ℕ
+description_text Long = codes "long"
+description_text (Token place) = codes "token " ++ decimal place
+description_text Unread = codes "unread"
+description_text Shape = codes "shape"
+description_text (Limit limit instr) = codes "limit " ++ two_numbers (limit_number limit) instr
+description_text (Twice name) = codes "twice " ++ name_text name
+description_text (Pattern instr) = codes "pattern " ++ decimal instr
+description_text (Overlap i j) = codes "overlap " ++ two_numbers i j
+description_text (Name instr name) = codes "name " ++ decimal instr ++ codes " " ++ name_text name
+description_text (Width instr place) = codes "width " ++ two_numbers instr place
+
+-- why an image is refused
+unfoldable pub image_text : ImageLine → List ℕ
+image_text LongImage = codes "long"
+image_text (Foreign place) = codes "token " ++ decimal place
+image_text (Grammar line) = codes "grammar " ++ decimal line
+image_text (Address line) = codes "address " ++ decimal line
+image_text (Again line) = codes "overlap " ++ decimal line
+
+-- the line of a refusal
+unfoldable pub refusal_text : RefusalLine → List ℕ
+refusal_text (Description line) = codes "description: " ++ description_text line ++ 10 ∷ []
+refusal_text (Image number line) = codes "image " ++ decimal number ++ codes ": " ++ image_text line ++ 10 ∷ []
+refusal_text (Room wanted free) = codes "room " ++ two_numbers wanted free ++ 10 ∷ []
+
+-- how each command is called
+abbrev pub usage_bare : List ℕ
+usage_bare = codes "pgv bare DESC IMAGE --grant G --steps N" ++ 10 ∷ []
+
+abbrev pub usage_print : List ℕ
+usage_print = codes "pgv print DESC" ++ 10 ∷ []
+
+-- one line for each command
+unfoldable pub usage_text : List ℕ
+usage_text = usage_bare ++ usage_print

@@ -1,0 +1,136 @@
+//! The lines of refusals and of usage.
+
+ghost use Rattle.std.specs.Prelude.{◌≡◌, ◌+◌, ◌≤◌, ◌++◌};
+ghost use Rattle.arrayvec.specs.ArrayVec.{array_vec_len};
+ghost use Rattle.pg_edge.specs.Sink.{Puts};
+ghost use Rattle.pg_report.specs.Texts.{limit_number, description_text, image_text, refusal_text, usage_text};
+
+use crate::line::{DescriptionLine, ImageLine, RefusalLine};
+use crate::push::{push, push_at, push_name, push_pair};
+use pg_edge::{Failed, Sink};
+use pg_image::Line;
+use pg_type::Limit;
+
+/// Puts the line that says why a command is refused. The cost is that of one line.
+///
+/// # Errors
+/// `Failed` where not all of the line went through. A front of it may have.
+pub fn put_refusal<S: Sink>(out: &mut S, line: &RefusalLine) -> Result<(), Failed>
+    ensures { Puts (S.written out.old) (S.written out.new) (S.faults out.old) (S.faults out.new)
+        (refusal_text line.now) result }
+{
+    out.put(refusal_line(line).as_slice())
+}
+
+/// Puts the lines that say how the program is called, one for each command.
+///
+/// # Errors
+/// `Failed` where not all of them went through. A front of them may have.
+pub fn put_usage<S: Sink>(out: &mut S) -> Result<(), Failed>
+    ensures { Puts (S.written out.old) (S.written out.new) (S.faults out.old) (S.faults out.new)
+        usage_text result }
+{
+    out.put(b"pgv bare DESC IMAGE --grant G --steps N\n")?;
+    out.put(b"pgv print DESC\n")
+}
+
+/// The line of a refusal, with its LF.
+fn refusal_line(line: &RefusalLine) -> Line
+    ensures { result.items ≡ refusal_text line.now }
+{
+    let mut text = Line::new();
+    push_refusal(&mut text, line);
+    text
+}
+
+/// Pushes the line of a refusal, with its LF.
+#[tactic(auto, unfolding(crate::specs::Texts::refusal_text))]
+fn push_refusal(text: &mut Line, line: &RefusalLine)
+    requires { array_vec_len text.old + 72 ≤ 160 }
+    ensures items { text.new.items ≡ text.old.items ++ refusal_text line.now }
+{
+    match line {
+        RefusalLine::Description(description) => {
+            push(text, b"description: ");
+            push_description(text, description);
+            text.push(b'\n');
+        }
+        RefusalLine::Image(number, image) => {
+            push_at(text, b"image ", *number);
+            push(text, b": ");
+            push_image(text, image);
+            text.push(b'\n');
+        }
+        RefusalLine::Room(wanted, free) => {
+            push_pair(text, b"room ", *wanted, *free);
+            text.push(b'\n');
+        }
+    }
+}
+
+/// Pushes why a description is refused.
+#[tactic(auto, unfolding(crate::specs::Texts::description_text))]
+fn push_description(text: &mut Line, why: &DescriptionLine)
+    requires { array_vec_len text.old + 58 ≤ 160 }
+    ensures items { text.new.items ≡ text.old.items ++ description_text why.now }
+    ensures len { array_vec_len text.new ≤ array_vec_len text.old + 58 }
+{
+    match why {
+        DescriptionLine::Long => push(text, b"long"),
+        DescriptionLine::Token(place) => push_at(text, b"token ", *place),
+        DescriptionLine::Unread => push(text, b"unread"),
+        DescriptionLine::Shape => push(text, b"shape"),
+        DescriptionLine::Limit(limit, instr) => push_pair(
+            text,
+            b"limit ",
+            number_of(*limit),
+            *instr as u64,
+        ),
+        DescriptionLine::Twice(name) => {
+            push(text, b"twice ");
+            push_name(text, name.as_slice());
+        }
+        DescriptionLine::Pattern(instr) => push_at(text, b"pattern ", *instr),
+        DescriptionLine::Overlap(i, j) => push_pair(text, b"overlap ", *i as u64, *j as u64),
+        DescriptionLine::Name(instr, name) => {
+            push_at(text, b"name ", *instr);
+            push(text, b" ");
+            push_name(text, name.as_slice());
+        }
+        DescriptionLine::Width(instr, place) => push_pair(
+            text,
+            b"width ",
+            *instr as u64,
+            *place as u64,
+        ),
+    }
+}
+
+/// The number of a limit.
+fn number_of(limit: Limit) -> u64
+    ensures { result ≡ limit_number limit }
+{
+    match limit {
+        Limit::Instructions => 1,
+        Limit::Accesses => 2,
+        Limit::Lets => 3,
+        Limit::Statements => 4,
+        Limit::Expressions => 5,
+    }
+}
+
+/// Pushes why an image is refused.
+#[tactic(auto, unfolding(crate::specs::Texts::image_text))]
+fn push_image(text: &mut Line, why: &ImageLine)
+    requires { array_vec_len text.old + 28 ≤ 160 }
+    ensures items { text.new.items ≡ text.old.items ++ image_text why.now }
+    ensures len { array_vec_len text.new ≤ array_vec_len text.old + 28 }
+{
+    match why {
+        ImageLine::Long => push(text, b"long"),
+        ImageLine::Token(place) => push_at(text, b"token ", *place),
+        ImageLine::Grammar(line) => push_at(text, b"grammar ", *line),
+        ImageLine::Address(line) => push_at(text, b"address ", *line),
+        ImageLine::Overlap(line) => push_at(text, b"overlap ", *line),
+    }
+}
