@@ -1,0 +1,275 @@
+-- A command comes to one thing: what is due for told files is computed by reading them, so that it is no more than one.
+use Rattle.std.proofs.Common.{◌≡◌, ◌≢◌, ℕ, ◌<◌, cond, nat_lt, List, [], length, map, Option, Some, None, IsSome, IsSomeAnd, Result, Ok, Err, inl, inr, refl, sym, ◌∙◌, ap}
+use Rattle.std.proofs.lemmas.Bool.{lt-ltb, le-ltb}
+use Rattle.pg_token.specs.declared.tok.Tok.{Tok}
+use Rattle.pg_text.specs.declared.place.Span.{Span}
+use Rattle.pg_text.specs.declared.place.TextFault.{TextFault}
+use Rattle.pg_text.specs.declared.place.TextFault.TheVariants as text_fault
+use Rattle.pg_text.specs.Cutting.{cut, toks_of}
+use Rattle.pg_ast.specs.declared.tree.Desc.{Desc}
+use Rattle.pg_ast.specs.Tokens.{tokens_of}
+use Rattle.pg_ast.specs.Reading.{read_tokens}
+use Rattle.pg_ast.proofs.DescExact.{read_exactly}
+use Rattle.pg_ast.proofs.DescReads.{read_back}
+use Rattle.pg_type.specs.declared.fault.TypeFault.{TypeFault}
+use Rattle.pg_type.specs.Valid.{fault_of}
+use Rattle.pg_type.proofs.FaultLemmas.{no_fault}
+use Rattle.pg_edge.specs.Shelf.{Files}
+use Rattle.pg_command.specs.Asked.{Asked, AsksBare, AsksPrint, AskedBare, AskedPrint, request_of}
+use Rattle.pg_read.specs.Answer.{IsFaultAt}
+use Rattle.pg_image.specs.declared.fault.ImageFault.{ImageFault}
+use Rattle.pg_image.specs.Images.{image_due}
+use Rattle.pg_report.specs.declared.line.RefusalLine.TheVariants.{Description, Image, Room}
+use Rattle.pg_report.specs.declared.line.DescriptionLine.{DescriptionLine}
+use Rattle.pg_report.specs.declared.line.DescriptionLine.TheVariants as told_line
+use Rattle.pg_report.specs.declared.line.ImageLine.{ImageLine}
+use Rattle.pg_report.specs.declared.line.ImageLine.TheVariants as told_image
+use Rattle.pg_tool.specs.declared.refusal.Refusal.{Refusal}
+use Rattle.pg_tool.specs.declared.refusal.Refusal.TheVariants.{Words, Missing, Line}
+use Rattle.pg_tool.specs.Steps.{Step, Then}
+use Rattle.pg_tool.specs.Reads.{IsInvalid, TextDue, told_of_type, told_of_image, BytesDue}
+use Rattle.pg_tool.specs.Work.{Work, RunsBare, Prints}
+use Rattle.pg_tool.specs.Due.{RequestDue, ComesToText, DescDue, RoomDue, ComesToImage, ImageDue, RunDue, BareDue, PrintDue, CommandDue, Due}
+
+-- ---- steps
+
+-- a step that comes to this and nothing else
+abbrev Only : {X : Type 0} → Step X → Result X Refusal → Type 0
+Only {X = X} step answer = (due : Result X Refusal) → step due → answer ≡ due
+
+abbrev bind : {X Y : Type 0} → Result X Refusal → (X → Result Y Refusal) → Result Y Refusal
+bind (Ok x) go = go x
+bind (Err why) go = Err why
+
+only-then : {X Y : Type 0} (first : Step X) (next : X → Step Y) (answer : Result X Refusal) (go : X → Result Y Refusal) → Only first answer →
+    ((x : X) → Only (next x) (go x)) → Only (Then first next) (bind answer go)
+only-then first next answer go one others due (inl h) = ap (λ a. bind a go) (one (Err h.0) h.1) ∙ sym h.2
+only-then first next answer go one others due (inr h) = ap (λ a. bind a go) (one (Ok h.0) h.1) ∙ others h.0 due h.2
+
+-- ---- the words
+
+abbrev words_answer : Option Asked → Result Asked Refusal
+words_answer None = Err Words
+words_answer (Some asked) = Ok asked
+
+only-words : (words : List (List ℕ)) → Only (RequestDue words) (words_answer (request_of words))
+only-words words (Ok asked) h = ap words_answer h
+only-words words (Err Words) h = ap words_answer h
+only-words words (Err Missing) h = absurd h
+only-words words (Err (Line line)) h = absurd h
+
+-- ---- a description
+
+abbrev fault_answer : Option DescriptionLine → Result Desc DescriptionLine
+fault_answer None = Err told_line.Long
+fault_answer (Some line) = Err line
+
+abbrev check_answer : Desc → Option TypeFault → Result Desc DescriptionLine
+check_answer d None = Ok d
+check_answer d (Some fault) = fault_answer (told_of_type fault)
+
+abbrev read_answer : Option Desc → Result Desc DescriptionLine
+read_answer None = Err told_line.Unread
+read_answer (Some d) = check_answer d (fault_of d)
+
+abbrev cut_answer : Result (List (Tok × Span)) TextFault → Result Desc DescriptionLine
+cut_answer (Ok ts) = read_answer (read_tokens (map (λ t. t.0) ts))
+cut_answer (Err (text_fault.BadByte place)) = Err (told_line.Token place)
+cut_answer (Err (text_fault.BadNumber place)) = Err (told_line.Token place)
+cut_answer (Err (text_fault.BadWord place)) = Err (told_line.Token place)
+cut_answer (Err (text_fault.BadPattern place)) = Err (told_line.Token place)
+cut_answer (Err text_fault.Memory) = Err told_line.Long
+
+abbrev the : Option (List Tok) → List Tok
+the None = []
+the (Some ts) = ts
+
+-- bytes that read as a description
+cut-reads : (c : Result (List (Tok × Span)) TextFault) (d : Desc) → toks_of c ≡ Some (tokens_of d) → cut_answer c ≡ check_answer d (fault_of d)
+cut-reads (Ok ts) d h = ap (λ us. read_answer (read_tokens us)) (ap the h) ∙ ap read_answer (read_back d)
+cut-reads (Err f) d h = absurd (cc h)
+
+cut-token : (c : Result (List (Tok × Span)) TextFault) (place : ℕ) → IsFaultAt c place → cut_answer c ≡ Err (told_line.Token place)
+cut-token (Ok ts) place h = absurd h
+cut-token (Err (text_fault.BadByte at)) place h = ap (λ p. Err (told_line.Token p)) h
+cut-token (Err (text_fault.BadNumber at)) place h = ap (λ p. Err (told_line.Token p)) h
+cut-token (Err (text_fault.BadWord at)) place h = ap (λ p. Err (told_line.Token p)) h
+cut-token (Err (text_fault.BadPattern at)) place h = ap (λ p. Err (told_line.Token p)) h
+cut-token (Err text_fault.Memory) place h = absurd h
+
+nothing-read : (ts : List Tok) (o : Option Desc) → read_tokens ts ≡ o → ((d : Desc) → Some ts ≢ Some (tokens_of d)) → read_answer o ≡ Err told_line.Unread
+nothing-read ts None is h = refl
+nothing-read ts (Some d) is h = absurd (h d (ap (λ us. Some us) ((read_exactly ts d).0 is)))
+
+cut-unread : (c : Result (List (Tok × Span)) TextFault) → IsSome (toks_of c) → ((d : Desc) → toks_of c ≢ Some (tokens_of d)) → cut_answer c ≡ Err told_line.Unread
+cut-unread (Ok ts) some none = nothing-read (map (λ t. t.0) ts) (read_tokens (map (λ t. t.0) ts)) refl none
+cut-unread (Err f) some none = absurd (cc some)
+
+text-invalid : (text : List ℕ) (line : DescriptionLine) → IsInvalid text line → cut_answer (cut text) ≡ Err line
+text-invalid text line h = cut-reads (cut text) h.desc h.reads.tokens ∙ ap (check_answer h.desc) h.first ∙ ap fault_answer h.told
+
+text-only : (text : List ℕ) (due : Result Desc DescriptionLine) → TextDue text due → cut_answer (cut text) ≡ due
+text-only text (Ok d) h = cut-reads (cut text) d h.0.tokens ∙ ap (check_answer d) (no_fault d h.1)
+text-only text (Err told_line.Long) h = absurd h
+text-only text (Err (told_line.Token place)) h = cut-token (cut text) place h
+text-only text (Err told_line.Unread) h = cut-unread (cut text) h.tokens h.none
+text-only text (Err told_line.Shape) h = text-invalid text told_line.Shape h
+text-only text (Err (told_line.Limit limit instr)) h = text-invalid text (told_line.Limit limit instr) h
+text-only text (Err (told_line.Twice name)) h = text-invalid text (told_line.Twice name) h
+text-only text (Err (told_line.Pattern instr)) h = text-invalid text (told_line.Pattern instr) h
+text-only text (Err (told_line.Overlap i j)) h = text-invalid text (told_line.Overlap i j) h
+text-only text (Err (told_line.Name instr name)) h = text-invalid text (told_line.Name instr name) h
+text-only text (Err (told_line.Width instr place)) h = text-invalid text (told_line.Width instr place) h
+
+abbrev lift_text : Result Desc DescriptionLine → Result Desc Refusal
+lift_text (Ok d) = Ok d
+lift_text (Err line) = Err (Line (Description line))
+
+abbrev desc_answer : Option (List ℕ) → Result Desc Refusal
+desc_answer None = Err Missing
+desc_answer (Some text) = cond (nat_lt 1048576 (length text)) (Err (Line (Description told_line.Long))) (lift_text (cut_answer (cut text)))
+
+desc-comes : (files : Files) (name : List ℕ) (due : Result Desc DescriptionLine) → ComesToText (Some files) name due → desc_answer (files name) ≡ lift_text due
+desc-comes files name due h =
+    ap desc_answer h.loaded.holds
+    ∙ ap (λ b. cond b (Err (Line (Description told_line.Long))) (lift_text (cut_answer (cut h.bytes)))) (le-ltb 1048576 (length h.bytes) h.loaded.within)
+    ∙ ap lift_text (text-only h.bytes due h.comes)
+
+desc-long : (o : Option (List ℕ)) → IsSomeAnd o (λ text. 1048576 < length text) → desc_answer o ≡ Err (Line (Description told_line.Long))
+desc-long None h = absurd h
+desc-long (Some text) h = ap (λ b. cond b (Err (Line (Description told_line.Long))) (lift_text (cut_answer (cut text)))) (lt-ltb 1048576 (length text) h)
+
+only-desc : (files : Files) (name : List ℕ) → Only (DescDue (Some files) name) (desc_answer (files name))
+only-desc files name (Ok d) h = desc-comes files name (Ok d) h
+only-desc files name (Err Words) h = absurd h
+only-desc files name (Err Missing) h = ap desc_answer h
+only-desc files name (Err (Line (Description told_line.Long))) h = desc-long (files name) h
+only-desc files name (Err (Line (Description told_line.Unread))) h = desc-comes files name (Err told_line.Unread) h
+only-desc files name (Err (Line (Description told_line.Shape))) h = desc-comes files name (Err told_line.Shape) h
+only-desc files name (Err (Line (Description (told_line.Token place)))) h = desc-comes files name (Err (told_line.Token place)) h
+only-desc files name (Err (Line (Description (told_line.Limit limit instr)))) h = desc-comes files name (Err (told_line.Limit limit instr)) h
+only-desc files name (Err (Line (Description (told_line.Twice twice)))) h = desc-comes files name (Err (told_line.Twice twice)) h
+only-desc files name (Err (Line (Description (told_line.Pattern instr)))) h = desc-comes files name (Err (told_line.Pattern instr)) h
+only-desc files name (Err (Line (Description (told_line.Overlap i j)))) h = desc-comes files name (Err (told_line.Overlap i j)) h
+only-desc files name (Err (Line (Description (told_line.Name instr unknown)))) h = desc-comes files name (Err (told_line.Name instr unknown)) h
+only-desc files name (Err (Line (Description (told_line.Width instr place)))) h = desc-comes files name (Err (told_line.Width instr place)) h
+only-desc files name (Err (Line (Image number line))) h = absurd h
+only-desc files name (Err (Line (Room wanted free))) h = absurd h
+
+-- ---- the room
+
+abbrev room_answer : ℕ → ℕ → Result ℕ Refusal
+room_answer grant most = cond (nat_lt most grant) (Err (Line (Room grant most))) (Ok grant)
+
+only-room : (grant most : ℕ) → Only (RoomDue grant most) (room_answer grant most)
+only-room grant most (Ok cells) h = ap (λ b. cond b (Err (Line (Room grant most))) (Ok grant)) (le-ltb most grant h.0) ∙ ap (λ n. Ok n) (sym h.1)
+only-room grant most (Err Words) h = absurd h
+only-room grant most (Err Missing) h = absurd h
+only-room grant most (Err (Line (Description line))) h = absurd h
+only-room grant most (Err (Line (Image number line))) h = absurd h
+only-room grant most (Err (Line (Room wanted free))) h =
+    ap (λ b. cond b (Err (Line (Room grant most))) (Ok grant)) (lt-ltb most grant h.passes)
+    ∙ ap (λ n. Err (Line (Room n most))) (sym h.wanted) ∙ ap (λ n. Err (Line (Room wanted n))) (sym h.free)
+
+-- ---- an image
+
+abbrev line_answer : ℕ → Option ImageLine → Result (List ℕ) Refusal
+line_answer number None = Err Words
+line_answer number (Some line) = Err (Line (Image number line))
+
+abbrev bytes_answer : ℕ → Result (List ℕ) ImageFault → Result (List ℕ) Refusal
+bytes_answer number (Ok cells) = Ok cells
+bytes_answer number (Err fault) = line_answer number (told_of_image fault)
+
+abbrev image_answer : ℕ → ℕ → ℕ → Option (List ℕ) → Result (List ℕ) Refusal
+image_answer number w size None = Err Missing
+image_answer number w size (Some text) =
+    cond (nat_lt 33554432 (length text)) (Err (Line (Image number told_image.Long))) (bytes_answer number (image_due w size text))
+
+abbrev lift_bytes : ℕ → Result (List ℕ) ImageLine → Result (List ℕ) Refusal
+lift_bytes number (Ok cells) = Ok cells
+lift_bytes number (Err line) = Err (Line (Image number line))
+
+bytes-only : (number w size : ℕ) (text : List ℕ) (due : Result (List ℕ) ImageLine) → BytesDue w size text due → bytes_answer number (image_due w size text) ≡ lift_bytes number due
+bytes-only number w size text (Ok cells) h = ap (bytes_answer number) h
+bytes-only number w size text (Err line) h = ap (bytes_answer number) h.first ∙ ap (line_answer number) h.told
+
+image-comes : (files : Files) (name : List ℕ) (number w size : ℕ) (due : Result (List ℕ) ImageLine) → ComesToImage (Some files) name w size due →
+    image_answer number w size (files name) ≡ lift_bytes number due
+image-comes files name number w size due h =
+    ap (image_answer number w size) h.loaded.holds
+    ∙ ap (λ b. cond b (Err (Line (Image number told_image.Long))) (bytes_answer number (image_due w size h.bytes))) (le-ltb 33554432 (length h.bytes) h.loaded.within)
+    ∙ bytes-only number w size h.bytes due h.comes
+
+image-long : (number w size : ℕ) (o : Option (List ℕ)) → IsSomeAnd o (λ text. 33554432 < length text) → image_answer number w size o ≡ Err (Line (Image number told_image.Long))
+image-long number w size None h = absurd h
+image-long number w size (Some text) h =
+    ap (λ b. cond b (Err (Line (Image number told_image.Long))) (bytes_answer number (image_due w size text))) (lt-ltb 33554432 (length text) h)
+
+only-image : (files : Files) (name : List ℕ) (number w size : ℕ) → Only (ImageDue (Some files) name number w size) (image_answer number w size (files name))
+only-image files name number w size (Ok cells) h = image-comes files name number w size (Ok cells) h
+only-image files name number w size (Err Words) h = absurd h
+only-image files name number w size (Err Missing) h = ap (image_answer number w size) h
+only-image files name number w size (Err (Line (Description line))) h = absurd h
+only-image files name number w size (Err (Line (Image k told_image.Long))) h = image-long number w size (files name) h.1 ∙ ap (λ n. Err (Line (Image n told_image.Long))) (sym h.0)
+only-image files name number w size (Err (Line (Image k (told_image.Token place)))) h =
+    image-comes files name number w size (Err (told_image.Token place)) h.1 ∙ ap (λ n. Err (Line (Image n (told_image.Token place)))) (sym h.0)
+only-image files name number w size (Err (Line (Image k (told_image.Grammar line)))) h =
+    image-comes files name number w size (Err (told_image.Grammar line)) h.1 ∙ ap (λ n. Err (Line (Image n (told_image.Grammar line)))) (sym h.0)
+only-image files name number w size (Err (Line (Image k (told_image.Address line)))) h =
+    image-comes files name number w size (Err (told_image.Address line)) h.1 ∙ ap (λ n. Err (Line (Image n (told_image.Address line)))) (sym h.0)
+only-image files name number w size (Err (Line (Image k (told_image.Overlap line)))) h =
+    image-comes files name number w size (Err (told_image.Overlap line)) h.1 ∙ ap (λ n. Err (Line (Image n (told_image.Overlap line)))) (sym h.0)
+only-image files name number w size (Err (Line (Room wanted free))) h = absurd h
+
+-- ---- commands
+
+only-run : (d : Desc) (image : List ℕ) (grant steps : ℕ) → Only (RunDue d image grant steps) (Ok (RunsBare (record { desc = d; image = image; grant = grant; steps = steps })))
+only-run d image grant steps due h = sym h
+
+abbrev bare_answer : Files → AskedBare → Result Work Refusal
+bare_answer files b =
+    bind (desc_answer (files b.desc)) (λ d. bind (room_answer b.grant d.size) (λ cells. bind (image_answer 0 d.word cells (files b.image)) (λ image.
+    Ok (RunsBare (record { desc = d; image = image; grant = b.grant; steps = b.steps })))))
+
+only-bare : (files : Files) (b : AskedBare) → Only (BareDue (Some files) b) (bare_answer files b)
+unfolding BareDue
+only-bare files b =
+    only-then (DescDue (Some files) b.desc)
+    (λ d. Then (RoomDue b.grant d.size) (λ cells. Then (ImageDue (Some files) b.image 0 d.word cells) (λ image. RunDue d image b.grant b.steps)))
+    (desc_answer (files b.desc))
+    (λ d. bind (room_answer b.grant d.size) (λ cells. bind (image_answer 0 d.word cells (files b.image)) (λ image.
+    Ok (RunsBare (record { desc = d; image = image; grant = b.grant; steps = b.steps })))))
+    (only-desc files b.desc)
+    (λ d. only-then (RoomDue b.grant d.size) (λ cells. Then (ImageDue (Some files) b.image 0 d.word cells) (λ image. RunDue d image b.grant b.steps))
+    (room_answer b.grant d.size)
+    (λ cells. bind (image_answer 0 d.word cells (files b.image)) (λ image. Ok (RunsBare (record { desc = d; image = image; grant = b.grant; steps = b.steps }))))
+    (only-room b.grant d.size)
+    (λ cells. only-then (ImageDue (Some files) b.image 0 d.word cells) (λ image. RunDue d image b.grant b.steps)
+    (image_answer 0 d.word cells (files b.image)) (λ image. Ok (RunsBare (record { desc = d; image = image; grant = b.grant; steps = b.steps })))
+    (only-image files b.image 0 d.word cells) (λ image. only-run d image b.grant b.steps)))
+
+abbrev print_answer : Files → AskedPrint → Result Work Refusal
+print_answer files p = bind (desc_answer (files p.desc)) (λ d. Ok (Prints d))
+
+only-print : (files : Files) (p : AskedPrint) → Only (PrintDue (Some files) p) (print_answer files p)
+unfolding PrintDue
+only-print files p =
+    only-then (DescDue (Some files) p.desc) (λ d due. due ≡ Ok (Prints d)) (desc_answer (files p.desc)) (λ d. Ok (Prints d)) (only-desc files p.desc) (λ d due h. sym h)
+
+abbrev command_answer : Files → Asked → Result Work Refusal
+command_answer files (AsksBare b) = bare_answer files b
+command_answer files (AsksPrint p) = print_answer files p
+
+only-command : (files : Files) (asked : Asked) → Only (CommandDue (Some files) asked) (command_answer files asked)
+only-command files (AsksBare b) = only-bare files b
+only-command files (AsksPrint p) = only-print files p
+
+only-due : (files : Files) (words : List (List ℕ)) → Only (Due (Some files) words) (bind (words_answer (request_of words)) (command_answer files))
+unfolding Due
+only-due files words =
+    only-then (RequestDue words) (CommandDue (Some files)) (words_answer (request_of words)) (command_answer files) (only-words words) (only-command files)
+
+-- what is due for told files is one thing
+pub due_is_one : (files : Files) (words : List (List ℕ)) (a b : Result Work Refusal) → Due (Some files) words a → Due (Some files) words b → a ≡ b
+due_is_one files words a b x y = sym (only-due files words a x) ∙ only-due files words b y

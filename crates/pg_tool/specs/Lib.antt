@@ -1,0 +1,10 @@
+pub mod Codes
+pub mod Steps
+pub mod Reads
+pub mod Work
+pub mod Due
+pub mod Leaves
+pub mod Loads
+pub mod Plans
+pub mod Performs
+pub mod Runs

@@ -1,0 +1,82 @@
+-- What bytes come to: as a description, and as an image.
+use Rattle.std.specs.Prelude.{◌≡◌, ℕ, List, Option, None, Some, Result, Ok, Err}
+use Rattle.pg_text.specs.Cutting.{cut, tokens_in}
+use Rattle.pg_ast.specs.declared.tree.Desc.{Desc}
+use Rattle.pg_ast.specs.Tokens.{tokens_of}
+use Rattle.pg_type.specs.declared.fault.TypeFault.{TypeFault}
+use Rattle.pg_type.specs.declared.fault.TypeFault.TheVariants as type_fault
+use Rattle.pg_type.specs.Valid.{IsValid, fault_of}
+use Rattle.pg_read.specs.declared.fault.DescFault.{DescFault}
+use Rattle.pg_read.specs.declared.fault.DescFault.TheVariants as read_fault
+use Rattle.pg_read.specs.Answer.{IsFaultAt, IsUnread}
+use Rattle.pg_image.specs.declared.fault.ImageFault.{ImageFault}
+use Rattle.pg_image.specs.declared.fault.ImageFault.TheVariants as image_fault
+use Rattle.pg_image.specs.Images.{image_due}
+use Rattle.pg_report.specs.declared.line.DescriptionLine.{DescriptionLine}
+use Rattle.pg_report.specs.declared.line.DescriptionLine.TheVariants as told_line
+use Rattle.pg_report.specs.declared.line.ImageLine.{ImageLine}
+use Rattle.pg_report.specs.declared.line.ImageLine.TheVariants as told_image
+
+-- bytes read as a description: their tokens are its tokens
+pub record ReadsAs (text : List ℕ) (d : Desc) : Type 0 where
+  pub tokens : tokens_in text ≡ Some (tokens_of d)
+
+-- what is told of bytes that are not read
+abbrev pub told_of_reading : DescFault → Option DescriptionLine
+told_of_reading read_fault.Long = Some told_line.Long
+told_of_reading (read_fault.Token place) = Some (told_line.Token place)
+told_of_reading read_fault.Unread = Some told_line.Unread
+told_of_reading read_fault.Memory = None
+
+-- what is told of a description that is not valid
+abbrev pub told_of_type : TypeFault → Option DescriptionLine
+told_of_type type_fault.Shape = Some told_line.Shape
+told_of_type (type_fault.Limit limit instr) = Some (told_line.Limit limit instr)
+told_of_type (type_fault.Twice name) = Some (told_line.Twice name)
+told_of_type (type_fault.Pattern instr) = Some (told_line.Pattern instr)
+told_of_type (type_fault.Overlap i j) = Some (told_line.Overlap i j)
+told_of_type (type_fault.Name instr name) = Some (told_line.Name instr name)
+told_of_type (type_fault.Width instr place) = Some (told_line.Width instr place)
+told_of_type type_fault.Memory = None
+
+-- bytes that read as a description which is not valid: its fault is the one that is told
+pub record IsInvalid (text : List ℕ) (shown : DescriptionLine) : Type 0 where
+  pub desc : Desc
+  pub reads : ReadsAs text desc
+  pub fault : TypeFault
+  pub first : fault_of desc ≡ Some fault
+  pub told : told_of_type fault ≡ Some shown
+
+-- what bytes within the limit come to as a description
+abbrev pub TextDue : List ℕ → Result Desc DescriptionLine → Type 0
+TextDue text (Ok d) = ReadsAs text d × IsValid d
+TextDue text (Err told_line.Long) = ⊥
+TextDue text (Err (told_line.Token place)) = IsFaultAt (cut text) place
+TextDue text (Err told_line.Unread) = IsUnread text
+TextDue text (Err told_line.Shape) = IsInvalid text told_line.Shape
+TextDue text (Err (told_line.Limit limit instr)) = IsInvalid text (told_line.Limit limit instr)
+TextDue text (Err (told_line.Twice name)) = IsInvalid text (told_line.Twice name)
+TextDue text (Err (told_line.Pattern instr)) = IsInvalid text (told_line.Pattern instr)
+TextDue text (Err (told_line.Overlap i j)) = IsInvalid text (told_line.Overlap i j)
+TextDue text (Err (told_line.Name instr name)) = IsInvalid text (told_line.Name instr name)
+TextDue text (Err (told_line.Width instr place)) = IsInvalid text (told_line.Width instr place)
+
+-- what is told of bytes that are no image
+abbrev pub told_of_image : ImageFault → Option ImageLine
+told_of_image image_fault.Long = Some told_image.Long
+told_of_image (image_fault.Token place) = Some (told_image.Token place)
+told_of_image (image_fault.Grammar n) = Some (told_image.Grammar n)
+told_of_image (image_fault.Address n) = Some (told_image.Address n)
+told_of_image (image_fault.Overlap n) = Some (told_image.Overlap n)
+told_of_image image_fault.Memory = None
+
+-- bytes that are no image for words of w bits and so many cells: their fault is the one that is told
+pub record IsNoImage (w size : ℕ) (text : List ℕ) (shown : ImageLine) : Type 0 where
+  pub fault : ImageFault
+  pub first : image_due w size text ≡ Err fault
+  pub told : told_of_image fault ≡ Some shown
+
+-- what bytes within the limit come to as an image
+abbrev pub BytesDue : ℕ → ℕ → List ℕ → Result (List ℕ) ImageLine → Type 0
+BytesDue w size text (Ok cells) = image_due w size text ≡ Ok cells
+BytesDue w size text (Err told) = IsNoImage w size text told

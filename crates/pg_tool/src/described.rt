@@ -1,0 +1,53 @@
+//! Bytes to machines.
+
+ghost use Rattle.std.specs.Prelude.{◌≡◌, ◌≤◌, length, IfOk, IfErr, IfSome, Ok, Err};
+ghost use Rattle.pg_tool.specs.Reads.{TextDue, told_of_reading, told_of_type};
+
+use pg_read::{DescFault, read_desc};
+use pg_report::DescriptionLine;
+use pg_type::{Machine, TypeFault, check};
+use std::alloc::Global;
+
+/// The machine that the bytes describe, or why they describe none; `None` where memory was refused.
+pub(crate) fn machine_of(alloc: Global, bytes: &[u8]) -> Result<Machine, Option<DescriptionLine>>
+    requires { length bytes.now ≤ 1048576 }
+    ensures ok { IfOk result (λ m. TextDue bytes.now (Ok m.desc)) }
+    ensures refused { IfErr result (λ told. IfSome told (λ line. TextDue bytes.now (Err line))) }
+{
+    let desc = match read_desc(alloc, bytes) {
+        Ok(desc) => desc,
+        Err(fault) => return Err(told_of_reading(fault)),
+    };
+    match check(alloc, desc) {
+        Ok(machine) => Ok(machine),
+        Err((_desc, fault)) => Err(told_of_type(fault)),
+    }
+}
+
+/// What is told of bytes that are not read; nothing of memory that was refused.
+fn told_of_reading(fault: DescFault) -> Option<DescriptionLine>
+    ensures { result ≡ told_of_reading fault }
+{
+    match fault {
+        DescFault::Long => Some(DescriptionLine::Long),
+        DescFault::Token(place) => Some(DescriptionLine::Token(place)),
+        DescFault::Unread => Some(DescriptionLine::Unread),
+        DescFault::Memory => None,
+    }
+}
+
+/// What is told of a description that is not valid; nothing of memory that was refused.
+fn told_of_type(fault: TypeFault) -> Option<DescriptionLine>
+    ensures { result ≡ told_of_type fault }
+{
+    match fault {
+        TypeFault::Shape => Some(DescriptionLine::Shape),
+        TypeFault::Limit(limit, instr) => Some(DescriptionLine::Limit(limit, instr)),
+        TypeFault::Twice(name) => Some(DescriptionLine::Twice(name)),
+        TypeFault::Pattern(instr) => Some(DescriptionLine::Pattern(instr)),
+        TypeFault::Overlap(first, second) => Some(DescriptionLine::Overlap(first, second)),
+        TypeFault::Name(instr, name) => Some(DescriptionLine::Name(instr, name)),
+        TypeFault::Width(instr, place) => Some(DescriptionLine::Width(instr, place)),
+        TypeFault::Memory => None,
+    }
+}

@@ -1,0 +1,109 @@
+//! Files to machines and images.
+
+ghost use Rattle.std.specs.Prelude.{◌≡◌, ◌≤◌, ◌<◌, ◌^◌, length, All, IfOk, IsErrOf, string_bytes};
+ghost use Rattle.pg_word.specs.Shape.{IsShape};
+ghost use Rattle.pg_edge.specs.Shelf.{LacksFile, HoldsLonger};
+ghost use Rattle.pg_edge.specs.Count.{Rose};
+ghost use Rattle.pg_edge.specs.declared.shelf.LoadFault.TheVariants.{Missing, Long, Failed};
+ghost use Rattle.pg_tool.specs.Due.{Loaded, DescDue, ImageDue};
+ghost use Rattle.pg_tool.specs.Loads.{Comes, OnlyReads, stop_as};
+
+use crate::described::machine_of;
+use crate::imaged::image_of;
+use crate::refusal::{Refusal, Stop};
+use pg_edge::{LoadFault, Shelf};
+use pg_image::Image;
+use pg_report::{DescriptionLine, ImageLine, RefusalLine};
+use pg_type::Machine;
+use pg_word::Shape;
+use std::alloc::Global;
+
+/// The most bytes of a description.
+const MOST_DESCRIPTION: u64 = 1_048_576;
+
+/// The most bytes of an image.
+const MOST_IMAGE: u64 = 33_554_432;
+
+/// The machine that a file describes.
+pub(crate) fn load_machine<F: Shelf>(
+    alloc: Global,
+    name: &str,
+    shelf: &mut F,
+) -> Result<Machine, Stop>
+    ensures comes { Comes (λ m. m.desc) (DescDue (F.files shelf.old) name.now) (F.reads shelf.old) (F.reads shelf.new) result }
+    ensures reads { OnlyReads (F.files shelf.old) (F.files shelf.new) (F.saves shelf.old) (F.saves shelf.new) (F.reads shelf.old) (F.reads shelf.new) }
+{
+    let bytes = match load_file(alloc, name, MOST_DESCRIPTION, shelf) {
+        Ok(bytes) => bytes,
+        Err(fault) => {
+            return Err(stop_of(fault, RefusalLine::Description(DescriptionLine::Long)));
+        }
+    };
+    match machine_of(alloc, &bytes) {
+        Ok(machine) => Ok(machine),
+        Err(None) => Err(Stop::Memory),
+        Err(Some(line)) => Err(Stop::Refused(Refusal::Line(RefusalLine::Description(line)))),
+    }
+}
+
+/// The image of this number, of a file, for `size` cells.
+pub(crate) fn load_image<F: Shelf>(
+    alloc: Global,
+    name: &str,
+    number: usize,
+    shape: &Shape,
+    size: u32,
+    shelf: &mut F,
+) -> Result<Image, Stop>
+    requires shape { IsShape shape.now }
+    requires least { 2 ≤ size }
+    requires most { size ≤ shape.now.q }
+    ensures comes { Comes (λ image. image) (ImageDue (F.files shelf.old) name.now number shape.now.w size) (F.reads shelf.old) (F.reads shelf.new) result }
+    ensures size { IfOk result (λ image. length image ≡ size) }
+    ensures words { IfOk result (λ image. All (λ word. word < 2 ^ shape.now.w) image) }
+    ensures reads { OnlyReads (F.files shelf.old) (F.files shelf.new) (F.saves shelf.old) (F.saves shelf.new) (F.reads shelf.old) (F.reads shelf.new) }
+{
+    let bytes = match load_file(alloc, name, MOST_IMAGE, shelf) {
+        Ok(bytes) => bytes,
+        Err(fault) => {
+            return Err(stop_of(fault, RefusalLine::Image(number, ImageLine::Long)));
+        }
+    };
+    match image_of(alloc, &bytes, shape, size) {
+        Ok(image) => Ok(image),
+        Err(None) => Err(Stop::Memory),
+        Err(Some(line)) => Err(Stop::Refused(Refusal::Line(RefusalLine::Image(number, line)))),
+    }
+}
+
+/// The bytes of a file.
+fn load_file<F: Shelf>(
+    alloc: Global,
+    name: &str,
+    limit: u64,
+    shelf: &mut F,
+) -> Result<Vec<u8>, LoadFault>
+    ensures ok { IfOk result (λ bytes. Loaded (F.files shelf.old) name.now limit bytes.items) }
+    ensures missing { IsErrOf result Missing → LacksFile (F.files shelf.old) name.now }
+    ensures long { IsErrOf result Long → HoldsLonger (F.files shelf.old) name.now limit }
+    ensures failed { IsErrOf result Failed → Rose (F.reads shelf.old) (F.reads shelf.new) }
+    ensures reads { OnlyReads (F.files shelf.old) (F.files shelf.new) (F.saves shelf.old) (F.saves shelf.new) (F.reads shelf.old) (F.reads shelf.new) }
+{
+    let mut bytes = Vec::new(alloc);
+    match shelf.load(name, limit, &mut bytes) {
+        Ok(()) => Ok(bytes),
+        Err(fault) => Err(fault),
+    }
+}
+
+/// Why a command goes no further whose file was not loaded.
+fn stop_of(fault: LoadFault, long: RefusalLine) -> Stop
+    ensures { result ≡ stop_as fault long }
+{
+    match fault {
+        LoadFault::Missing => Stop::Refused(Refusal::Missing),
+        LoadFault::Long => Stop::Refused(Refusal::Line(long)),
+        LoadFault::Failed => Stop::ReadFault,
+        LoadFault::Memory => Stop::Memory,
+    }
+}

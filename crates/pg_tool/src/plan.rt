@@ -1,0 +1,33 @@
+//! What is to be done for a command.
+
+ghost use Rattle.std.specs.Prelude.{◌≡◌};
+ghost use Rattle.pg_print.specs.Layout.{printed};
+ghost use Rattle.pg_tool.specs.Runs.{CanRun};
+
+use pg_image::Image;
+use pg_type::Machine;
+
+/// A run of a bare machine.
+#[derive(Drop)]
+pub(crate) struct BarePlan {
+    pub(crate) machine: Machine,
+    pub(crate) image: Image,
+    pub(crate) grant: u32,
+    pub(crate) steps: u64,
+    pub(crate) ghost can_run: { CanRun machine.desc.word machine.desc.size grant steps image },
+}
+
+/// The text of a description, and the description as a machine.
+#[derive(Drop)]
+pub(crate) struct PrintPlan {
+    pub(crate) machine: Machine,
+    pub(crate) text: Vec<u8>,
+    pub(crate) ghost printed: { text.items ≡ printed machine.desc },
+}
+
+/// What is to be done for a command, of which nothing can be refused any more but memory.
+#[derive(Drop)]
+pub(crate) enum Plan {
+    Bare(BarePlan),
+    Print(PrintPlan),
+}

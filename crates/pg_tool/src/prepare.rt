@@ -1,0 +1,101 @@
+//! The words and the files of a command.
+
+ghost use Rattle.std.specs.Prelude.{◌≡◌, ◌≤◌, map, string_bytes};
+ghost use Rattle.pg_command.specs.Asked.{asked_as, bare_as, print_as, IsBounded, IsBoundedBare};
+ghost use Rattle.pg_tool.specs.Due.{BareDue, PrintDue, CommandDue, Due};
+ghost use Rattle.pg_tool.specs.Loads.{Comes, OnlyReads, stop_of_words};
+ghost use Rattle.pg_tool.specs.Plans.{work_as};
+
+use crate::load::{load_image, load_machine};
+use crate::plan::{BarePlan, Plan, PrintPlan};
+use crate::refusal::{Refusal, Stop};
+use pg_command::{Bare, Fault, Print, Request, request};
+use pg_edge::Shelf;
+use pg_print::print;
+use pg_report::RefusalLine;
+use std::alloc::Global;
+
+/// What is to be done for the words, with the files that they name.
+pub(crate) fn prepare<F: Shelf>(
+    alloc: Global,
+    words: &[String],
+    shelf: &mut F,
+) -> Result<Plan, Stop>
+    ensures comes { Comes work_as (Due (F.files shelf.old) (map string_bytes words.now)) (F.reads shelf.old) (F.reads shelf.new) result }
+    ensures reads { OnlyReads (F.files shelf.old) (F.files shelf.new) (F.saves shelf.old) (F.saves shelf.new) (F.reads shelf.old) (F.reads shelf.new) }
+{
+    match request(alloc, words) {
+        Ok(request) => prepare_request(alloc, &request, shelf),
+        Err(fault) => Err(stop_of_words(fault)),
+    }
+}
+
+/// Why a command goes no further of whose words nothing was made.
+fn stop_of_words(fault: Fault) -> Stop
+    ensures { result ≡ stop_of_words fault }
+{
+    match fault {
+        Fault::Refused => Stop::Refused(Refusal::Words),
+        Fault::Memory => Stop::Memory,
+    }
+}
+
+/// What is to be done for the command that was asked for.
+fn prepare_request<F: Shelf>(alloc: Global, request: &Request, shelf: &mut F) -> Result<Plan, Stop>
+    requires { IsBounded (asked_as request.now) }
+    ensures comes { Comes work_as (CommandDue (F.files shelf.old) (asked_as request.now)) (F.reads shelf.old) (F.reads shelf.new) result }
+    ensures reads { OnlyReads (F.files shelf.old) (F.files shelf.new) (F.saves shelf.old) (F.saves shelf.new) (F.reads shelf.old) (F.reads shelf.new) }
+{
+    match request {
+        Request::Bare(bare) => prepare_bare(alloc, bare, shelf),
+        Request::Print(print) => prepare_print(alloc, print, shelf),
+    }
+}
+
+/// What is to be done for `bare`: the description is loaded, the room is tried, and the image is loaded.
+fn prepare_bare<F: Shelf>(alloc: Global, bare: &Bare, shelf: &mut F) -> Result<Plan, Stop>
+    requires { IsBoundedBare (bare_as bare.now) }
+    ensures comes { Comes work_as (BareDue (F.files shelf.old) (bare_as bare.now)) (F.reads shelf.old) (F.reads shelf.new) result }
+    ensures reads { OnlyReads (F.files shelf.old) (F.files shelf.new) (F.saves shelf.old) (F.saves shelf.new) (F.reads shelf.old) (F.reads shelf.new) }
+{
+    let machine = match load_machine(alloc, &bare.desc, shelf) {
+        Ok(machine) => machine,
+        Err(stop) => return Err(stop),
+    };
+    let most = machine.shape().q;
+    if bare.grant > most {
+        return Err(no_room(bare.grant, most));
+    }
+    let image = match load_image(alloc, &bare.image, 0, machine.shape(), bare.grant, shelf) {
+        Ok(image) => image,
+        Err(stop) => return Err(stop),
+    };
+    Ok(Plan::Bare(BarePlan {
+        machine,
+        image,
+        grant: bare.grant,
+        steps: bare.steps,
+    }))
+}
+
+/// What is to be done for `print`: the description is loaded, and its text made.
+fn prepare_print<F: Shelf>(alloc: Global, words: &Print, shelf: &mut F) -> Result<Plan, Stop>
+    ensures comes { Comes work_as (PrintDue (F.files shelf.old) (print_as words.now)) (F.reads shelf.old) (F.reads shelf.new) result }
+    ensures reads { OnlyReads (F.files shelf.old) (F.files shelf.new) (F.saves shelf.old) (F.saves shelf.new) (F.reads shelf.old) (F.reads shelf.new) }
+{
+    let machine = match load_machine(alloc, &words.desc, shelf) {
+        Ok(machine) => machine,
+        Err(stop) => return Err(stop),
+    };
+    match print(alloc, &machine.desc) {
+        Ok(text) => Ok(Plan::Print(PrintPlan { machine, text })),
+        Err(_) => Err(Stop::Memory),
+    }
+}
+
+/// More cells are wanted than a machine has.
+fn no_room(wanted: u32, free: u32) -> Stop
+    ensures { result ≡ Stop.Refused (Refusal.Line (RefusalLine.Room wanted free)) }
+{
+    Stop::Refused(Refusal::Line(RefusalLine::Room(u64::from(wanted), u64::from(free))))
+}

@@ -1,0 +1,6 @@
+//! Commands from their words to their text, over files, a sink and a hardware in memory.
+
+mod bursts;
+mod rows;
+mod setting;
+mod stops;
