@@ -8,10 +8,13 @@ use Rattle.pg_text.specs.Cutting.{IsDue, cut}
 use Rattle.pg_ast.specs.declared.tree.Desc.{Desc}
 use Rattle.pg_ast.specs.Tokens.{tokens_of}
 use Rattle.pg_ast.proofs.Exact.{read_at}
-use Rattle.pg_read.specs.declared.fault.DescFault.TheVariants.{Unread}
+use Rattle.pg_read.specs.declared.fault.DescFault.{DescFault}
+use Rattle.pg_read.specs.declared.fault.DescFault.TheVariants.{Long, Token, Grammar, Deep, Memory}
+use Rattle.pg_read.specs.Goals.{desc_goals, judged, IsJudged}
 use Rattle.pg_read.specs.Whole.{desc_at}
-use Rattle.pg_read.specs.Answer.{IsAnswer, token_fault}
+use Rattle.pg_read.specs.Answer.{IsAnswer, token_fault, toks}
 use Rattle.pg_read.proofs.InstrLemmas.{desc-exact, desc-tokens}
+use Rattle.pg_read.proofs.JudgeLemmas.{Says, judged_says}
 
 pub answer-fault : (text : List ℕ) (f : TextFault) → length text ≤ 1048576 → IsDue {X = List (Tok × Span)} (Err f) (cut text) → IsAnswer text (Err (token_fault f))
 answer-fault text (BadByte at) within due = (within, rw due refl)
@@ -24,9 +27,25 @@ pub answer-read : (text : List ℕ) (ts : List (Tok × Span)) (d : Desc) → len
 answer-read text ts d within tokens read =
     (within, rw tokens (ap Some (read_at (λ c. map (λ t. t.0) ts ≡ tokens_of c) (desc_at (map (λ t. t.0) ts)) d (desc-exact (map (λ t. t.0) ts)) read)))
 
-none : (ts : List Tok) (d : Desc) → desc_at ts ≡ None → Some ts ≢ Some (tokens_of d)
-none ts d read e = let back = desc-tokens d in let same : ts ≡ tokens_of d = cc in let both : None ≡ Some d = sym read ∙ ap desc_at same ∙ back in cc
+none : (ts : List Tok) (d : Desc) → desc_at ts ≡ None → tokens_of d ≢ ts
+none ts d read e = let back = desc-tokens d in let both : None ≡ Some d = sym read ∙ ap desc_at (sym e) ∙ back in cc
 
-pub answer-unread : (text : List ℕ) (ts : List (Tok × Span)) → length text ≤ 1048576 → cut text ≡ Ok ts → desc_at (map (λ t. t.0) ts) ≡ None → IsAnswer text (Err Unread)
-answer-unread text ts within tokens read =
-    (within, record { tokens = rw tokens refl; none = λ d e. none (map (λ t. t.0) ts) d read (rw tokens at e) })
+due : (text : List ℕ) (ts : List (Tok × Span)) (f : DescFault) → length text ≤ 1048576 → cut text ≡ Ok ts → Says ts (length text) f → IsAnswer text (Err f)
+due text ts Long within tokens says = absurd says
+due text ts (Token place) within tokens says = absurd says
+due text ts (Grammar place) within tokens says = (within, rw tokens says)
+due text ts (Deep place) within tokens says = (within, rw tokens says)
+due text ts Memory within tokens says = tt
+
+judged-answer : (text : List ℕ) (ts : List (Tok × Span)) (f g : DescFault) → IsJudged f g → IsAnswer text (Err g) → IsAnswer text (Err f)
+judged-answer text ts Long g e answer = rw e at answer
+judged-answer text ts (Token place) g e answer = rw e at answer
+judged-answer text ts (Grammar place) g e answer = rw e at answer
+judged-answer text ts (Deep place) g e answer = rw e at answer
+judged-answer text ts Memory g e answer = tt
+
+pub answer-unread : (text : List ℕ) (ts : List (Tok × Span)) (f : DescFault) → length text ≤ 1048576 → cut text ≡ Ok ts → desc_at (toks ts) ≡ None → IsJudged f (judged (length text) desc_goals ts) →
+    IsAnswer text (Err f)
+answer-unread text ts f within tokens read e =
+    judged-answer text ts f (judged (length text) desc_goals ts) e
+    (due text ts (judged (length text) desc_goals ts) within tokens (judged_says (length text) ts (λ d. none (toks ts) d read)))

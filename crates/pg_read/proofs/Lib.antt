@@ -6,3 +6,12 @@ pub mod InstrLemmas
 pub mod StepLemmas
 pub mod AnswerLemmas
 pub mod Shallow
+pub mod MarkEquations
+pub mod Traces
+pub mod StmtTraces
+pub mod Fillings
+pub mod Undoing
+pub mod FrontLemmas
+pub mod JudgeLemmas
+pub mod LowMarks
+pub mod OneAnswer

@@ -3,4 +3,7 @@ pub mod Keywords
 pub mod Forms
 pub mod Blocks
 pub mod Whole
+pub mod Marks
+pub mod Fronts
+pub mod Goals
 pub mod Answer

@@ -51,7 +51,7 @@ fn pattern_of(alloc: Global, bytes: &[u8]) -> Result<Option<PatternText>, AllocE
 }
 
 /// The operator of a sign, if it is one's.
-fn op_of(sign: Sign) -> Option<Op>
+pub fn op_of(sign: Sign) -> Option<Op>
     ensures { result ≡ op_of sign }
 {
     match sign {

@@ -15,9 +15,14 @@ pub enum DescFault {
     /// The first byte, number, word or pattern that makes no token stands here.
     #[error("no token at {0}")]
     Token(usize),
-    /// The tokens are no description's.
-    #[error("no description")]
-    Unread,
+    /// No description goes on with the token that stands here. Where each token could be followed by others and the text ends
+    /// too early, this is its length.
+    #[error("wrong at {0}")]
+    Grammar(usize),
+    /// The token that stands here, which a description could go on with, begins an expression of more than 32 levels, or
+    /// opens a block of more than 16.
+    #[error("too deep at {0}")]
+    Deep(usize),
     /// Memory ran out. It says nothing of the text.
     #[error("out of memory")]
     Memory,

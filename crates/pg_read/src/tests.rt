@@ -25,9 +25,26 @@ fn text(
     Ok(text)
 }
 
-/// The text is no description's.
-fn expect_unread(rt: &impl Abort, alloc: Global, text: &[u8]) {
-    assert!(rt; matches!(read_desc(alloc, text), Err(DescFault::Unread)));
+/// The text has this fault.
+fn expect_fault(rt: &impl Abort, alloc: Global, text: &[u8], fault: DescFault) {
+    match read_desc(alloc, text) {
+        Ok(_) => assert!(rt; false),
+        Err(found) => assert_eq!(rt; found, fault),
+    }
+}
+
+/// A body of the usual head's machine, a part of it so many times: it reads.
+fn expect_read(
+    rt: &impl Abort,
+    alloc: Global,
+    first: &[u8],
+    part: &[u8],
+    times: usize,
+    last: &[u8],
+) -> Result<(), AllocError> {
+    let text = text(alloc, first, part, times, last)?;
+    assert!(rt; read_desc(alloc, &text).is_ok());
+    Ok(())
 }
 
 /// The body of the first instruction.
@@ -59,15 +76,47 @@ fn reads_a_machine_of_one_instruction(rt: HostRuntime) -> Result<(), Fail> {
 #[test]
 fn says_why_a_text_is_not_read(rt: HostRuntime) -> Result<(), Fail> {
     let alloc = rt.alloc();
-    let bad = read_desc(alloc, b"machine { word 16; address 4; size 8; } !");
-    assert!(rt; matches!(bad, Err(DescFault::Token(40))));
-    expect_unread(&rt, alloc, b"");
-    expect_unread(&rt, alloc, b"machine { word 16; address 4; size 8; } instr");
+    let bad = b"machine { word 16; address 4; size 8; } !";
+    expect_fault(&rt, alloc, bad, DescFault::Token(40));
     let long = text(alloc, b"", b" ", TEXT_LIMIT - 34 + 1, b"")?;
     assert_eq!(rt; long.len(), TEXT_LIMIT + 1);
-    assert!(rt; matches!(read_desc(alloc, &long), Err(DescFault::Long)));
-    let full = text(alloc, b"", b" ", TEXT_LIMIT - 34, b"")?;
-    assert!(rt; read_desc(alloc, &full).is_ok());
+    expect_fault(&rt, alloc, &long, DescFault::Long);
+    expect_read(&rt, alloc, b"", b" ", TEXT_LIMIT - 34, b"")?;
+    Ok(())
+}
+
+#[test]
+fn says_where_a_text_ends_too_early(rt: HostRuntime) -> Result<(), Fail> {
+    let alloc = rt.alloc();
+    expect_fault(&rt, alloc, b"", DescFault::Grammar(0));
+    expect_fault(&rt, alloc, b"# a", DescFault::Grammar(3));
+    expect_fault(&rt, alloc, b"# a\n", DescFault::Grammar(4));
+    let whole = b"machine { word 16; address 4; size 8; }";
+    assert!(rt; read_desc(alloc, whole).is_ok());
+    let more = b"machine { word 16; address 4; size 8; } instr";
+    expect_fault(&rt, alloc, more, DescFault::Grammar(45));
+    let body = b"machine{word 16;address 4;size 8;}instr h\"0\"{pc=0:1; # }";
+    expect_fault(&rt, alloc, body, DescFault::Grammar(56));
+    Ok(())
+}
+
+#[test]
+fn says_where_the_grammar_is_left(rt: HostRuntime) -> Result<(), Fail> {
+    let alloc = rt.alloc();
+    let head = b"machine { word 16 address";
+    expect_fault(&rt, alloc, head, DescFault::Grammar(18));
+    let causes = b"machine{word 16;address 4;size 8;causes off;}";
+    expect_fault(&rt, alloc, causes, DescFault::Grammar(40));
+    let twice = b"machine{word 16;address 4;size 8;}machine";
+    expect_fault(&rt, alloc, twice, DescFault::Grammar(34));
+    let reserved = text(alloc, b"instr h\"0\"{let mem=pc;}", b"", 0, b"")?;
+    expect_fault(&rt, alloc, &reserved, DescFault::Grammar(49));
+    let nothing = text(alloc, b"instr h\"0\"{pc = ;}", b"", 0, b"")?;
+    expect_fault(&rt, alloc, &nothing, DescFault::Grammar(50));
+    let other = text(alloc, b"instr h\"0\"{if pc{}else trap;}", b"", 0, b"")?;
+    expect_fault(&rt, alloc, &other, DescFault::Grammar(57));
+    let second = text(alloc, b"instr h\"0\"{if pc{}else{}else{}}", b"", 0, b"")?;
+    expect_fault(&rt, alloc, &second, DescFault::Grammar(58));
     Ok(())
 }
 
@@ -115,18 +164,48 @@ instr jz \"1_xxxx_.......__....\" { # a jump
 }
 
 #[test]
-fn stops_at_the_limits(rt: HostRuntime) -> Result<(), Fail> {
+fn stops_at_level_33_of_expressions(rt: HostRuntime) -> Result<(), Fail> {
     let alloc = rt.alloc();
     let open = b"instr h\"0\"{pc=".as_slice();
-    let deepest = text(alloc, open, b"~", 31, b"pc;}")?;
-    assert!(rt; read_desc(alloc, &deepest).is_ok());
-    let deeper = text(alloc, open, b"~", 32, b"pc;}")?;
-    expect_unread(&rt, alloc, &deeper);
-    let parens = text(alloc, open, b"(", 50_000, b"")?;
-    expect_unread(&rt, alloc, &parens);
-    let nested = text(alloc, b"instr h\"0\"{", b"if pc{", 15, b"}}}}}}}}}}}}}}}}")?;
-    assert!(rt; read_desc(alloc, &nested).is_ok());
-    let too_nested = text(alloc, b"instr h\"0\"{", b"if pc{", 16, b"}}}}}}}}}}}}}}}}}")?;
-    expect_unread(&rt, alloc, &too_nested);
+    expect_read(&rt, alloc, open, b"~", 31, b"0:1;}")?;
+    let part = text(alloc, open, b"~", 32, b"0:1;}")?;
+    expect_fault(&rt, alloc, &part, DescFault::Deep(80));
+    let no_part = text(alloc, open, b"~", 32, b";}")?;
+    expect_fault(&rt, alloc, &no_part, DescFault::Grammar(80));
+    let sign = text(alloc, open, b"~", 33, b"0:1;}")?;
+    expect_fault(&rt, alloc, &sign, DescFault::Deep(80));
+    let later = text(alloc, open, b"~", 33, b";}")?;
+    expect_fault(&rt, alloc, &later, DescFault::Deep(80));
+    let before = text(alloc, b"instr h\"0\"{pc=;pc=", b"~", 33, b"0:1;}")?;
+    expect_fault(&rt, alloc, &before, DescFault::Grammar(48));
+    let token = text(alloc, open, b"~", 33, b"!")?;
+    expect_fault(&rt, alloc, &token, DescFault::Token(81));
+    Ok(())
+}
+
+#[test]
+fn stops_at_level_17_of_blocks(rt: HostRuntime) -> Result<(), Fail> {
+    let alloc = rt.alloc();
+    let open = b"instr h\"0\"{".as_slice();
+    expect_read(&rt, alloc, open, b"if 1:1 {", 15, b"}}}}}}}}}}}}}}}}")?;
+    let brace = text(alloc, open, b"if 1:1 {", 16, b"}}}}}}}}}}}}}}}}}")?;
+    expect_fault(&rt, alloc, &brace, DescFault::Deep(172));
+    let no_brace = text(alloc, open, b"if 1:1 {", 15, b"if 1:1 ;")?;
+    expect_fault(&rt, alloc, &no_brace, DescFault::Grammar(172));
+    let other = text(alloc, open, b"if 1:1 {", 14, b"if 1:1 { } else { if 1:1 { ")?;
+    expect_fault(&rt, alloc, &other, DescFault::Deep(182));
+    Ok(())
+}
+
+#[test]
+fn goes_down_no_further_than_the_limits(rt: HostRuntime) -> Result<(), Fail> {
+    let alloc = rt.alloc();
+    let open = b"instr h\"0\"{pc=".as_slice();
+    let parens = text(alloc, open, b"(", 10_000, b"")?;
+    expect_fault(&rt, alloc, &parens, DescFault::Deep(80));
+    let tildes = text(alloc, open, b"~", 10_000, b"")?;
+    expect_fault(&rt, alloc, &tildes, DescFault::Deep(80));
+    let blocks = text(alloc, b"instr h\"0\"{", b"if 1:1 {", 10_000, b"")?;
+    expect_fault(&rt, alloc, &blocks, DescFault::Deep(172));
     Ok(())
 }

@@ -2,12 +2,15 @@
 
 ghost use Rattle.std.specs.Prelude.{◌≡◌};
 ghost use Rattle.pg_read.specs.Answer.{IsAnswer, token_fault};
+ghost use Rattle.pg_read.specs.Goals.{IsJudged, desc_goals, judged};
 
 use crate::cursor::Cursor;
 use crate::fault::{DescFault, Stop};
 use crate::instrs::desc;
+use crate::judge::judge;
 use pg_ast::Desc;
-use pg_text::{TextFault, tokens};
+use pg_text::{Span, TextFault, tokens};
+use pg_token::Tok;
 use std::alloc::Global;
 
 /// The greatest number of bytes of a text.
@@ -26,11 +29,22 @@ fn token_fault(fault: TextFault) -> DescFault
     }
 }
 
+/// The first fault of tokens that are no description's, in a text of this length, unless memory runs out.
+fn why_unread(alloc: Global, toks: &[(Tok, Span)], end: usize) -> DescFault
+    ensures { IsJudged result (judged end desc_goals toks.now) }
+{
+    match judge(alloc, toks, end) {
+        Ok(fault) => fault,
+        Err(_) => DescFault::Memory,
+    }
+}
+
 /// The description of a text, or why there is none.
 ///
 /// `Ok` is the description whose tokens are the text's. `Long` comes before all else, where the text has more than
-/// `TEXT_LIMIT` bytes. `Token` is the place of the text's first fault, where it has one. `Unread` says that the text has
-/// tokens, and that no description has these. `Memory` comes where an allocation fails, and says nothing of the text.
+/// `TEXT_LIMIT` bytes. `Token` is the place of the text's first fault, where it has one. `Grammar` and `Deep` are the
+/// place of the first token that is wrong or too deep, where tokens are no description's; `Grammar` is the text's length
+/// where they come to an end too early. `Memory` comes where an allocation fails, and says nothing of the text.
 pub fn read_desc(alloc: Global, bytes: &[u8]) -> Result<Desc, DescFault>
     ensures { IsAnswer bytes.now result }
 {
@@ -43,7 +57,7 @@ pub fn read_desc(alloc: Global, bytes: &[u8]) -> Result<Desc, DescFault>
     };
     match desc(alloc, &mut Cursor::new(toks.as_slice())) {
         Ok(desc) => Ok(desc),
-        Err(Stop::Unread) => Err(DescFault::Unread),
+        Err(Stop::Unread) => Err(why_unread(alloc, toks.as_slice(), bytes.len())),
         Err(Stop::Memory) => Err(DescFault::Memory),
     }
 }

@@ -1,4 +1,4 @@
-//! The words that begin expressions and statements.
+//! The words that begin expressions and statements, and those of the head.
 
 ghost use Rattle.std.specs.Prelude.{◌≡◌, bytes_eq};
 ghost use Rattle.pg_read.specs.Keywords.{expr_word, stmt_word};
@@ -29,6 +29,16 @@ pub enum StmtWord {
     Bound,
     Trap,
     If,
+}
+
+/// A word that stands at a fixed place of the head.
+#[derive(Clone, Copy, Debug, PartialEq, Eq)]
+pub enum HeadWord {
+    Machine,
+    Word,
+    Address,
+    Size,
+    On,
 }
 
 /// Whether two words are the same.

@@ -13,4 +13,4 @@ returns-in-Ok-desc c =
 pub returns-in-Err-Unread : goal.returns-in-Err-Unread
 returns-in-Err-Unread c =
     let e = rw (c.new.ensures, c.as_slice.ensures, c.in-Err-Unread.field-0-is) at c.in-Err-Unread.ensures in
-    answer-unread c.args.bytes.now c.in-Ok.toks (omega arith) c.in-Ok.ensures e
+    answer-unread c.args.bytes.now c.in-Ok.toks c.why_unread.result (omega arith) c.in-Ok.ensures e (rw c.as_slice-in-Err-Unread.ensures at c.why_unread.ensures)
