@@ -9,6 +9,8 @@ pub mod FareEquations
 pub mod DeedSound
 pub mod ValidFacts
 pub mod StepSound
+pub mod AlikeLemmas
+pub mod AlikeSteps
 pub mod CheckExprEquations
 pub mod CheckStmtEquations
 pub mod CheckLemmas
@@ -20,3 +22,8 @@ pub mod TableLemmas
 pub mod ShapeLemmas
 pub mod PatternLemmas
 pub mod DecoderLemmas
+pub mod PlainEquations
+pub mod BlindValues
+pub mod BlindDeeds
+pub mod BlindBodies
+pub mod PlainSound

@@ -5,6 +5,7 @@ pub mod States
 pub mod Steps
 pub mod Kinds
 pub mod Accepting
+pub mod Alike
 pub mod PaperWords
 pub mod Limits
 pub mod Twice
@@ -21,3 +22,5 @@ pub mod Decoders
 pub mod Counted
 pub mod Fares
 pub mod Verdicts
+pub mod Plain
+pub mod Blind

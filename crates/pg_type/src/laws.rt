@@ -1,12 +1,14 @@
 //! What follows from the definitions alone, for those who read them: none of it does anything when it runs.
 
-ghost use Rattle.std.specs.Prelude.{◌≡◌, ℕ, ◌+◌, ◌<◌, ◌≤◌, ◌↔◌, true, List, length, None, Some, slice_get};
+ghost use Rattle.std.specs.Prelude.{◌≡◌, ℕ, ◌+◌, ◌<◌, ◌≤◌, ◌↔◌, true, false, List, length, None, Some, slice_get};
 ghost use Rattle.pg_ast.specs.declared.tree.Instr.{Instr as Instrs};
 ghost use Rattle.pg_type.specs.Patterns.{Field as Fields, matches, field_of};
 ghost use Rattle.pg_type.specs.Overlaps.{clash};
 ghost use Rattle.pg_type.specs.Valid.{IsValid, fault_of};
+ghost use Rattle.pg_type.specs.Accepting.{IsPrivileged, IsInnocuous, IsAccepted};
+ghost use Rattle.pg_type.specs.Plain.{every_control, any_has, naming, is_guarded, first_breach};
 
-use pg_ast::Desc;
+use pg_ast::{Desc, Instr};
 
 /// A description has no fault exactly where it is valid.
 pub fn valid_where_no_fault(desc: &Desc)
@@ -31,4 +33,22 @@ pub fn one_pattern_matches(desc: &Desc, word: u64)
 pub fn field_within_word(desc: &Desc)
     requires { IsValid desc.now }
     ensures { (i : ℕ) (x : Instrs) (name : List ℕ) (f : Fields) → slice_get desc.now.instrs i ≡ Some x → field_of x.pattern.bytes name ≡ Some f → f.low + f.width ≤ desc.now.word }
+{}
+
+/// An instruction whose body names none of the mode and the relocation-bounds register is innocuous.
+pub fn unnamed_control_means_innocuous(desc: &Desc, instr: &Instr)
+    requires { any_has (naming every_control) instr.now.body ≡ false }
+    ensures { IsInnocuous desc.now instr.now }
+{}
+
+/// An instruction whose body begins with `if mode { trap; }`, and has no other trap, is privileged.
+pub fn guard_means_privileged(desc: &Desc, instr: &Instr)
+    requires { is_guarded instr.now.body ≡ true }
+    ensures { IsPrivileged desc.now instr.now }
+{}
+
+/// A description of which each instruction is plain is accepted.
+pub fn plain_means_accepted(desc: &Desc)
+    requires { first_breach desc.now.instrs ≡ None }
+    ensures { IsAccepted desc.now }
 {}

@@ -9,10 +9,14 @@
 //! `classes`, over `limits`, `twice`, `patterns`, `overlaps`, `scopes` and `widths`, whose functions are the definitions one
 //! for one. `states` says that a valid description's machine never
 //! leaves its states, and `laws` what else follows from the definitions alone. An `Accepted` is a machine whose
-//! instructions are as the monitor of Theorem 1 needs them.
+//! instructions are as the monitor of Theorem 1 needs them, and `alike` says what a monitor gains by it: what is done in user
+//! mode is done alike wherever the window and P are the same. `plain` tests a rule on the text of bodies, in `Plain`, under
+//! which a machine is accepted; `Blind` says what two runs of one body have in common where it does not read in what they
+//! differ.
 #![tactic(auto)]
 
 mod accepted;
+pub mod alike;
 mod check_desc;
 mod classes;
 mod decoder;
@@ -25,6 +29,7 @@ mod machine;
 mod names;
 mod overlaps;
 mod patterns;
+mod plain_rule;
 pub mod rows;
 mod scopes;
 pub mod states;
@@ -39,6 +44,7 @@ pub use fault::{Limit, TypeFault};
 pub use kind::Kind;
 pub use machine::Machine;
 pub use patterns::{Field, field_of, matches};
+pub use plain_rule::plain;
 
 #[cfg(test)]
 mod tests;

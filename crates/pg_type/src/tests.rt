@@ -6,7 +6,7 @@ ghost use Rattle.pg_token.specs.Words.{is_name, is_pattern_byte};
 
 mod bodies;
 
-use crate::{Accepted, Decoder, HybridAccepted, Limit, TypeFault, check, field_of, matches};
+use crate::{Accepted, Decoder, HybridAccepted, Limit, TypeFault, check, field_of, matches, plain};
 use pg_ast::{Desc, Instr, Name, PatternText};
 use sqlite_items::Items;
 use std::alloc::{AllocError, Global};
@@ -201,6 +201,7 @@ fn a_machine_without_instructions_is_accepted(rt: HostRuntime) -> Result<(), Fai
         Ok(machine) => machine,
         Err(_) => return Err("valid".into()),
     };
+    assert!(rt; plain(&machine).is_none());
     assert_eq!(rt; Accepted::of(&machine).machine().count(), 0);
     assert_eq!(rt; HybridAccepted::of(&machine).machine().count(), 0);
     Ok(())
