@@ -1,0 +1,4 @@
+pub mod GrantLaws
+pub mod StoreLemmas
+pub mod StepLemmas
+pub mod StateLaws

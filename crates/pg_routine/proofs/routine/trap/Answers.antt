@@ -1,0 +1,27 @@
+use Rattle.std.proofs.Common.{◌≡◌, ◌+◌, ◌∙◌, sym, ap, slice_set, arith}
+use Rattle.pg_word.specs.Psw.{packed_trap, unpacked}
+use Rattle.pg_type.specs.States.{State, shape_of}
+use Rattle.pg_routine.proofs.GrantLaws.{guest-length, guest-cell, guest-set}
+use Rattle.pg_routine.proofs.routine.trap.Goals as goal
+
+pub returns-clause-storage : goal.returns-clause-storage
+returns-clause-storage g c =
+    let old = g.H.Hardware.state c.args.hw.now in
+    let e : c.args.base + 0 ≡ c.args.base = omega arith in
+    let some = guest-length old.cells c.args.base c.args.size c.requires.within in
+    let w = packed_trap (shape_of c.args.m.now.desc) c.args.psw.now c.args.cause in
+    c.poke.ensures.state
+    ∙ ap (λ k. let t : State = record old { cells = slice_set old.cells c.args.base k } in t)
+    (c.pack_trap.ensures.word ∙ ap (λ s. packed_trap s c.args.psw.now c.args.cause) c.shape-shape.ensures.numbers)
+    ∙ ap (λ k. let t : State = record old { cells = slice_set old.cells k w } in t) (sym e)
+    ∙ ap (λ cs. let t : State = record old { cells = cs } in t)
+    (sym (guest-set old.cells c.args.base c.args.size 0 w c.requires.within (omega (arith, some, c.requires.guest.size_least))))
+
+pub returns-clause-psw : goal.returns-clause-psw
+returns-clause-psw g c =
+    let old = g.H.Hardware.state c.args.hw.now in
+    let some = guest-length old.cells c.args.base c.args.size c.requires.within in
+    c.unpack-loaded.ensures.psw
+    ∙ ap (λ s. unpacked s.a c.peek.result) c.shape-shape.ensures.numbers
+    ∙ ap (unpacked c.args.m.now.desc.address)
+    (sym (guest-cell old.cells c.args.base c.args.size 1 c.peek.result (omega (arith, some, c.requires.guest.size_least)) c.peek.ensures))
