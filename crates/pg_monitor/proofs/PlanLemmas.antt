@@ -1,0 +1,177 @@
+-- Turns by a plan, one pair after another.
+use Rattle.std.proofs.Common.{◌≡◌, ℕ, zero, suc, ◌+◌, ◌-◌, ◌<◌, ◌≤◌, ◌⊎◌, inl, inr, List, [], ◌∷◌, ◌++◌, length, take, drop, All, Option, None, Some, slice_set, slice_index, slice_get, get_or, refl, sym, ◌∙◌, ap, subst, arith}
+use Rattle.std.proofs.lemmas.List.{length-take-le, length-append, length-set, length-map, drop_more, drop_all, get_or-set_other, get_or_append_left, get_or-append_right, get_or-take, get_or-drop}
+use Rattle.std.proofs.lemmas.List.Elements.{All-nil, All-cons, All-head, All-tail}
+use Rattle.std.proofs.lemmas.Option.{slice_get-get_or, slice_get_past, slice_get_cases}
+use Rattle.pg_ast.specs.declared.tree.Desc.{Desc}
+use Rattle.pg_type.specs.States.{State, IsState}
+use Rattle.pg_type.specs.Steps.{steps}
+use Rattle.pg_type.specs.Valid.{IsValid}
+use Rattle.pg_type.proofs.StepSound.{steps-state}
+use Rattle.pg_hw.specs.declared.counts.Counts.{Counts}
+use Rattle.pg_hw.specs.Tallies.{Bottom}
+use Rattle.pg_hw.proofs.TallyLaws.{raised_by-zero, RisesWithin-none}
+use Rattle.pg_routine.specs.Granting.{with_grant}
+use Rattle.pg_monitor.specs.declared.guest.Guest.{Guest}
+use Rattle.pg_monitor.specs.Guests.{virtual, virtuals}
+use Rattle.pg_monitor.specs.Direct.{direct_among}
+use Rattle.pg_monitor.specs.Standing.{Stands}
+use Rattle.pg_monitor.specs.Turns.{moved, trap_cell, grants_of, changes_in, CountsTurns, BottomTurns, Turned}
+use Rattle.pg_monitor.specs.Plans.{after_plan, turns_of, direct_turns, direct_of, current_of, changes_of, Followed}
+use Rattle.pg_monitor.proofs.CellLemmas.{with_grant-length}
+use Rattle.pg_monitor.proofs.DirectLemmas.{Holds-within, Holds-length, step-length}
+use Rattle.pg_monitor.proofs.WentLemmas.{CountsTurns-add, BottomTurns-add, direct_among-most}
+use Rattle.pg_monitor.proofs.GuestLemmas.{All-at, virtuals-at, Holds-of}
+
+-- ---- cells outside the grants
+
+same_cell : (xs ys : List ℕ) (k : ℕ) → length xs ≡ length ys → ((e : ℕ) → get_or xs k e ≡ get_or ys k e) → slice_get xs k ≡ slice_get ys k
+same_cell xs ys k len same = elim ((slice_get_cases ys k).1) [
+  | inl h ↦ slice_get-get_or xs k h.0 (omega (arith, len, h.1)) ∙ ap Some (same h.0 ∙ h.3) ∙ sym h.2
+  | inr h ↦ slice_get_past xs k (omega (arith, len, h.0)) ∙ sym h.1
+]
+
+-- a cell outside a grant is as it was
+pub granted-outside : (cells new : List ℕ) (base k : ℕ) → base + length new ≤ length cells → (k < base) ⊎ (base + length new ≤ k) →
+    slice_get (with_grant cells base new) k ≡ slice_get cells k
+granted-outside cells new base k within place =
+    same_cell (with_grant cells base new) cells k (with_grant-length cells new base within) (λ e. by_place e place)
+  where
+    by_place : (e : ℕ) → (k < base) ⊎ (base + length new ≤ k) → get_or (with_grant cells base new) k e ≡ get_or cells k e
+    by_place e (inl below) =
+        let front = length-take-le base cells (omega arith) in
+        let both = length-append (take base cells) new in
+        get_or_append_left (take base cells ++ new) (drop (base + length new) cells) e k (omega (arith, front, both))
+        ∙ get_or_append_left (take base cells) new e k (omega (arith, front)) ∙ get_or-take base cells k e below
+    by_place e (inr above) =
+        let front = length-take-le base cells (omega arith) in
+        let both : length (take base cells ++ new) ≡ base + length new = length-append (take base cells) new ∙ omega (arith, front) in
+        let at : base + length new + (k - (base + length new)) ≡ k = omega arith in
+        get_or-append_right (take base cells ++ new) (drop (base + length new) cells) (base + length new) k e both above
+        ∙ get_or-drop (base + length new) cells (k - (base + length new)) e ∙ ap (λ i. get_or cells i e) at
+
+first_outside : (xs : List ℕ) (k w : ℕ) → 1 ≤ k → slice_get (slice_set xs 0 w) k ≡ slice_get xs k
+first_outside xs k w some =
+    same_cell (slice_set xs 0 w) xs k (length-set xs 0 w) (λ e. get_or-set_other xs 0 k w e (λ is. absurd (omega arith)))
+
+steps-length : (d : Desc) (n : ℕ) (s : State) → IsValid d → IsState d s → length (steps d n s).cells ≡ length s.cells
+unfolding steps
+steps-length d zero s valid h = refl
+steps-length d (suc n) s valid h = step-length d (steps d n s) valid (steps-state d n s valid h) ∙ steps-length d n s valid h
+
+-- ---- the same grants
+
+abbrev outside_of : ℕ → Guest → Type 0
+outside_of at g = (at < g.base) ⊎ (g.base + g.size ≤ at)
+
+grants-outside : (at : ℕ) (gs hs : List Guest) → grants_of hs ≡ grants_of gs → All (outside_of at) gs → All (outside_of at) hs
+grants-outside at [] [] e all = All-nil (outside_of at)
+grants-outside at [] (h ∷ hs) e all = absurd (let wrong : ⊥ = cc in wrong)
+grants-outside at (g ∷ gs) [] e all = All-nil (outside_of at)
+grants-outside at (g ∷ gs) (h ∷ hs) e all =
+    let first : (h.base, h.size) ≡ (g.base, g.size) = cc in
+    let rest : grants_of hs ≡ grants_of gs = cc in
+    let base : h.base ≡ g.base = ap (λ (p : ℕ × ℕ). p.0) first in
+    let size : h.size ≡ g.size = ap (λ (p : ℕ × ℕ). p.1) first in
+    All-cons (outside_of at) h hs
+    (subst (λ n. (at < h.base) ⊎ (h.base + n ≤ at)) (sym size) (subst (λ n. (at < n) ⊎ (n + g.size ≤ at)) (sym base) (All-head (outside_of at) g gs all)))
+    (grants-outside at gs hs rest (All-tail (outside_of at) g gs all))
+
+turns-base : (d : Desc) (g h : Guest) (s : Option State) (n : ℕ) → h.base ≡ g.base → direct_turns d (Some h) s n ≡ direct_turns d (Some g) s n
+turns-base d g h None n e = refl
+turns-base d g h (Some s) n e = ap (λ b. direct_among d b n s) e
+
+direct_turns-grants : (d : Desc) (gs hs : List Guest) (k : ℕ) (s : Option State) (n : ℕ) → grants_of hs ≡ grants_of gs →
+    direct_turns d (slice_get hs k) s n ≡ direct_turns d (slice_get gs k) s n
+direct_turns-grants d [] [] k s n e = refl
+direct_turns-grants d [] (h ∷ hs) k s n e = absurd (let wrong : ⊥ = cc in wrong)
+direct_turns-grants d (g ∷ gs) [] k s n e = absurd (let wrong : ⊥ = cc in wrong)
+direct_turns-grants d (g ∷ gs) (h ∷ hs) zero s n e =
+    let first : (h.base, h.size) ≡ (g.base, g.size) = cc in turns-base d g h s n (ap (λ (p : ℕ × ℕ). p.0) first)
+direct_turns-grants d (g ∷ gs) (h ∷ hs) (suc k) s n e =
+    let rest : grants_of hs ≡ grants_of gs = cc in direct_turns-grants d gs hs k s n rest
+
+direct_of-grants : (d : Desc) (gs hs : List Guest) (plan : List (ℕ × ℕ)) (ss : List State) → grants_of hs ≡ grants_of gs → direct_of d hs plan ss ≡ direct_of d gs plan ss
+direct_of-grants d gs hs [] ss e = refl
+direct_of-grants d gs hs (turn ∷ plan) ss e =
+    ap (λ k. k + direct_of d hs plan (moved d turn.0 turn.1 ss)) (direct_turns-grants d gs hs turn.0 (slice_get ss turn.0) turn.1 e)
+    ∙ ap (λ k. direct_turns d (slice_get gs turn.0) (slice_get ss turn.0) turn.1 + k) (direct_of-grants d gs hs plan (moved d turn.0 turn.1 ss) e)
+
+direct_turns-most : (d : Desc) (g : Option Guest) (s : Option State) (n : ℕ) → direct_turns d g s n ≤ n
+direct_turns-most d None s n = omega arith
+direct_turns-most d (Some g) None n = omega arith
+direct_turns-most d (Some g) (Some s) n = direct_among-most d g.base n s
+
+direct_of-most : (d : Desc) (gs : List Guest) (plan : List (ℕ × ℕ)) (ss : List State) → direct_of d gs plan ss ≤ turns_of plan
+direct_of-most d gs [] ss = omega arith
+direct_of-most d gs (turn ∷ plan) ss =
+    omega (arith, direct_turns-most d (slice_get gs turn.0) (slice_get ss turn.0) turn.1, direct_of-most d gs plan (moved d turn.0 turn.1 ss))
+
+-- ---- plans
+
+pub Followed-none : (d : Desc) (s : State) (gs : List Guest) (current : Option ℕ) (t : Counts) (b : Bottom) → Followed d [] s s gs gs current current t t b b
+Followed-none d s gs current t b = record {
+  states = refl;
+  grants = refl;
+  current = refl;
+  outside = λ at some out. refl;
+  tally = record { steps = sym (raised_by-zero t.steps); untrapped = sym (raised_by-zero t.untrapped); loads = sym (raised_by-zero t.loads); pokes = RisesWithin-none t.pokes };
+  bottom = record { steps = sym (raised_by-zero b.steps); untrapped = sym (raised_by-zero b.untrapped) };
+}
+
+-- the turns of one pair, and then those of the others
+pub Followed-next : (d : Desc) (turn : ℕ × ℕ) (plan : List (ℕ × ℕ)) (old mid now : State) (gs hs ks : List Guest) (c c' c'' : Option ℕ) (t t' t'' : Counts) (b b' b'' : Bottom) →
+    IsValid d → Stands d old gs c → Turned d turn.0 turn.1 old mid gs hs c c' t t' b b' → Followed d plan mid now hs ks c' c'' t' t'' b' b'' →
+    Followed d (turn ∷ plan) old now gs ks c c'' t t'' b b''
+Followed-next d turn plan old mid now gs hs ks c c' c'' t t' t'' b b' b'' valid stands one rest =
+    let k = turn.0 in
+    let n = turn.1 in
+    let g = one.guest in
+    let ss = virtuals old.cells gs in
+    let held = Holds-of d old gs c k g stands one.is_guest in
+    let v = virtual old.cells g in
+    let len : length (steps d n v).cells ≡ g.size = steps-length d n v valid held.virtual_state ∙ Holds-length d old g held in
+    let first : direct_turns d (slice_get gs k) (slice_get ss k) n ≡ direct_among d g.base n v =
+    ap (λ o. direct_turns d o (slice_get ss k) n) one.is_guest ∙ ap (λ o. direct_turns d (Some g) o n) (virtuals-at old.cells gs k g one.is_guest) in
+    let others : direct_of d hs plan (virtuals mid.cells hs) ≡ direct_of d gs plan (moved d k n ss) =
+    ap (direct_of d hs plan) one.states ∙ direct_of-grants d gs hs plan (moved d k n ss) one.grants in
+    let all : direct_of d gs (turn ∷ plan) ss ≡ direct_among d g.base n v + direct_of d hs plan (virtuals mid.cells hs) =
+    ap (λ x. x + direct_of d gs plan (moved d k n ss)) first ∙ ap (λ x. direct_among d g.base n v + x) (sym others) in
+    let changes : changes_of (turn ∷ plan) c ≡ changes_in k n c + changes_of plan c' = ap (λ o. changes_in k n c + changes_of plan o) (sym one.current) in
+    record {
+      states = rest.states ∙ ap (after_plan d plan) one.states;
+      grants = rest.grants ∙ one.grants;
+      current = rest.current ∙ ap (current_of plan) one.current;
+      outside = λ at some out.
+          rest.outside at some (record { outside = grants-outside at gs hs one.grants out.outside })
+          ∙ ap (λ xs. slice_get xs at) one.storage
+          ∙ first_outside (with_grant old.cells g.base (steps d n v).cells) at (trap_cell d g.base n v (slice_index old.cells 0)) some
+          ∙ granted-outside old.cells (steps d n v).cells g.base at (omega (arith, Holds-within d old g held, len))
+          (subst (λ x. (at < g.base) ⊎ (g.base + x ≤ at)) (sym len) (All-at (outside_of at) gs k g out.outside one.is_guest));
+      tally = subst (λ x. CountsTurns (turns_of (turn ∷ plan)) (direct_of d gs (turn ∷ plan) ss) x t t'') (sym changes)
+          (subst (λ x. CountsTurns (n + turns_of plan) x (changes_in k n c + changes_of plan c') t t'') (sym all)
+          (CountsTurns-add n (turns_of plan) (direct_among d g.base n v) (direct_of d hs plan (virtuals mid.cells hs)) (changes_in k n c) (changes_of plan c') t t' t''
+          (direct_among-most d g.base n v) (direct_of-most d hs plan (virtuals mid.cells hs)) one.tally rest.tally));
+      bottom = subst (λ x. BottomTurns (n + turns_of plan) x b b'') (sym all)
+          (BottomTurns-add n (turns_of plan) (direct_among d g.base n v) (direct_of d hs plan (virtuals mid.cells hs)) b b' b'' one.bottom rest.bottom);
+    }
+
+-- the turns of the pair at a place, and then those of the pairs behind it
+pub Followed-on : (d : Desc) (plan : List (ℕ × ℕ)) (i : ℕ) (e : ℕ × ℕ) (old mid now : State) (gs hs ks : List Guest) (c c' c'' : Option ℕ) (t t' t'' : Counts) (b b' b'' : Bottom) →
+    IsValid d → Stands d old gs c → i < length plan → Turned d (get_or plan i e).0 (get_or plan i e).1 old mid gs hs c c' t t' b b' →
+    Followed d (drop (i + 1) plan) mid now hs ks c' c'' t' t'' b' b'' → Followed d (drop i plan) old now gs ks c c'' t t'' b b''
+Followed-on d plan i e old mid now gs hs ks c c' c'' t t' t'' b b' b'' valid stands within one rest =
+    subst (λ l. Followed d l old now gs ks c c'' t t'' b b'') (sym (drop_more plan i e within))
+    (Followed-next d (get_or plan i e) (drop (i + 1) plan) old mid now gs hs ks c c' c'' t t' t'' b b' b'' valid stands one rest)
+
+pub Followed-end : (d : Desc) (plan : List (ℕ × ℕ)) (i : ℕ) (s : State) (gs : List Guest) (current : Option ℕ) (t : Counts) (b : Bottom) → length plan ≤ i →
+    Followed d (drop i plan) s s gs gs current current t t b b
+Followed-end d plan i s gs current t b past =
+    subst (λ l. Followed d l s s gs gs current current t t b b) (sym (drop_all i plan past)) (Followed-none d s gs current t b)
+
+pub Turned-machine : (d e : Desc) (k n : ℕ) (old new : State) (gs hs : List Guest) (c c' : Option ℕ) (t t' : Counts) (b b' : Bottom) → e ≡ d →
+    Turned e k n old new gs hs c c' t t' b b' → Turned d k n old new gs hs c c' t t' b b'
+Turned-machine d e k n old new gs hs c c' t t' b b' same one = subst (λ x. Turned x k n old new gs hs c c' t t' b b') same one
+
+pub grants-length : (gs hs : List Guest) → grants_of hs ≡ grants_of gs → length hs ≡ length gs
+grants-length gs hs e = sym (length-map hs (λ (g : Guest). (g.base, g.size))) ∙ ap length e ∙ length-map gs (λ (g : Guest). (g.base, g.size))

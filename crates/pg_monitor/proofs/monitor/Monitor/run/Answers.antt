@@ -1,0 +1,27 @@
+use Rattle.std.proofs.Common.{ap, ◌∙◌, subst, arith}
+use Rattle.pg_type.specs.declared.machine.Machine.{Machine}
+use Rattle.pg_hw.proofs.ServingLaws.{SameServed-then}
+use Rattle.pg_monitor.specs.Standing.{Stands}
+use Rattle.pg_monitor.proofs.PlanLemmas.{Followed-on, Followed-end, Turned-machine, grants-length}
+use Rattle.pg_monitor.proofs.monitor.Monitor.run.Goals as goal
+
+pub loop-turn-preserved : goal.loop-turn-preserved
+loop-turn-preserved g c =
+    let m = c.args.self.now.accepted.machine.now in
+    let before = c.loop-turn.invariant in
+    let same = ap (λ (x : Machine). x.desc) before.machine in
+    let one = Turned-machine m.desc c.loop-turn.self.accepted.machine.now.desc _ _ _ _ _ _ _ _ _ _ _ _ same c.turns.ensures.turned in
+    record {
+      machine = c.turns.ensures.machine ∙ before.machine;
+      stands = subst (λ x. Stands x (g.H.Hardware.state c.turns.new.hw) c.turns.new.self.guests c.turns.new.self.current) same c.turns.ensures.stands;
+      known = grants-length _ _ one.grants ∙ before.known;
+      room = c.turns.ensures.room ∙ before.room;
+      served = SameServed-then _ _ _ before.served c.turns.ensures.served;
+      goes = λ new gs current t b rest. before.goes new gs current t b
+          (Followed-on m.desc c.args.plan.now c.loop-turn.turn-index _ _ _ new _ _ gs _ _ current _ _ t _ _ b m.valid before.stands c.loop-turn-test.true one rest);
+    }
+
+pub returns-clause-followed : goal.returns-clause-followed
+returns-clause-followed g c =
+    c.loop-turn.invariant.goes _ _ _ _ _
+    (Followed-end c.args.self.now.accepted.machine.now.desc c.args.plan.now c.loop-turn.turn-index _ _ _ _ _ (omega (arith, c.loop-turn-test.false)))

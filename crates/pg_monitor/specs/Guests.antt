@@ -1,0 +1,27 @@
+-- Guests: each has a grant of the storage, and a program status word that it believes to be its machine's.
+use Rattle.std.specs.Prelude.{ℕ, ◌+◌, ◌≤◌, ◌⊎◌, List, [], ◌∷◌, map, All}
+use Rattle.pg_type.specs.States.{State}
+use Rattle.pg_routine.specs.Granting.{guest_at}
+use Rattle.pg_monitor.specs.declared.guest.Guest.{Guest}
+
+-- the state that a guest believes its machine to be at: the cells of its grant, and its virtual PSW
+abbrev pub virtual : List ℕ → Guest → State
+virtual cells g = guest_at cells g.base g.size g.psw
+
+abbrev pub virtuals : List ℕ → List Guest → List State
+virtuals cells gs = map (virtual cells) gs
+
+-- a grant of two cells or more, behind the two cells of traps and within q
+pub record IsGrant (q : ℕ) (g : Guest) : Type 0 where
+  pub above : 2 ≤ g.base
+  pub least : 2 ≤ g.size
+  pub within : g.base + g.size ≤ q
+
+-- two grants have no cell in common
+abbrev pub AreApart : Guest → Guest → Type 0
+AreApart g h = (g.base + g.size ≤ h.base) ⊎ (h.base + h.size ≤ g.base)
+
+-- no two of these have
+abbrev pub AreDisjoint : List Guest → Type 0
+AreDisjoint [] = Unit {0}
+AreDisjoint (g ∷ gs) = All (AreApart g) gs × AreDisjoint gs

@@ -1,0 +1,56 @@
+-- Turns by a plan: which guest is to have how many turns, in order.
+use Rattle.std.specs.Prelude.{◌≡◌, ℕ, ◌+◌, ◌<◌, ◌≤◌, ◌⊎◌, List, [], ◌∷◌, All, Option, None, Some, slice_get}
+use Rattle.pg_ast.specs.declared.tree.Desc.{Desc}
+use Rattle.pg_type.specs.States.{State}
+use Rattle.pg_hw.specs.declared.counts.Counts.{Counts}
+use Rattle.pg_hw.specs.Tallies.{Bottom}
+use Rattle.pg_monitor.specs.declared.guest.Guest.{Guest}
+use Rattle.pg_monitor.specs.Guests.{virtuals}
+use Rattle.pg_monitor.specs.Direct.{direct_among}
+use Rattle.pg_monitor.specs.Turns.{moved, current_after, changes_in, CountsTurns, BottomTurns, grants_of}
+
+-- the states after a plan: each pair moves the state of its guest
+abbrev pub after_plan : Desc → List (ℕ × ℕ) → List State → List State
+after_plan d [] ss = ss
+after_plan d (turn ∷ plan) ss = after_plan d plan (moved d turn.0 turn.1 ss)
+
+-- all turns of a plan
+abbrev pub turns_of : List (ℕ × ℕ) → ℕ
+turns_of [] = 0
+turns_of (turn ∷ plan) = turn.1 + turns_of plan
+
+-- the direct ones among n turns of a guest that may be missing
+abbrev pub direct_turns : Desc → Option Guest → Option State → ℕ → ℕ
+direct_turns d None s n = 0
+direct_turns d (Some g) None n = 0
+direct_turns d (Some g) (Some s) n = direct_among d g.base n s
+
+-- the direct turns of a plan, of guests at these states
+abbrev pub direct_of : Desc → List Guest → List (ℕ × ℕ) → List State → ℕ
+direct_of d gs [] ss = 0
+direct_of d gs (turn ∷ plan) ss =
+    direct_turns d (slice_get gs turn.0) (slice_get ss turn.0) turn.1 + direct_of d gs plan (moved d turn.0 turn.1 ss)
+
+-- the guest that is current behind a plan
+abbrev pub current_of : List (ℕ × ℕ) → Option ℕ → Option ℕ
+current_of [] current = current
+current_of (turn ∷ plan) current = current_of plan (current_after turn.0 turn.1 current)
+
+-- the changes of guest in a plan
+abbrev pub changes_of : List (ℕ × ℕ) → Option ℕ → ℕ
+changes_of [] current = 0
+changes_of (turn ∷ plan) current = changes_in turn.0 turn.1 current + changes_of plan (current_after turn.0 turn.1 current)
+
+-- a cell of no grant
+pub record IsOutside (gs : List Guest) (at : ℕ) : Type 0 where
+  pub outside : All (λ g. (at < g.base) ⊎ (g.base + g.size ≤ at)) gs
+
+-- a plan that was followed
+pub record Followed (d : Desc) (plan : List (ℕ × ℕ)) (old new : State) (old_guests new_guests : List Guest) (old_current new_current : Option ℕ) (old_tally new_tally : Counts) (old_bottom new_bottom : Bottom) : Type 0 where
+  pub states : virtuals new.cells new_guests ≡ after_plan d plan (virtuals old.cells old_guests)
+  pub grants : grants_of new_guests ≡ grants_of old_guests
+  pub current : new_current ≡ current_of plan old_current
+  -- no cell outside the grants and cell 0 changes
+  pub outside : (at : ℕ) → 1 ≤ at → IsOutside old_guests at → slice_get new.cells at ≡ slice_get old.cells at
+  pub tally : CountsTurns (turns_of plan) (direct_of d old_guests plan (virtuals old.cells old_guests)) (changes_of plan old_current) old_tally new_tally
+  pub bottom : BottomTurns (turns_of plan) (direct_of d old_guests plan (virtuals old.cells old_guests)) old_bottom new_bottom

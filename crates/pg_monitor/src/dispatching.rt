@@ -1,0 +1,150 @@
+//! Turns of guests: which guest runs, and for how long.
+//!
+//! A guest that is not the current one is entered first, which is a *change of guest* and one load. Its turns are then
+//! those of `turning`. No call here takes memory or refuses anything.
+
+ghost use Rattle.std.specs.Prelude.{◌≡◌, ◌<◌, length, All, Some, slice_get, true};
+ghost use Rattle.pg_type.specs.Steps.{step};
+ghost use Rattle.pg_hw.specs.Bursts.{traps};
+ghost use Rattle.pg_hw.specs.Serving.{SameServed};
+ghost use Rattle.pg_hw.specs.Tallies.{raised_by};
+ghost use Rattle.pg_monitor.specs.declared.guest.Guest.{Guest as Guests};
+ghost use Rattle.pg_monitor.specs.Guests.{virtual};
+ghost use Rattle.pg_monitor.specs.Direct.{is_direct};
+ghost use Rattle.pg_monitor.specs.Monitors.{desc_of};
+ghost use Rattle.pg_monitor.specs.Standing.{Stands};
+ghost use Rattle.pg_monitor.specs.Turns.{change_to, Turned};
+ghost use Rattle.pg_monitor.specs.Plans.{Followed};
+ghost use Rattle.pg_monitor.specs.Current.{Runs, is_current};
+
+use crate::guest::Guest;
+use crate::monitor::Monitor;
+use crate::turning::{enter, turn_often, turn_once};
+use pg_hw::Hardware;
+
+impl<'m> Monitor<'m> {
+    /// One turn of a guest: its state goes one step on.
+    pub fn turn<H: Hardware>(&mut self, hw: &mut H, k: usize)
+        requires served { H.serves hw.old (desc_of self.old) }
+        requires stands { Stands (desc_of self.old) (H.state hw.old) self.old.guests self.old.current }
+        requires known { k < length self.old.guests }
+        ensures stands { Stands (desc_of self.old) (H.state hw.new) self.new.guests self.new.current }
+        ensures turned { Turned (desc_of self.old) k 1 (H.state hw.old) (H.state hw.new) self.old.guests self.new.guests
+            self.old.current self.new.current (H.tally hw.old) (H.tally hw.new) (H.bottom hw.old) (H.bottom hw.new) }
+        ensures machine { self.new.accepted.machine.now ≡ self.old.accepted.machine.now }
+        ensures room { H.most_cells hw.new ≡ H.most_cells hw.old }
+        ensures served { SameServed (H.serves hw.old) (H.serves hw.new) }
+
+        // A direct turn of the current guest is one step of the hardware, which leaves its mode and R.
+        ensures direct { (g : Guests) → slice_get self.old.guests k ≡ Some g → self.old.current ≡ Some k
+            → is_direct (desc_of self.old) g.base (virtual (H.state hw.old).cells g) ≡ true
+            → H.state hw.new ≡ step (desc_of self.old) (H.state hw.old) }
+        ensures kept { (g : Guests) → slice_get self.old.guests k ≡ Some g → self.old.current ≡ Some k
+            → is_direct (desc_of self.old) g.base (virtual (H.state hw.old).cells g) ≡ true
+            → (H.state hw.new).psw ≡ record (H.state hw.old).psw { p = (H.state hw.new).psw.p } }
+    {
+        self.turn_told(hw, k);
+    }
+
+    /// One turn of a guest, as `turn` does it; whether the guest's own step trapped, in whatever way.
+    pub fn turn_told<H: Hardware>(&mut self, hw: &mut H, k: usize) -> bool
+        requires served { H.serves hw.old (desc_of self.old) }
+        requires stands { Stands (desc_of self.old) (H.state hw.old) self.old.guests self.old.current }
+        requires known { k < length self.old.guests }
+        ensures told { (g : Guests) → slice_get self.old.guests k ≡ Some g → result ≡ traps (desc_of self.old) (virtual (H.state hw.old).cells g) }
+        ensures stands { Stands (desc_of self.old) (H.state hw.new) self.new.guests self.new.current }
+        ensures turned { Turned (desc_of self.old) k 1 (H.state hw.old) (H.state hw.new) self.old.guests self.new.guests
+            self.old.current self.new.current (H.tally hw.old) (H.tally hw.new) (H.bottom hw.old) (H.bottom hw.new) }
+        ensures machine { self.new.accepted.machine.now ≡ self.old.accepted.machine.now }
+        ensures room { H.most_cells hw.new ≡ H.most_cells hw.old }
+        ensures served { SameServed (H.serves hw.old) (H.serves hw.new) }
+
+        // A direct turn of the current guest is one step of the hardware, which leaves its mode and R.
+        ensures direct { (g : Guests) → slice_get self.old.guests k ≡ Some g → self.old.current ≡ Some k
+            → is_direct (desc_of self.old) g.base (virtual (H.state hw.old).cells g) ≡ true
+            → H.state hw.new ≡ step (desc_of self.old) (H.state hw.old) }
+        ensures kept { (g : Guests) → slice_get self.old.guests k ≡ Some g → self.old.current ≡ Some k
+            → is_direct (desc_of self.old) g.base (virtual (H.state hw.old).cells g) ≡ true
+            → (H.state hw.new).psw ≡ record (H.state hw.old).psw { p = (H.state hw.new).psw.p } }
+    {
+        let machine = self.accepted.machine();
+        let mut guest = self.select(hw, k);
+        let trapped = turn_once(machine, hw, &mut guest);
+        self.guests.set(k, guest);
+        trapped
+    }
+
+    /// `n` turns of a guest, one after another: its state goes `n` steps on.
+    pub fn turns<H: Hardware>(&mut self, hw: &mut H, k: usize, n: u64)
+        requires served { H.serves hw.old (desc_of self.old) }
+        requires stands { Stands (desc_of self.old) (H.state hw.old) self.old.guests self.old.current }
+        requires known { k < length self.old.guests }
+        ensures stands { Stands (desc_of self.old) (H.state hw.new) self.new.guests self.new.current }
+        ensures turned { Turned (desc_of self.old) k n (H.state hw.old) (H.state hw.new) self.old.guests self.new.guests
+            self.old.current self.new.current (H.tally hw.old) (H.tally hw.new) (H.bottom hw.old) (H.bottom hw.new) }
+        ensures machine { self.new.accepted.machine.now ≡ self.old.accepted.machine.now }
+        ensures room { H.most_cells hw.new ≡ H.most_cells hw.old }
+        ensures served { SameServed (H.serves hw.old) (H.serves hw.new) }
+    {
+        if n == 0 {
+            return;
+        }
+        let machine = self.accepted.machine();
+        let mut guest = self.select(hw, k);
+        turn_often(machine, hw, &mut guest, n);
+        self.guests.set(k, guest);
+    }
+
+    /// The turns of a plan, of which each pair is the number of a guest and how many turns it is to have, in order.
+    pub fn run<H: Hardware>(&mut self, hw: &mut H, plan: &[(usize, u64)])
+        requires served { H.serves hw.old (desc_of self.old) }
+        requires stands { Stands (desc_of self.old) (H.state hw.old) self.old.guests self.old.current }
+        requires known { All (λ t. t.0 < length self.old.guests) plan.now }
+        ensures stands { Stands (desc_of self.old) (H.state hw.new) self.new.guests self.new.current }
+        ensures followed { Followed (desc_of self.old) plan.now (H.state hw.old) (H.state hw.new) self.old.guests self.new.guests
+            self.old.current self.new.current (H.tally hw.old) (H.tally hw.new) (H.bottom hw.old) (H.bottom hw.new) }
+        ensures machine { self.new.accepted.machine.now ≡ self.old.accepted.machine.now }
+        ensures room { H.most_cells hw.new ≡ H.most_cells hw.old }
+        ensures served { SameServed (H.serves hw.old) (H.serves hw.new) }
+    {
+        for turn in plan {
+            self.turns(hw, turn.0, turn.1);
+        }
+    }
+
+    /// Makes a guest the current one, and enters it where it was not; the guest.
+    fn select<H: Hardware>(&mut self, hw: &mut H, k: usize) -> Guest
+        requires served { H.serves hw.old (desc_of self.old) }
+        requires stands { Stands (desc_of self.old) (H.state hw.old) self.old.guests self.old.current }
+        requires known { k < length self.old.guests }
+        ensures guest { slice_get self.old.guests k ≡ Some result }
+        ensures current { self.new.current ≡ Some k }
+        ensures guests { self.new.guests ≡ self.old.guests }
+        ensures machine { self.new.accepted.machine.now ≡ self.old.accepted.machine.now }
+        ensures runs { Runs (desc_of self.old) (H.state hw.new) result }
+        ensures cells { (H.state hw.new).cells ≡ (H.state hw.old).cells }
+        ensures same { self.old.current ≡ Some k → H.state hw.new ≡ H.state hw.old }
+        ensures tally { H.tally hw.new ≡ record (H.tally hw.old) { loads = raised_by (change_to k self.old.current) (H.tally hw.old).loads } }
+        ensures bottom { H.bottom hw.new ≡ H.bottom hw.old }
+        ensures room { H.most_cells hw.new ≡ H.most_cells hw.old }
+        ensures served { SameServed (H.serves hw.old) (H.serves hw.new) }
+    {
+        let guest = self.guest(k);
+        if is_current(self.current, k) {
+            return guest;
+        }
+        enter(hw, guest);
+        self.current = Some(k);
+        guest
+    }
+}
+
+/// Whether the current guest is the one of this number.
+fn is_current(current: Option<usize>, k: usize) -> bool
+    ensures { result ≡ is_current k current }
+{
+    match current {
+        Some(j) => j == k,
+        None => false,
+    }
+}

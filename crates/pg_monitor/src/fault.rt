@@ -1,0 +1,26 @@
+//! Why a guest was not loaded.
+
+ghost use Rattle.std.specs.Prelude.{◌≡◌};
+ghost use Rattle.pg_monitor.specs.declared.fault.LoadFault.TheVariants.{Memory};
+
+use std::alloc::AllocError;
+use thiserror::Error;
+
+/// Why an image was not loaded as a guest.
+#[derive(Debug, PartialEq, Eq, Drop, Error)]
+pub enum LoadFault {
+    /// The storage has no room for a grant of that size.
+    #[error("no room for a guest of that size")]
+    NoRoom,
+    /// Memory ran out. It says nothing of the image.
+    #[error("out of memory")]
+    Memory,
+}
+
+impl From<AllocError> for LoadFault {
+    ghost from_gives = { λ _ fault. fault ≡ Memory };
+
+    fn from(_error: AllocError) -> LoadFault {
+        LoadFault::Memory
+    }
+}

@@ -1,0 +1,33 @@
+//! The monitor: a control program that runs guests on a hardware, each of which believes to have the machine to itself.
+//!
+//! It is the monitor of Popek and Goldberg's proof. A guest has a *grant*, some cells of the hardware's storage, and a
+//! program status word of its own. The hardware runs it in user mode, under a program status word composed of its own: its
+//! window lies where the grant lies, and ends where the grant ends. What the guest's instructions do there they would do
+//! on the guest's machine, as long as they do not trap: that is what an accepted machine is. An instruction that traps
+//! enters the control program by the word in cell 1, and is interpreted on the guest's cells and its own program status
+//! word, whatever it then does there. So the state of a guest, which is its cells and that word, goes one step on at each
+//! of its turns, and nothing else changes but cell 0, where the hardware stores its traps.
+//!
+//! # Modules
+//!
+//! - `guest`: what is kept of a guest. `fault`: why one was not loaded.
+//! - `monitor`: the monitor, how it takes a storage, and how it loads a guest into it (`loading`).
+//! - `dispatching`: turns of guests, one, many and by a plan, and what a change of guest is.
+//! - `turning`: turns of the guest that runs: bursts of direct steps, and steps that are interpreted.
+//!
+//! Nothing here names a hardware but by its trait, nor rests on more of it than the clauses say.
+#![tactic(auto)]
+
+mod dispatching;
+mod fault;
+mod guest;
+mod loading;
+mod monitor;
+mod turning;
+
+pub use fault::LoadFault;
+pub use guest::Guest;
+pub use monitor::Monitor;
+
+#[cfg(test)]
+mod tests;

@@ -1,0 +1,154 @@
+//! The monitor.
+
+ghost use Rattle.std.specs.Prelude.{◌≡◌, ℕ, ◌+◌, ◌<◌, ◌≤◌, ◌^◌, [], ◌∷◌, ◌++◌, length, All, None, Some, OnOk, OnErr, IfOk, IfErr, slice_get, slice_set, true};
+ghost use Rattle.pg_word.specs.Psw.{packed};
+ghost use Rattle.pg_type.specs.States.{State, IsState};
+ghost use Rattle.pg_type.specs.Steps.{power_on, step};
+ghost use Rattle.pg_hw.specs.Tallies.{raised_by, after_poke};
+ghost use Rattle.pg_hw.specs.Bursts.{traps};
+ghost use Rattle.pg_hw.specs.Serving.{SameServed};
+ghost use Rattle.pg_routine.specs.Granting.{with_grant};
+ghost use Rattle.pg_monitor.specs.declared.guest.Guest.{Guest as Guests};
+ghost use Rattle.pg_monitor.specs.Guests.{virtual, virtuals};
+ghost use Rattle.pg_monitor.specs.Direct.{is_direct};
+ghost use Rattle.pg_monitor.specs.Monitors.{desc_of};
+ghost use Rattle.pg_monitor.specs.Standing.{control_psw, Stands};
+ghost use Rattle.pg_monitor.specs.Turns.{change_to, Turned};
+ghost use Rattle.pg_monitor.specs.Current.{Holds, Runs};
+ghost use Rattle.pg_monitor.specs.Loading.{after_pokes};
+
+use crate::fault::LoadFault;
+use crate::guest::Guest;
+use crate::loading::put_words;
+use crate::turning::{enter, turn_often, turn_once};
+use pg_hw::Hardware;
+use pg_image::Image;
+use pg_type::Accepted;
+use pg_word::{Mode, Psw, pack};
+use sqlite_items::Items;
+use std::alloc::{AllocError, Global};
+
+/// Where the first grant begins: behind the two cells of traps.
+const FIRST_BASE: u32 = 2;
+
+/// A monitor of guests, each of which believes to have a machine of its own.
+#[derive(Drop)]
+pub struct Monitor<'m> {
+    pub(crate) accepted: Accepted<'m>,
+    pub(crate) guests: Items<Guest>,
+    pub(crate) current: Option<usize>,
+}
+
+impl<'m> Monitor<'m> {
+    /// A monitor that takes the storage of a hardware: cell 1 becomes the program status word at which a trap enters it.
+    ///
+    /// Memory is taken, for the first guest, before the hardware is touched; where there is none, it is as it was.
+    pub fn new<H: Hardware>(
+        alloc: Global,
+        accepted: Accepted<'m>,
+        hw: &mut H,
+    ) -> Result<Monitor<'m>, AllocError>
+        requires served { H.serves hw.old accepted.machine.now.desc }
+        requires size { length (H.state hw.old).cells ≡ accepted.machine.now.desc.size }
+        requires state { IsState accepted.machine.now.desc (H.state hw.old) }
+        ensures machine { IfOk result (λ m. m.accepted.machine.now ≡ accepted.entry.machine.now) }
+        ensures guests { IfOk result (λ m. m.guests ≡ []) }
+        ensures current { IfOk result (λ m. m.current ≡ None) }
+        ensures stands { OnOk result (Stands accepted.entry.machine.now.desc (H.state hw.new) [] None) }
+        ensures state { let d = accepted.entry.machine.now.desc in
+            OnOk result (H.state hw.new ≡ record (H.state hw.old) { cells = slice_set (H.state hw.old).cells 1 (packed d.address (control_psw d.size)) }) }
+        ensures tally { OnOk result (H.tally hw.new ≡ after_poke (H.tally hw.old)) }
+        ensures refused_state { OnErr result (H.state hw.new ≡ H.state hw.old) }
+        ensures refused_tally { OnErr result (H.tally hw.new ≡ H.tally hw.old) }
+        ensures bottom { H.bottom hw.new ≡ H.bottom hw.old }
+        ensures room { H.most_cells hw.new ≡ H.most_cells hw.old }
+        ensures served { SameServed (H.serves hw.old) (H.serves hw.new) }
+
+        // Whether a step is direct does not depend on where the grant lies.
+        ensures direct_at_every_base { let d = accepted.entry.machine.now.desc in
+            (s : State) → IsState d s → (b c : ℕ) → 2 ≤ b → b + length s.cells ≤ d.size → 2 ≤ c → c + length s.cells ≤ d.size → is_direct d b s ≡ is_direct d c s }
+    {
+        let machine = accepted.machine();
+        let guests = Vec::with_capacity(alloc, 1)?;
+        let shape = machine.shape();
+        let word = pack(shape, first_psw(shape.q));
+        hw.poke(1, word);
+        Ok(Monitor {
+            accepted,
+            guests: Items::from_vec(guests),
+            current: None,
+        })
+    }
+
+    /// Loads an image as a new guest, whose grant is as large, and which is switched on with it. The number of the guest.
+    ///
+    /// `NoRoom` comes exactly where the storage has no room for the grant. Memory is taken before the hardware is touched.
+    pub fn load<H: Hardware>(&mut self, hw: &mut H, image: &Image) -> Result<usize, LoadFault>
+        requires none { self.old.guests ≡ [] }
+        requires least { 2 ≤ length image.now }
+        requires words { All (λ w. w < 2 ^ (desc_of self.old).word) image.now }
+        requires served { H.serves hw.old (desc_of self.old) }
+        requires stands { Stands (desc_of self.old) (H.state hw.old) self.old.guests self.old.current }
+        ensures number { IfOk result (λ k. k ≡ length self.old.guests) }
+        ensures guests { let size = length image.now in
+            OnOk result (self.new.guests ≡ self.old.guests ++ record { base = 2; size = size; psw = record { mode = Mode.S; p = 2; l = 0; b = size } } ∷ []) }
+        ensures current { self.new.current ≡ self.old.current }
+        ensures machine { self.new.accepted.machine.now ≡ self.old.accepted.machine.now }
+        ensures stands { Stands (desc_of self.old) (H.state hw.new) self.new.guests self.new.current }
+        ensures states { OnOk result (virtuals (H.state hw.new).cells self.new.guests
+            ≡ virtuals (H.state hw.old).cells self.old.guests ++ power_on image.now (length image.now) ∷ []) }
+        ensures state { OnOk result (H.state hw.new ≡ record (H.state hw.old) { cells = with_grant (H.state hw.old).cells 2 image.now }) }
+        ensures tally { OnOk result (H.tally hw.new ≡ after_pokes (H.tally hw.old) (length image.now)) }
+        ensures room_where_loaded { OnOk result (2 + length image.now ≤ (desc_of self.old).size) }
+        ensures no_room { IfErr result (λ e. e ≡ LoadFault.NoRoom → (desc_of self.old).size < 2 + length image.now) }
+        ensures memory { IfErr result (λ e. e ≡ LoadFault.Memory → 2 + length image.now ≤ (desc_of self.old).size) }
+        ensures refused_guests { OnErr result (self.new.guests ≡ self.old.guests) }
+        ensures refused_state { OnErr result (H.state hw.new ≡ H.state hw.old) }
+        ensures refused_tally { OnErr result (H.tally hw.new ≡ H.tally hw.old) }
+        ensures bottom { H.bottom hw.new ≡ H.bottom hw.old }
+        ensures room { H.most_cells hw.new ≡ H.most_cells hw.old }
+        ensures served { SameServed (H.serves hw.old) (H.serves hw.new) }
+    {
+        let words = image.as_slice();
+        let most = self.accepted.machine().shape().q - FIRST_BASE;
+        if words.len() > most as usize {
+            return Err(LoadFault::NoRoom);
+        }
+        let size = words.len() as u32;
+        let number = self.guests.len();
+        self.guests.push(Guest {
+            base: FIRST_BASE,
+            size,
+            psw: first_psw(size),
+        })?;
+        put_words(hw, FIRST_BASE, words);
+        Ok(number)
+    }
+
+    /// The guest of a number.
+    pub fn guest(&self, k: usize) -> Guest
+        requires { k < length self.now.guests }
+        ensures { slice_get self.now.guests k ≡ Some result }
+    {
+        self.guests.as_slice()[k]
+    }
+
+    /// How many guests there are.
+    pub fn len(&self) -> usize
+        ensures { result ≡ length self.now.guests }
+    {
+        self.guests.len()
+    }
+}
+
+/// The program status word with which a machine of so many cells is switched on, and a trap enters the control program.
+fn first_psw(size: u32) -> Psw
+    ensures { result ≡ control_psw size }
+{
+    Psw {
+        mode: Mode::S,
+        p: 2,
+        l: 0,
+        b: size,
+    }
+}

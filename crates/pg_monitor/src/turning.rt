@@ -1,0 +1,114 @@
+//! Turns of the guest that the hardware runs.
+//!
+//! The hardware executes a guest's instructions itself, in user mode and under the composed program status word, until one
+//! traps: these are the direct turns, and a run of them is one burst. The machine's trap enters the control program, which
+//! is in supervisor mode, so the mode tells whether a step trapped. The trap has stored the program status word of its
+//! entry in cell 0, where the guest's P stands: mode, relocation and bound of the guest are as they were, since no direct
+//! step of an accepted machine changes them. The instruction that trapped is then interpreted from the guest's own program
+//! status word, and the guest is entered again.
+
+ghost use Rattle.std.specs.Prelude.{◌≡◌, ◌+◌, ◌<◌, ◌≤◌, ◌^◌, true};
+ghost use Rattle.pg_type.specs.Accepting.{IsAccepted};
+ghost use Rattle.pg_type.specs.Steps.{step};
+ghost use Rattle.pg_hw.specs.Bursts.{traps};
+ghost use Rattle.pg_hw.specs.Serving.{SameServed, IsServedPsw};
+ghost use Rattle.pg_hw.specs.Tallies.{after_load};
+ghost use Rattle.pg_routine.specs.Composing.{composed};
+ghost use Rattle.pg_monitor.specs.Guests.{virtual};
+ghost use Rattle.pg_monitor.specs.Direct.{is_direct};
+ghost use Rattle.pg_monitor.specs.Current.{Holds, Runs, Interpreted, Went};
+
+use crate::guest::Guest;
+use pg_hw::Hardware;
+use pg_routine::{compose, emulate_told};
+use pg_type::Machine;
+use pg_word::{Mode, unpack};
+
+/// Enters a guest: loads the program status word that is composed of its virtual one.
+pub(crate) fn enter<H: Hardware>(hw: &mut H, guest: Guest)
+    requires addressable { guest.base + guest.size < 2 ^ 32 }
+    requires fits { IsServedPsw (H.serves hw.old) (composed guest.psw guest.base guest.size) }
+    ensures state { H.state hw.new ≡ record (H.state hw.old) { psw = composed guest.psw guest.base guest.size } }
+    ensures tally { H.tally hw.new ≡ after_load (H.tally hw.old) }
+    ensures bottom { H.bottom hw.new ≡ H.bottom hw.old }
+    ensures room { H.most_cells hw.new ≡ H.most_cells hw.old }
+    ensures served { SameServed (H.serves hw.old) (H.serves hw.new) }
+{
+    hw.set_psw(compose(guest.psw, guest.base, guest.size));
+}
+
+/// Interprets the step of a guest that trapped, and enters the guest again; whether the guest's own step trapped.
+fn interpret<H: Hardware>(m: &Machine, hw: &mut H, guest: &mut Guest) -> bool
+    requires served { H.serves hw.old m.now.desc }
+    requires holds { Holds m.now.desc (H.state hw.old) guest.old }
+    ensures interpreted { Interpreted m.now.desc (H.state hw.old) (H.state hw.new) guest.old guest.new (H.tally hw.old) (H.tally hw.new) }
+    ensures told { result ≡ traps m.now.desc (virtual (H.state hw.old).cells guest.old) }
+    ensures bottom { H.bottom hw.new ≡ H.bottom hw.old }
+    ensures room { H.most_cells hw.new ≡ H.most_cells hw.old }
+    ensures served { SameServed (H.serves hw.old) (H.serves hw.new) }
+{
+    let mut psw = guest.psw;
+    let trapped = emulate_told(m, hw, guest.base, guest.size, &mut psw);
+    guest.psw = psw;
+    enter(hw, *guest);
+    trapped
+}
+
+/// One turn; whether the guest's own step trapped.
+pub(crate) fn turn_once<H: Hardware>(m: &Machine, hw: &mut H, guest: &mut Guest) -> bool
+    requires accepted { ∥ IsAccepted m.now.desc ∥₁ }
+    requires served { H.serves hw.old m.now.desc }
+    requires runs { Runs m.now.desc (H.state hw.old) guest.old }
+    ensures went { Went m.now.desc 1 (H.state hw.old) (H.state hw.new) guest.old guest.new (H.tally hw.old) (H.tally hw.new) (H.bottom hw.old) (H.bottom hw.new)
+        (H.most_cells hw.old) (H.most_cells hw.new) (H.serves hw.old) (H.serves hw.new) }
+    ensures told { result ≡ traps m.now.desc (virtual (H.state hw.old).cells guest.old) }
+    ensures direct { is_direct m.now.desc guest.old.base (virtual (H.state hw.old).cells guest.old) ≡ true → H.state hw.new ≡ step m.now.desc (H.state hw.old) }
+{
+    hw.step(m);
+    let psw = hw.psw();
+    match psw.mode {
+        Mode::U => {
+            guest.psw.p = psw.p;
+            false
+        }
+        Mode::S => interpret(m, hw, guest),
+    }
+}
+
+/// Some turns, `most` at most and one at least: a burst, and where its last step trapped, that step interpreted. How many
+/// turns they were.
+fn turn_on<H: Hardware>(m: &Machine, hw: &mut H, guest: &mut Guest, most: u64) -> u64
+    requires accepted { ∥ IsAccepted m.now.desc ∥₁ }
+    requires served { H.serves hw.old m.now.desc }
+    requires runs { Runs m.now.desc (H.state hw.old) guest.old }
+    requires some { 0 < most }
+    ensures least { 1 ≤ result }
+    ensures most { result ≤ most }
+    ensures went { Went m.now.desc result (H.state hw.old) (H.state hw.new) guest.old guest.new (H.tally hw.old) (H.tally hw.new) (H.bottom hw.old) (H.bottom hw.new)
+        (H.most_cells hw.old) (H.most_cells hw.new) (H.serves hw.old) (H.serves hw.new) }
+{
+    let done = hw.burst(m, most);
+    let psw = hw.psw();
+    match psw.mode {
+        Mode::U => guest.psw.p = psw.p,
+        Mode::S => {
+            guest.psw.p = unpack(m.shape(), hw.peek(0)).p;
+            interpret(m, hw, guest);
+        }
+    }
+    done
+}
+
+/// `n` turns.
+pub(crate) fn turn_often<H: Hardware>(m: &Machine, hw: &mut H, guest: &mut Guest, n: u64)
+    requires accepted { ∥ IsAccepted m.now.desc ∥₁ }
+    requires served { H.serves hw.old m.now.desc }
+    requires runs { Runs m.now.desc (H.state hw.old) guest.old }
+    ensures { Went m.now.desc n (H.state hw.old) (H.state hw.new) guest.old guest.new (H.tally hw.old) (H.tally hw.new) (H.bottom hw.old) (H.bottom hw.new)
+        (H.most_cells hw.old) (H.most_cells hw.new) (H.serves hw.old) (H.serves hw.new) }
+{
+    let mut left = n;
+    while left > 0 {
+        left -= turn_on(m, hw, guest, left);
+    }
+}
