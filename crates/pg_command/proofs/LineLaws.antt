@@ -10,7 +10,7 @@ use Rattle.clap.proofs.ValueTestLemmas.{accepts-Accepts}
 use Rattle.clap.specs.declared.builder.value_parser.ValueParser.TheVariants as parser
 use Rattle.pg_command.specs.Line as line_spec
 use Rattle.pg_command.specs.Line.{line}
-use Rattle.pg_command.specs.Reads.{HasText, HoldsBare, HoldsCommand, HoldsOne, HoldsPrint}
+use Rattle.pg_command.specs.Reads.{HasText, HoldsBare, HoldsCommand, HoldsOne, HoldsPrint, HoldsRun}
 use Rattle.pg_command.proofs.RowLaws.{AreSingle}
 use Rattle.pg_command.proofs.LeafLaws.{IsGiven, command_met, leaf_given}
 use Rattle.pg_command.proofs.NumberLaws.{signed_number, unsigned_number}
@@ -70,6 +70,36 @@ bare_holds words none =
       steps = unsigned_number (codes "steps") 0 1000000 rows most.text most.is_one (accepts-Accepts false (parser.Unsigned 0 1000000) most.text most.passes);
     }
 
+-- ---- run
+
+abbrev built_run : Shape
+built_run = built_leaf (inherited line_spec.program line_spec.run)
+
+run_single : AreSingle built_run.rules built_run.rules
+run_single = (
+  record { own = refl; action = refl; range = refl; defaults = refl },
+  (
+    record { own = refl; action = refl; range = refl; defaults = refl },
+    (
+      record { own = refl; action = refl; range = refl; defaults = refl },
+      (record { own = refl; action = refl; range = refl; defaults = refl }, tt),
+    ),
+  ),
+)
+
+run_holds : (words : List Text) → level_fault built_run [] nothing_held words false [] ≡ [] → HoldsRun (rows_after built_run.rules [] words)
+run_holds words none =
+    let given = leaf_given built_run words run_single none in
+    let rows = rows_after built_run.rules [] words in
+    let cells = given grant refl refl in
+    let most = given steps refl refl in
+    record {
+      desc = has_text desc rows (given desc refl refl);
+      image = has_text image rows (given image refl refl);
+      grant = signed_number (codes "grant") 2 1048575 rows cells.text (omega arith) cells.is_one (accepts-Accepts false (parser.Signed (pos 2) (pos 1048575)) cells.text cells.passes);
+      steps = unsigned_number (codes "steps") 0 1000000 rows most.text most.is_one (accepts-Accepts false (parser.Unsigned 0 1000000) most.text most.passes);
+    }
+
 -- ---- print
 
 abbrev built_print : Shape
@@ -91,7 +121,10 @@ EachHolds (s ∷ more) =
     ((words : List Text) → level_fault s [] nothing_held words false [] ≡ [] → HoldsOne s.name (rows_after s.rules [] words)) × EachHolds more
 
 all_hold : EachHolds (built line).subs
-all_hold = ((λ words none. inl (refl, bare_holds words none)), ((λ words none. inr (refl, print_holds words none)), tt))
+all_hold = (
+  (λ words none. inl (refl, bare_holds words none)),
+  ((λ words none. inr (inl (refl, run_holds words none))), ((λ words none. inr (inr (refl, print_holds words none))), tt)),
+)
 
 -- the command that a test finds
 found_holds : (subs : List Shape) (test : Shape → Bool) (words : List Text) → EachHolds subs

@@ -8,12 +8,20 @@ use Rattle.clap.specs.Faults.{fault_of}
 use Rattle.clap.specs.Kinds.{Kinds}
 use Rattle.pg_command.specs.Line.{line}
 use Rattle.pg_command.specs.declared.ask.Bare.{Bare}
+use Rattle.pg_command.specs.declared.ask.Run.{Run}
 use Rattle.pg_command.specs.declared.ask.Print.{Print}
 use Rattle.pg_command.specs.declared.ask.Request.{Request}
 use Rattle.pg_command.specs.declared.ask.Request.TheVariants as request
 
 -- a description and an image by their files' names, a grant of cells, and a number of steps
 pub record AskedBare : Type 0 where
+  pub desc : Text
+  pub image : Text
+  pub grant : ℕ
+  pub steps : ℕ
+
+-- the same of a guest under a monitor
+pub record AskedRun : Type 0 where
   pub desc : Text
   pub image : Text
   pub grant : ℕ
@@ -26,6 +34,7 @@ pub record AskedPrint : Type 0 where
 -- what was asked for
 pub data Asked : Type 0 where
   AsksBare : AskedBare → Asked
+  AsksRun : AskedRun → Asked
   AsksPrint : AskedPrint → Asked
 
 -- ---- what the code answers, as plain data
@@ -38,11 +47,20 @@ bare_as b = record {
   steps = b.steps;
 }
 
+abbrev pub run_as : Run → AskedRun
+run_as r = record {
+  desc = string_bytes r.desc;
+  image = string_bytes r.image;
+  grant = r.grant;
+  steps = r.steps;
+}
+
 abbrev pub print_as : Print → AskedPrint
 print_as p = record { desc = string_bytes p.desc }
 
 abbrev pub asked_as : Request → Asked
 asked_as (request.Bare b) = AsksBare (bare_as b)
+asked_as (request.Run r) = AsksRun (run_as r)
 asked_as (request.Print p) = AsksPrint (print_as p)
 
 -- ---- what the words ask for
@@ -67,13 +85,23 @@ bare_of rows = with_text (codes "DESC") rows (λ desc. with_text (codes "IMAGE")
       steps = steps;
     })))))
 
+abbrev pub run_of : List Row → Option AskedRun
+run_of rows = with_text (codes "DESC") rows (λ desc. with_text (codes "IMAGE") rows (λ image.
+    with_number (codes "grant") rows (λ grant. with_number (codes "steps") rows (λ steps. Some (record {
+      desc = desc;
+      image = image;
+      grant = grant;
+      steps = steps;
+    })))))
+
 abbrev pub print_of : List Row → Option AskedPrint
 print_of rows = with_text (codes "DESC") rows (λ desc. Some (record { desc = desc }))
 
 -- by the command's name and the values of its arguments
 abbrev pub asked_of : Text → List Row → Option Asked
 asked_of name rows = cond (bytes_eq name (codes "bare")) (option_and_then (λ b. Some (AsksBare b)) (bare_of rows))
-    (cond (bytes_eq name (codes "print")) (option_and_then (λ p. Some (AsksPrint p)) (print_of rows)) None)
+    (cond (bytes_eq name (codes "run")) (option_and_then (λ r. Some (AsksRun r)) (run_of rows))
+    (cond (bytes_eq name (codes "print")) (option_and_then (λ p. Some (AsksPrint p)) (print_of rows)) None))
 
 abbrev pub named_as : Option (Text × List Row) → Option Asked
 named_as = option_and_then (λ p. asked_of p.0 p.1)
@@ -93,7 +121,11 @@ request_of words = unless_fault (fault_of line words) (named_as (subcommand_of l
 abbrev pub IsBoundedBare : AskedBare → Type 0
 IsBoundedBare b = (2 ≤ b.grant) × (b.grant ≤ 1048575) × (b.steps ≤ 1000000)
 
+abbrev pub IsBoundedRun : AskedRun → Type 0
+IsBoundedRun r = (2 ≤ r.grant) × (r.grant ≤ 1048575) × (r.steps ≤ 1000000)
+
 -- each number is one that the line takes
 abbrev pub IsBounded : Asked → Type 0
 IsBounded (AsksBare b) = IsBoundedBare b
+IsBounded (AsksRun r) = IsBoundedRun r
 IsBounded (AsksPrint p) = Unit {0}

@@ -13,7 +13,7 @@ place name = record (new_rule name) { required = true }
 abbrev pub number : Text → ValueParser → Rule
 number name numbers = record (new_rule name) { long = Some name; parser = Some numbers; required = true }
 
--- how many cells a machine is granted: 2 to 1,048,575
+-- how many cells a machine, or a guest, is granted: 2 to 1,048,575
 abbrev pub grant : Rule
 grant = number (codes "grant") (parser.Signed (pos 2) (pos 1048575))
 
@@ -27,13 +27,19 @@ bare = record (new_shape (codes "bare")) {
   rules = place (codes "DESC") ∷ place (codes "IMAGE") ∷ grant ∷ steps ∷ [];
 }
 
+-- `run DESC IMAGE --grant G --steps N`
+abbrev pub run : Shape
+run = record (new_shape (codes "run")) {
+  rules = place (codes "DESC") ∷ place (codes "IMAGE") ∷ grant ∷ steps ∷ [];
+}
+
 -- `print DESC`
 abbrev pub print : Shape
 print = record (new_shape (codes "print")) { rules = place (codes "DESC") ∷ [] }
 
 -- the commands
 abbrev pub commands : List Shape
-commands = bare ∷ print ∷ []
+commands = bare ∷ run ∷ print ∷ []
 
 -- the program: a command has to be named, and there is no word for help or the version
 abbrev pub program : Shape

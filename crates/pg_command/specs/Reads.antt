@@ -23,13 +23,21 @@ pub record HoldsBare (rows : List Row) : Type 0 where
   pub grant : HasNumber (codes "grant") 2 1048575 rows
   pub steps : HasNumber (codes "steps") 0 1000000 rows
 
+-- the arguments of `run`
+pub record HoldsRun (rows : List Row) : Type 0 where
+  pub desc : HasText (codes "DESC") rows
+  pub image : HasText (codes "IMAGE") rows
+  pub grant : HasNumber (codes "grant") 2 1048575 rows
+  pub steps : HasNumber (codes "steps") 0 1000000 rows
+
 -- the arguments of `print`
 pub record HoldsPrint (rows : List Row) : Type 0 where
   pub desc : HasText (codes "DESC") rows
 
 -- the arguments of the command of this name
 abbrev pub HoldsOne : Text → List Row → Type 0
-HoldsOne name rows = ((name ≡ codes "bare") × HoldsBare rows) ⊎ ((name ≡ codes "print") × HoldsPrint rows)
+HoldsOne name rows =
+    ((name ≡ codes "bare") × HoldsBare rows) ⊎ ((name ≡ codes "run") × HoldsRun rows) ⊎ ((name ≡ codes "print") × HoldsPrint rows)
 
 -- a command was named, and its arguments hold what it wants
 pub record HoldsCommand (named : Option (Text × List Row)) : Type 0 where

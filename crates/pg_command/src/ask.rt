@@ -7,6 +7,8 @@
 pub enum Request {
     /// `bare`: run an image on a bare machine.
     Bare(Bare),
+    /// `run`: run an image as a guest under a monitor.
+    Run(Run),
     /// `print`: print a description.
     Print(Print),
 }
@@ -21,6 +23,19 @@ pub struct Bare {
     /// How many cells the machine is granted.
     pub grant: u32,
     /// How many steps it runs at most.
+    pub steps: u64,
+}
+
+/// The words of `run`.
+#[derive(Drop)]
+pub struct Run {
+    /// The name of the file with the machine's description.
+    pub desc: String,
+    /// The name of the file with the image.
+    pub image: String,
+    /// How many cells the guest is granted.
+    pub grant: u32,
+    /// How many steps the guest runs at most.
     pub steps: u64,
 }
 

@@ -27,7 +27,7 @@ mod read;
 #[cfg(test)]
 mod tests;
 
-pub use ask::{Bare, Fault, Print, Request};
+pub use ask::{Bare, Fault, Print, Request, Run};
 use clap::error::ErrorKind;
 use line::command_line;
 use read::asked;

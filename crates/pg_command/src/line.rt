@@ -19,7 +19,7 @@ pub(crate) fn command_line<'a>(alloc: Global) -> Result<Command<'a>, AllocError>
         .disable_help_subcommand(true)
         .disable_version_flag(true)
         .subcommand_required(true);
-    with_print(alloc, with_bare(alloc, program)?)
+    with_print(alloc, with_run(alloc, with_bare(alloc, program)?)?)
 }
 
 /// The program with the command `bare DESC IMAGE --grant G --steps N`.
@@ -32,6 +32,18 @@ fn with_bare<'a>(alloc: Global, program: Command<'a>) -> Result<Command<'a>, All
         .arg(grant(alloc))?
         .arg(steps(alloc))?;
     program.subcommand(bare)
+}
+
+/// The program with the command `run DESC IMAGE --grant G --steps N`.
+fn with_run<'a>(alloc: Global, program: Command<'a>) -> Result<Command<'a>, AllocError>
+    ensures { IfOk result (λ c. app_of c ≡ with_subcommand (app_of program.entry) spec.run) }
+{
+    let run = Command::new(alloc, "run")
+        .arg(place(alloc, "DESC"))?
+        .arg(place(alloc, "IMAGE"))?
+        .arg(grant(alloc))?
+        .arg(steps(alloc))?;
+    program.subcommand(run)
 }
 
 /// The program with the command `print DESC`.
@@ -61,7 +73,7 @@ fn number<'a>(alloc: Global, name: &'a str, numbers: ValueParser<'a>) -> Arg<'a>
         .value_parser(numbers)
 }
 
-/// How many cells a machine is granted.
+/// How many cells a machine, or a guest, is granted.
 fn grant<'a>(alloc: Global) -> Arg<'a>
     ensures rule { rule_of result ≡ spec.grant }
     ensures local { result.global ≡ false }

@@ -4,10 +4,10 @@
 //! The functions here require that of the matches, and take the values without a test.
 ghost use Rattle.std.specs.Prelude.{◌≡◌, ◌≤◌, IfOk, Some, option_map, codes, string_bytes};
 ghost use Rattle.clap.specs.Words.{found_of, rows_of, subcommand_rows_of, first_of, one_of};
-ghost use Rattle.pg_command.specs.Asked.{IsBounded, IsBoundedBare, asked_as, bare_as, bare_of, named_as, number_of, print_as, print_of};
-ghost use Rattle.pg_command.specs.Reads.{HasNumber, HasText, HoldsBare, HoldsCommand, HoldsPrint};
+ghost use Rattle.pg_command.specs.Asked.{IsBounded, IsBoundedBare, IsBoundedRun, asked_as, bare_as, bare_of, named_as, number_of, print_as, print_of, run_as, run_of};
+ghost use Rattle.pg_command.specs.Reads.{HasNumber, HasText, HoldsBare, HoldsCommand, HoldsPrint, HoldsRun};
 
-use crate::ask::{Bare, Print, Request};
+use crate::ask::{Bare, Print, Request, Run};
 use clap::ArgMatches;
 use std::alloc::{AllocError, Global};
 
@@ -19,6 +19,9 @@ pub(crate) fn asked(alloc: Global, matches: &ArgMatches<'_>) -> Result<Request, 
 {
     if let Some(found) = matches.subcommand_matches("bare") {
         return Ok(Request::Bare(bare(alloc, found)?));
+    }
+    if let Some(found) = matches.subcommand_matches("run") {
+        return Ok(Request::Run(run(alloc, found)?));
     }
     if let Some(found) = matches.subcommand_matches("print") {
         return Ok(Request::Print(print(alloc, found)?));
@@ -44,6 +47,20 @@ fn bare(alloc: Global, matches: &ArgMatches<'_>) -> Result<Bare, AllocError>
     })
 }
 
+/// The words of `run`.
+fn run(alloc: Global, matches: &ArgMatches<'_>) -> Result<Run, AllocError>
+    requires { HoldsRun (rows_of (found_of matches.now)) }
+    ensures value { IfOk result (λ r. run_of (rows_of (found_of matches.now)) ≡ Some (run_as r)) }
+    ensures bounds { IfOk result (λ r. IsBoundedRun (run_as r)) }
+{
+    Ok(Run {
+        desc: text(alloc, matches, "DESC")?,
+        image: text(alloc, matches, "IMAGE")?,
+        grant: grant(matches),
+        steps: steps(matches),
+    })
+}
+
 /// The words of `print`.
 fn print(alloc: Global, matches: &ArgMatches<'_>) -> Result<Print, AllocError>
     requires { HoldsPrint (rows_of (found_of matches.now)) }
@@ -62,7 +79,7 @@ fn text(alloc: Global, matches: &ArgMatches<'_>, id: &str) -> Result<String, All
     String::from_str(alloc, matches.get_str(id).unwrap())
 }
 
-/// How many cells a machine is granted.
+/// How many cells a machine, or a guest, is granted.
 fn grant(matches: &ArgMatches<'_>) -> u32
     requires { HasNumber (codes "grant") 2 1048575 (rows_of (found_of matches.now)) }
     ensures value { option_map number_of (one_of (codes "grant") (rows_of (found_of matches.now))) ≡ Some result }

@@ -30,6 +30,29 @@ fn asks(
             assert_eq!(rt; bare.grant, grant);
             assert_eq!(rt; bare.steps, steps);
         }
+        Request::Run(_) => assert!(rt; false, "another command"),
+        Request::Print(_) => assert!(rt; false, "another command"),
+    }
+    Ok(())
+}
+
+/// The line asks for `run` with the description `d`, the image `i` and these numbers.
+fn asks_run(
+    rt: &impl Abort,
+    alloc: Global,
+    texts: &[&str],
+    grant: u32,
+    steps: u64,
+) -> Result<(), Fail> {
+    let words = words(alloc, texts)?;
+    match request(alloc, &words)? {
+        Request::Run(run) => {
+            assert_eq!(rt; run.desc.as_str(), "d");
+            assert_eq!(rt; run.image.as_str(), "i");
+            assert_eq!(rt; run.grant, grant);
+            assert_eq!(rt; run.steps, steps);
+        }
+        Request::Bare(_) => assert!(rt; false, "another command"),
         Request::Print(_) => assert!(rt; false, "another command"),
     }
     Ok(())
@@ -40,6 +63,7 @@ fn asks_print(rt: &impl Abort, alloc: Global, texts: &[&str]) -> Result<(), Fail
     let words = words(alloc, texts)?;
     match request(alloc, &words)? {
         Request::Bare(_) => assert!(rt; false, "another command"),
+        Request::Run(_) => assert!(rt; false, "another command"),
         Request::Print(print) => assert_eq!(rt; print.desc.as_str(), "d"),
     }
     Ok(())
@@ -111,6 +135,43 @@ fn the_words_of_print(rt: HostRuntime) -> Result<(), Fail> {
 }
 
 #[test]
+fn the_words_of_run(rt: HostRuntime) -> Result<(), Fail> {
+    let alloc = rt.alloc();
+    asks_run(
+        &rt,
+        alloc,
+        &["pgv", "run", "d", "i", "--grant", "8", "--steps", "3"],
+        8,
+        3,
+    )?;
+    asks_run(
+        &rt,
+        alloc,
+        &["pgv", "run", "--steps=1000000", "d", "i", "--grant=1048575"],
+        1_048_575,
+        1_000_000,
+    )?;
+    refuses(&rt, alloc, &["pgv", "run"])?;
+    refuses(
+        &rt,
+        alloc,
+        &["pgv", "run", "d", "i", "--grant=1", "--steps=3"],
+    )?;
+    refuses(
+        &rt,
+        alloc,
+        &["pgv", "run", "d", "i", "--grant=8", "--steps=1000001"],
+    )?;
+    refuses(&rt, alloc, &["pgv", "run", "d", "i", "--grant=8"])?;
+    refuses(
+        &rt,
+        alloc,
+        &["pgv", "run", "d", "i", "e", "--grant=8", "--steps=3"],
+    )?;
+    Ok(())
+}
+
+#[test]
 fn numbers_out_of_range(rt: HostRuntime) -> Result<(), Fail> {
     let alloc = rt.alloc();
     for grant in ["1", "1048576", "-8", "", "0x8", "8 "] {
@@ -131,7 +192,7 @@ fn lines_that_are_refused(rt: HostRuntime) -> Result<(), Fail> {
     let alloc = rt.alloc();
     refuses(&rt, alloc, &[])?;
     refuses(&rt, alloc, &["pgv"])?;
-    refuses(&rt, alloc, &["pgv", "run"])?;
+    refuses(&rt, alloc, &["pgv", "verify"])?;
     for word in ["--help", "-h", "help", "--version", "-V"] {
         refuses(&rt, alloc, &["pgv", word])?;
         refuses(

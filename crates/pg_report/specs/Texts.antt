@@ -4,9 +4,9 @@ use Rattle.std.specs.Fmt.{decimal}
 use Rattle.pg_type.specs.declared.fault.Limit.{Limit as Limits}
 use Rattle.pg_type.specs.declared.fault.Limit.TheVariants.{Instructions, Accesses, Lets, Statements, Expressions}
 use Rattle.pg_report.specs.declared.line.RefusalLine.{RefusalLine}
-use Rattle.pg_report.specs.declared.line.RefusalLine.TheVariants.{Description, Image, Room}
+use Rattle.pg_report.specs.declared.line.RefusalLine.TheVariants.{Description, Image, Room, Open}
 use Rattle.pg_report.specs.declared.line.DescriptionLine.{DescriptionLine}
-use Rattle.pg_report.specs.declared.line.DescriptionLine.TheVariants.{Long, Token, Unread, Shape, Limit, Twice, Pattern, Overlap, Name, Width}
+use Rattle.pg_report.specs.declared.line.DescriptionLine.TheVariants.{Long, Token, Grammar as Misplaced, Deep, Shape, Limit, Twice, Pattern, Overlap, Name, Width}
 use Rattle.pg_report.specs.declared.line.ImageLine.{ImageLine}
 use Rattle.pg_report.specs.declared.line.ImageLine.TheVariants.{Long as LongImage, Token as Foreign, Grammar, Address, Overlap as Again}
 
@@ -30,7 +30,8 @@ two_numbers m n = decimal m ++ codes " " ++ decimal n
 unfoldable pub description_text : DescriptionLine → List ℕ
 description_text Long = codes "long"
 description_text (Token place) = codes "token " ++ decimal place
-description_text Unread = codes "unread"
+description_text (Misplaced place) = codes "grammar " ++ decimal place
+description_text (Deep place) = codes "deep " ++ decimal place
 description_text Shape = codes "shape"
 description_text (Limit limit instr) = codes "limit " ++ two_numbers (limit_number limit) instr
 description_text (Twice name) = codes "twice " ++ name_text name
@@ -52,14 +53,18 @@ unfoldable pub refusal_text : RefusalLine → List ℕ
 refusal_text (Description line) = codes "description: " ++ description_text line ++ 10 ∷ []
 refusal_text (Image number line) = codes "image " ++ decimal number ++ codes ": " ++ image_text line ++ 10 ∷ []
 refusal_text (Room wanted free) = codes "room " ++ two_numbers wanted free ++ 10 ∷ []
+refusal_text (Open name) = codes "open " ++ name_text name ++ codes " rule" ++ 10 ∷ []
 
 -- how each command is called
 abbrev pub usage_bare : List ℕ
 usage_bare = codes "pgv bare DESC IMAGE --grant G --steps N" ++ 10 ∷ []
+
+abbrev pub usage_run : List ℕ
+usage_run = codes "pgv run DESC IMAGE --grant G --steps N" ++ 10 ∷ []
 
 abbrev pub usage_print : List ℕ
 usage_print = codes "pgv print DESC" ++ 10 ∷ []
 
 -- one line for each command
 unfoldable pub usage_text : List ℕ
-usage_text = usage_bare ++ usage_print
+usage_text = usage_bare ++ usage_run ++ usage_print

@@ -1,6 +1,7 @@
 //! The texts that the program puts into a sink.
 //!
-//! Three texts go out: the line of a refusal, the line of usage, and the text of a state. Each is put line by line, and
+//! These go out: the line of a refusal, the lines of usage, the text of a state, the lines around states of guests, and
+//! texts that stand in memory. Each is put line by line, and
 //! each line, in a buffer of fixed length, is one `put`, so that nothing here takes memory and nothing but the sink can
 //! refuse. A call answers as one `put` of its whole text would: where a put fails it answers `Failed`, and nothing more
 //! is put.
@@ -9,6 +10,7 @@
 //! - `push`: bytes, numbers and names at the end of a line.
 //! - `refusal`: the lines of refusals and of usage.
 //! - `state`: the text of a state.
+//! - `run`: the lines around the states of guests.
 //! - `text`: a text that stands in memory.
 //! - `laws`: what follows from the definitions alone.
 #![tactic(auto)]
@@ -17,11 +19,13 @@ pub mod laws;
 mod line;
 mod push;
 mod refusal;
+mod run;
 mod state;
 mod text;
 
 pub use line::{DescriptionLine, ImageLine, RefusalLine};
 pub use refusal::{put_refusal, put_usage};
+pub use run::{put_guest, put_steps};
 pub use state::put_state;
 pub use text::put_text;
 

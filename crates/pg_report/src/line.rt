@@ -12,6 +12,8 @@ pub enum RefusalLine {
     Image(usize, ImageLine),
     /// So many cells are wanted, and so many are free.
     Room(u64, u64),
+    /// The instruction of this name breaks the plain rule, so that it stays open whether a monitor may run the machine.
+    Open(Items<u8>),
 }
 
 /// Why a description is refused. Places are bytes, and instructions are numbered from 0.
@@ -21,8 +23,10 @@ pub enum DescriptionLine {
     Long,
     /// No token stands at this place.
     Token(usize),
-    /// Its tokens are those of no description.
-    Unread,
+    /// The token at this place is the first that no description goes on with; or its end comes too early, at this length.
+    Grammar(usize),
+    /// The token at this place begins an expression, or opens a block, of too many levels.
+    Deep(usize),
     /// The numbers of the head are those of no machine.
     Shape,
     /// A limit, and the instruction that breaks it.

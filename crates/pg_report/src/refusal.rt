@@ -31,6 +31,7 @@ pub fn put_usage<S: Sink>(out: &mut S) -> Result<(), Failed>
         usage_text result }
 {
     out.put(b"pgv bare DESC IMAGE --grant G --steps N\n")?;
+    out.put(b"pgv run DESC IMAGE --grant G --steps N\n")?;
     out.put(b"pgv print DESC\n")
 }
 
@@ -65,6 +66,11 @@ fn push_refusal(text: &mut Line, line: &RefusalLine)
             push_pair(text, b"room ", *wanted, *free);
             text.push(b'\n');
         }
+        RefusalLine::Open(name) => {
+            push(text, b"open ");
+            push_name(text, name.as_slice());
+            push(text, b" rule\n");
+        }
     }
 }
 
@@ -78,7 +84,8 @@ fn push_description(text: &mut Line, why: &DescriptionLine)
     match why {
         DescriptionLine::Long => push(text, b"long"),
         DescriptionLine::Token(place) => push_at(text, b"token ", *place),
-        DescriptionLine::Unread => push(text, b"unread"),
+        DescriptionLine::Grammar(place) => push_at(text, b"grammar ", *place),
+        DescriptionLine::Deep(place) => push_at(text, b"deep ", *place),
         DescriptionLine::Shape => push(text, b"shape"),
         DescriptionLine::Limit(limit, instr) => push_pair(
             text,

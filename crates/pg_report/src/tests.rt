@@ -2,7 +2,10 @@
 
 ghost use Rattle.std.specs.Prelude.{◌≡◌};
 
-use crate::{DescriptionLine, ImageLine, RefusalLine, put_refusal, put_state, put_text, put_usage};
+use crate::{
+    DescriptionLine, ImageLine, RefusalLine, put_guest, put_refusal, put_state, put_steps,
+    put_text, put_usage,
+};
 use pg_edge::{Failed, MemSink};
 use pg_hw::{Hardware, Idle};
 use pg_type::Limit;
@@ -31,7 +34,7 @@ fn usage_has_a_line_for_each_command(rt: HostRuntime) -> Result<(), Fail> {
     assert_eq!(rt; put_usage(&mut out), Ok(()));
     assert_eq!(rt;
         out.bytes(),
-        b"pgv bare DESC IMAGE --grant G --steps N\npgv print DESC\n".as_slice()
+        b"pgv bare DESC IMAGE --grant G --steps N\npgv run DESC IMAGE --grant G --steps N\npgv print DESC\n".as_slice()
     );
     Ok(())
 }
@@ -44,13 +47,33 @@ fn refusals_are_one_line_each(rt: HostRuntime) -> Result<(), Fail> {
         RefusalLine::Room(65, 64),
         RefusalLine::Description(DescriptionLine::Limit(Limit::Accesses, 0)),
         RefusalLine::Description(unknown),
+        RefusalLine::Description(DescriptionLine::Grammar(18)),
+        RefusalLine::Description(DescriptionLine::Deep(300)),
         RefusalLine::Image(0, ImageLine::Address(1)),
+        RefusalLine::Open(letter(rt.alloc(), b'r')?),
     ];
     for line in &lines {
         assert_eq!(rt; put_refusal(&mut out, line), Ok(()));
     }
-    let text = b"room 65 64\ndescription: limit 2 0\ndescription: name 0 z\nimage 0: address 1\n";
+    let text =
+        b"room 65 64\ndescription: limit 2 0\ndescription: name 0 z\ndescription: grammar 18\ndescription: deep 300\nimage 0: address 1\nopen r rule\n";
     assert_eq!(rt; out.bytes(), text.as_slice());
+    Ok(())
+}
+
+#[test]
+fn guests_have_a_line_before_and_one_behind_all(rt: HostRuntime) -> Result<(), Fail> {
+    let mut out = sink(rt.alloc(), &[])?;
+    assert_eq!(rt; put_guest(&mut out, 1), Ok(()));
+    assert_eq!(rt; put_steps(&mut out, 1_000_000, 0), Ok(()));
+    assert_eq!(rt;
+        out.bytes(),
+        b"guest 1\nsteps 1000000 direct 0\n".as_slice()
+    );
+    let mut out = sink(rt.alloc(), &[(2, 3)])?;
+    assert_eq!(rt; put_guest(&mut out, 0), Ok(()));
+    assert_eq!(rt; put_steps(&mut out, 3, 1), Err(Failed));
+    assert_eq!(rt; out.bytes(), b"guest 0\nste".as_slice());
     Ok(())
 }
 

@@ -1,0 +1,57 @@
+//! The lines around the states of guests.
+
+ghost use Rattle.std.specs.Prelude.{◌≡◌};
+ghost use Rattle.pg_edge.specs.Sink.{Puts};
+ghost use Rattle.pg_report.specs.Runs.{guest_line, steps_line};
+
+use crate::push::{push, push_number};
+use pg_edge::{Failed, Sink};
+use pg_image::Line;
+
+/// Puts the line before the state of a guest, by its number from 0.
+///
+/// # Errors
+/// `Failed` where not all of the line went through. A front of it may have.
+pub fn put_guest<S: Sink>(out: &mut S, number: usize) -> Result<(), Failed>
+    ensures { Puts (S.written out.old) (S.written out.new) (S.faults out.old) (S.faults out.new)
+        (guest_line number) result }
+{
+    out.put(line_of_guest(number).as_slice())
+}
+
+/// Puts the last line of a run: the steps of all guests, and how many of them the hardware executed untrapped.
+///
+/// # Errors
+/// `Failed` where not all of the line went through. A front of it may have.
+pub fn put_steps<S: Sink>(out: &mut S, steps: u64, direct: u64) -> Result<(), Failed>
+    ensures { Puts (S.written out.old) (S.written out.new) (S.faults out.old) (S.faults out.new)
+        (steps_line steps direct) result }
+{
+    out.put(line_of_steps(steps, direct).as_slice())
+}
+
+/// The line before the state of a guest.
+#[tactic(auto, unfolding(crate::specs::Runs::guest_line))]
+fn line_of_guest(number: usize) -> Line
+    ensures { result.items ≡ guest_line number }
+{
+    let mut line = Line::new();
+    push(&mut line, b"guest ");
+    push_number(&mut line, number as u64);
+    line.push(b'\n');
+    line
+}
+
+/// The last line of a run.
+#[tactic(auto, unfolding(crate::specs::Runs::steps_line))]
+fn line_of_steps(steps: u64, direct: u64) -> Line
+    ensures { result.items ≡ steps_line steps direct }
+{
+    let mut line = Line::new();
+    push(&mut line, b"steps ");
+    push_number(&mut line, steps);
+    push(&mut line, b" direct ");
+    push_number(&mut line, direct);
+    line.push(b'\n');
+    line
+}
