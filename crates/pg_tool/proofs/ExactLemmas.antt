@@ -24,6 +24,7 @@ exactly-of words old new status.ReadFault h files told due is = tt
 exactly-of words old new status.WriteFault h files told due is = tt
 exactly-of words old new status.Memory h files told due is = tt
 exactly-of words old new status.Done h files told due is = ends-exactly words old new status.Done files due h told is
+exactly-of words old new status.Unsettled h files told due is = ends-exactly words old new status.Unsettled files due h told is
 exactly-of words old new status.Words h files told due is = ends-exactly words old new status.Words files due h told is
 exactly-of words old new status.Description h files told due is = ends-exactly words old new status.Description files due h told is
 exactly-of words old new status.Image h files told due is = ends-exactly words old new status.Image files due h told is

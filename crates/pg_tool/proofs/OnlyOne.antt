@@ -1,25 +1,20 @@
 -- A command comes to one thing: what is due for told files is computed by reading them, so that it is no more than one.
-use Rattle.std.proofs.Common.{◌≡◌, ◌≢◌, ℕ, ◌<◌, cond, nat_lt, List, [], length, map, Option, Some, None, IsSome, IsSomeAnd, Result, Ok, Err, inl, inr, refl, sym, ◌∙◌, ap}
+use Rattle.std.specs.Prelude.{option_and_then, slice_get}
+use Rattle.std.proofs.Common.{◌≡◌, ◌≢◌, ℕ, ◌-◌, ◌<◌, ◌≤◌, cond, nat_lt, List, [], length, map, Option, Some, None, IsSome, IsSomeAnd, Result, Ok, Err, inl, inr, refl, sym, ◌∙◌, ap}
 use Rattle.std.proofs.lemmas.Bool.{lt-ltb, le-ltb}
-use Rattle.pg_token.specs.declared.tok.Tok.{Tok}
-use Rattle.pg_text.specs.declared.place.Span.{Span}
-use Rattle.pg_text.specs.declared.place.TextFault.{TextFault}
-use Rattle.pg_text.specs.declared.place.TextFault.TheVariants as text_fault
-use Rattle.pg_text.specs.Cutting.{cut, toks_of}
 use Rattle.pg_ast.specs.declared.tree.Desc.{Desc}
-use Rattle.pg_ast.specs.Tokens.{tokens_of}
-use Rattle.pg_ast.specs.Reading.{read_tokens}
-use Rattle.pg_ast.proofs.DescExact.{read_exactly}
-use Rattle.pg_ast.proofs.DescReads.{read_back}
 use Rattle.pg_type.specs.declared.fault.TypeFault.{TypeFault}
 use Rattle.pg_type.specs.Valid.{fault_of}
 use Rattle.pg_type.proofs.FaultLemmas.{no_fault}
 use Rattle.pg_edge.specs.Shelf.{Files}
-use Rattle.pg_command.specs.Asked.{Asked, AsksBare, AsksPrint, AskedBare, AskedPrint, request_of}
-use Rattle.pg_read.specs.Answer.{IsFaultAt}
+use Rattle.pg_command.specs.Asked.{Asked, AsksBare, AsksRun, AsksPrint, AskedBare, AskedRun, AskedPrint, request_of}
+use Rattle.pg_read.specs.declared.fault.DescFault.{DescFault}
+use Rattle.pg_read.specs.declared.fault.DescFault.TheVariants as read_fault
+use Rattle.pg_read.specs.Answer.{IsAnswer}
+use Rattle.pg_read.proofs.OneAnswer.{answer_due, answer_is_due}
 use Rattle.pg_image.specs.declared.fault.ImageFault.{ImageFault}
 use Rattle.pg_image.specs.Images.{image_due}
-use Rattle.pg_report.specs.declared.line.RefusalLine.TheVariants.{Description, Image, Room}
+use Rattle.pg_report.specs.declared.line.RefusalLine.TheVariants.{Description, Image, Room, Open}
 use Rattle.pg_report.specs.declared.line.DescriptionLine.{DescriptionLine}
 use Rattle.pg_report.specs.declared.line.DescriptionLine.TheVariants as told_line
 use Rattle.pg_report.specs.declared.line.ImageLine.{ImageLine}
@@ -27,9 +22,12 @@ use Rattle.pg_report.specs.declared.line.ImageLine.TheVariants as told_image
 use Rattle.pg_tool.specs.declared.refusal.Refusal.{Refusal}
 use Rattle.pg_tool.specs.declared.refusal.Refusal.TheVariants.{Words, Missing, Line}
 use Rattle.pg_tool.specs.Steps.{Step, Then}
-use Rattle.pg_tool.specs.Reads.{IsInvalid, TextDue, told_of_type, told_of_image, BytesDue}
-use Rattle.pg_tool.specs.Work.{Work, RunsBare, Prints}
-use Rattle.pg_tool.specs.Due.{RequestDue, ComesToText, DescDue, RoomDue, ComesToImage, ImageDue, RunDue, BareDue, PrintDue, CommandDue, Due}
+use Rattle.pg_tool.specs.Reads.{ReadsAs, IsInvalid, TextDue, told_of_reading, told_of_type, told_of_image, BytesDue}
+use Rattle.pg_type.specs.Twice.{instr_names}
+use Rattle.pg_type.specs.Plain.{first_breach}
+use Rattle.pg_tool.specs.Work.{Work, RunsBare, RunsGuest, Prints}
+use Rattle.pg_tool.specs.Due.{RequestDue, ComesToText, DescDue, RoomDue, ComesToImage, ImageDue, RunDue, BareDue, RuleDue, RunsDue, PrintDue, CommandDue, Due}
+use Rattle.pg_tool.proofs.StepLemmas.{behind_desc, behind_room, behind_image, behind_rule}
 
 -- ---- steps
 
@@ -68,58 +66,38 @@ abbrev check_answer : Desc → Option TypeFault → Result Desc DescriptionLine
 check_answer d None = Ok d
 check_answer d (Some fault) = fault_answer (told_of_type fault)
 
-abbrev read_answer : Option Desc → Result Desc DescriptionLine
-read_answer None = Err told_line.Unread
-read_answer (Some d) = check_answer d (fault_of d)
+-- the fault in an answer
+abbrev fault_in : DescFault → Result Desc DescFault → DescFault
+fault_in other (Ok d) = other
+fault_in other (Err fault) = fault
 
-abbrev cut_answer : Result (List (Tok × Span)) TextFault → Result Desc DescriptionLine
-cut_answer (Ok ts) = read_answer (read_tokens (map (λ t. t.0) ts))
-cut_answer (Err (text_fault.BadByte place)) = Err (told_line.Token place)
-cut_answer (Err (text_fault.BadNumber place)) = Err (told_line.Token place)
-cut_answer (Err (text_fault.BadWord place)) = Err (told_line.Token place)
-cut_answer (Err (text_fault.BadPattern place)) = Err (told_line.Token place)
-cut_answer (Err text_fault.Memory) = Err told_line.Long
+-- what the reader answers, as it is told
+abbrev read_answer : Result Desc DescFault → Result Desc DescriptionLine
+read_answer (Ok d) = check_answer d (fault_of d)
+read_answer (Err fault) = fault_answer (told_of_reading fault)
 
-abbrev the : Option (List Tok) → List Tok
-the None = []
-the (Some ts) = ts
+text-reads : (text : List ℕ) (d : Desc) → length text ≤ 1048576 → ReadsAs text d → answer_due text ≡ Ok d
+text-reads text d within h = sym (answer_is_due text (Ok d) (λ e. cc) (within, h.tokens))
 
--- bytes that read as a description
-cut-reads : (c : Result (List (Tok × Span)) TextFault) (d : Desc) → toks_of c ≡ Some (tokens_of d) → cut_answer c ≡ check_answer d (fault_of d)
-cut-reads (Ok ts) d h = ap (λ us. read_answer (read_tokens us)) (ap the h) ∙ ap read_answer (read_back d)
-cut-reads (Err f) d h = absurd (cc h)
+text-fault : (text : List ℕ) (fault : DescFault) → fault ≢ read_fault.Memory → IsAnswer text (Err fault) → answer_due text ≡ Err fault
+text-fault text fault known h = sym (answer_is_due text (Err fault) (λ e. known (ap (fault_in fault) e)) h)
 
-cut-token : (c : Result (List (Tok × Span)) TextFault) (place : ℕ) → IsFaultAt c place → cut_answer c ≡ Err (told_line.Token place)
-cut-token (Ok ts) place h = absurd h
-cut-token (Err (text_fault.BadByte at)) place h = ap (λ p. Err (told_line.Token p)) h
-cut-token (Err (text_fault.BadNumber at)) place h = ap (λ p. Err (told_line.Token p)) h
-cut-token (Err (text_fault.BadWord at)) place h = ap (λ p. Err (told_line.Token p)) h
-cut-token (Err (text_fault.BadPattern at)) place h = ap (λ p. Err (told_line.Token p)) h
-cut-token (Err text_fault.Memory) place h = absurd h
+text-invalid : (text : List ℕ) (line : DescriptionLine) → length text ≤ 1048576 → IsInvalid text line → read_answer (answer_due text) ≡ Err line
+text-invalid text line within h = ap read_answer (text-reads text h.desc within h.reads) ∙ ap (check_answer h.desc) h.first ∙ ap fault_answer h.told
 
-nothing-read : (ts : List Tok) (o : Option Desc) → read_tokens ts ≡ o → ((d : Desc) → Some ts ≢ Some (tokens_of d)) → read_answer o ≡ Err told_line.Unread
-nothing-read ts None is h = refl
-nothing-read ts (Some d) is h = absurd (h d (ap (λ us. Some us) ((read_exactly ts d).0 is)))
-
-cut-unread : (c : Result (List (Tok × Span)) TextFault) → IsSome (toks_of c) → ((d : Desc) → toks_of c ≢ Some (tokens_of d)) → cut_answer c ≡ Err told_line.Unread
-cut-unread (Ok ts) some none = nothing-read (map (λ t. t.0) ts) (read_tokens (map (λ t. t.0) ts)) refl none
-cut-unread (Err f) some none = absurd (cc some)
-
-text-invalid : (text : List ℕ) (line : DescriptionLine) → IsInvalid text line → cut_answer (cut text) ≡ Err line
-text-invalid text line h = cut-reads (cut text) h.desc h.reads.tokens ∙ ap (check_answer h.desc) h.first ∙ ap fault_answer h.told
-
-text-only : (text : List ℕ) (due : Result Desc DescriptionLine) → TextDue text due → cut_answer (cut text) ≡ due
-text-only text (Ok d) h = cut-reads (cut text) d h.0.tokens ∙ ap (check_answer d) (no_fault d h.1)
-text-only text (Err told_line.Long) h = absurd h
-text-only text (Err (told_line.Token place)) h = cut-token (cut text) place h
-text-only text (Err told_line.Unread) h = cut-unread (cut text) h.tokens h.none
-text-only text (Err told_line.Shape) h = text-invalid text told_line.Shape h
-text-only text (Err (told_line.Limit limit instr)) h = text-invalid text (told_line.Limit limit instr) h
-text-only text (Err (told_line.Twice name)) h = text-invalid text (told_line.Twice name) h
-text-only text (Err (told_line.Pattern instr)) h = text-invalid text (told_line.Pattern instr) h
-text-only text (Err (told_line.Overlap i j)) h = text-invalid text (told_line.Overlap i j) h
-text-only text (Err (told_line.Name instr name)) h = text-invalid text (told_line.Name instr name) h
-text-only text (Err (told_line.Width instr place)) h = text-invalid text (told_line.Width instr place) h
+text-only : (text : List ℕ) (due : Result Desc DescriptionLine) → length text ≤ 1048576 → TextDue text due → read_answer (answer_due text) ≡ due
+text-only text (Ok d) within h = ap read_answer (text-reads text d within h.0) ∙ ap (check_answer d) (no_fault d h.1)
+text-only text (Err told_line.Long) within h = absurd h
+text-only text (Err (told_line.Token place)) within h = ap read_answer (text-fault text (read_fault.Token place) (λ e. cc) (within, h))
+text-only text (Err (told_line.Grammar place)) within h = ap read_answer (text-fault text (read_fault.Grammar place) (λ e. cc) (within, h))
+text-only text (Err (told_line.Deep place)) within h = ap read_answer (text-fault text (read_fault.Deep place) (λ e. cc) (within, h))
+text-only text (Err told_line.Shape) within h = text-invalid text told_line.Shape within h
+text-only text (Err (told_line.Limit limit instr)) within h = text-invalid text (told_line.Limit limit instr) within h
+text-only text (Err (told_line.Twice name)) within h = text-invalid text (told_line.Twice name) within h
+text-only text (Err (told_line.Pattern instr)) within h = text-invalid text (told_line.Pattern instr) within h
+text-only text (Err (told_line.Overlap i j)) within h = text-invalid text (told_line.Overlap i j) within h
+text-only text (Err (told_line.Name instr name)) within h = text-invalid text (told_line.Name instr name) within h
+text-only text (Err (told_line.Width instr place)) within h = text-invalid text (told_line.Width instr place) within h
 
 abbrev lift_text : Result Desc DescriptionLine → Result Desc Refusal
 lift_text (Ok d) = Ok d
@@ -127,24 +105,25 @@ lift_text (Err line) = Err (Line (Description line))
 
 abbrev desc_answer : Option (List ℕ) → Result Desc Refusal
 desc_answer None = Err Missing
-desc_answer (Some text) = cond (nat_lt 1048576 (length text)) (Err (Line (Description told_line.Long))) (lift_text (cut_answer (cut text)))
+desc_answer (Some text) = cond (nat_lt 1048576 (length text)) (Err (Line (Description told_line.Long))) (lift_text (read_answer (answer_due text)))
 
 desc-comes : (files : Files) (name : List ℕ) (due : Result Desc DescriptionLine) → ComesToText (Some files) name due → desc_answer (files name) ≡ lift_text due
 desc-comes files name due h =
     ap desc_answer h.loaded.holds
-    ∙ ap (λ b. cond b (Err (Line (Description told_line.Long))) (lift_text (cut_answer (cut h.bytes)))) (le-ltb 1048576 (length h.bytes) h.loaded.within)
-    ∙ ap lift_text (text-only h.bytes due h.comes)
+    ∙ ap (λ b. cond b (Err (Line (Description told_line.Long))) (lift_text (read_answer (answer_due h.bytes)))) (le-ltb 1048576 (length h.bytes) h.loaded.within)
+    ∙ ap lift_text (text-only h.bytes due h.loaded.within h.comes)
 
 desc-long : (o : Option (List ℕ)) → IsSomeAnd o (λ text. 1048576 < length text) → desc_answer o ≡ Err (Line (Description told_line.Long))
 desc-long None h = absurd h
-desc-long (Some text) h = ap (λ b. cond b (Err (Line (Description told_line.Long))) (lift_text (cut_answer (cut text)))) (lt-ltb 1048576 (length text) h)
+desc-long (Some text) h = ap (λ b. cond b (Err (Line (Description told_line.Long))) (lift_text (read_answer (answer_due text)))) (lt-ltb 1048576 (length text) h)
 
 only-desc : (files : Files) (name : List ℕ) → Only (DescDue (Some files) name) (desc_answer (files name))
 only-desc files name (Ok d) h = desc-comes files name (Ok d) h
 only-desc files name (Err Words) h = absurd h
 only-desc files name (Err Missing) h = ap desc_answer h
 only-desc files name (Err (Line (Description told_line.Long))) h = desc-long (files name) h
-only-desc files name (Err (Line (Description told_line.Unread))) h = desc-comes files name (Err told_line.Unread) h
+only-desc files name (Err (Line (Description (told_line.Grammar place)))) h = desc-comes files name (Err (told_line.Grammar place)) h
+only-desc files name (Err (Line (Description (told_line.Deep place)))) h = desc-comes files name (Err (told_line.Deep place)) h
 only-desc files name (Err (Line (Description told_line.Shape))) h = desc-comes files name (Err told_line.Shape) h
 only-desc files name (Err (Line (Description (told_line.Token place)))) h = desc-comes files name (Err (told_line.Token place)) h
 only-desc files name (Err (Line (Description (told_line.Limit limit instr)))) h = desc-comes files name (Err (told_line.Limit limit instr)) h
@@ -155,6 +134,7 @@ only-desc files name (Err (Line (Description (told_line.Name instr unknown)))) h
 only-desc files name (Err (Line (Description (told_line.Width instr place)))) h = desc-comes files name (Err (told_line.Width instr place)) h
 only-desc files name (Err (Line (Image number line))) h = absurd h
 only-desc files name (Err (Line (Room wanted free))) h = absurd h
+only-desc files name (Err (Line (Open instr))) h = absurd h
 
 -- ---- the room
 
@@ -170,6 +150,7 @@ only-room grant most (Err (Line (Image number line))) h = absurd h
 only-room grant most (Err (Line (Room wanted free))) h =
     ap (λ b. cond b (Err (Line (Room grant most))) (Ok grant)) (lt-ltb most grant h.passes)
     ∙ ap (λ n. Err (Line (Room n most))) (sym h.wanted) ∙ ap (λ n. Err (Line (Room wanted n))) (sym h.free)
+only-room grant most (Err (Line (Open instr))) h = absurd h
 
 -- ---- an image
 
@@ -221,6 +202,31 @@ only-image files name number w size (Err (Line (Image k (told_image.Address line
 only-image files name number w size (Err (Line (Image k (told_image.Overlap line)))) h =
     image-comes files name number w size (Err (told_image.Overlap line)) h.1 ∙ ap (λ n. Err (Line (Image n (told_image.Overlap line)))) (sym h.0)
 only-image files name number w size (Err (Line (Room wanted free))) h = absurd h
+only-image files name number w size (Err (Line (Open instr))) h = absurd h
+
+-- ---- the verdict
+
+abbrev open_answer : Option (List ℕ) → Result (Unit {0}) Refusal
+open_answer None = Err Words
+open_answer (Some instr) = Err (Line (Open instr))
+
+abbrev breach_answer : List (List ℕ) → Option ℕ → Result (Unit {0}) Refusal
+breach_answer names None = Ok tt
+breach_answer names (Some k) = open_answer (slice_get names k)
+
+breach-open : (names : List (List ℕ)) (breach : Option ℕ) (instr : List ℕ) → option_and_then (λ k. slice_get names k) breach ≡ Some instr →
+    breach_answer names breach ≡ Err (Line (Open instr))
+breach-open names None instr h = absurd (cc h)
+breach-open names (Some k) instr h = ap open_answer h
+
+only-rule : (d : Desc) → Only (RuleDue d) (breach_answer (instr_names d.instrs) (first_breach d.instrs))
+only-rule d (Ok kept) h = ap (breach_answer (instr_names d.instrs)) h
+only-rule d (Err Words) h = absurd h
+only-rule d (Err Missing) h = absurd h
+only-rule d (Err (Line (Description line))) h = absurd h
+only-rule d (Err (Line (Image number line))) h = absurd h
+only-rule d (Err (Line (Room wanted free))) h = absurd h
+only-rule d (Err (Line (Open instr))) h = breach-open (instr_names d.instrs) (first_breach d.instrs) instr h
 
 -- ---- commands
 
@@ -249,6 +255,39 @@ only-bare files b =
     (image_answer 0 d.word cells (files b.image)) (λ image. Ok (RunsBare (record { desc = d; image = image; grant = b.grant; steps = b.steps })))
     (only-image files b.image 0 d.word cells) (λ image. only-run d image b.grant b.steps)))
 
+-- what the steps of `run` come to, from the last to the first
+abbrev guest_answer : AskedRun → Desc → List ℕ → Result Work Refusal
+guest_answer r d image = Ok (RunsGuest (record { desc = d; image = image; grant = r.grant; steps = r.steps }))
+
+abbrev rule_then : AskedRun → Desc → List ℕ → Result Work Refusal
+rule_then r d image = bind (breach_answer (instr_names d.instrs) (first_breach d.instrs)) (λ kept. guest_answer r d image)
+
+abbrev image_then : Files → AskedRun → Desc → ℕ → Result Work Refusal
+image_then files r d cells = bind (image_answer 0 d.word cells (files r.image)) (rule_then r d)
+
+abbrev room_then : Files → AskedRun → Desc → Result Work Refusal
+room_then files r d = bind (room_answer r.grant (d.size - 2)) (image_then files r d)
+
+only-rule_then : (r : AskedRun) (d : Desc) (image : List ℕ) → Only (behind_image r d image) (rule_then r d image)
+only-rule_then r d image =
+    only-then (RuleDue d) (behind_rule r d image) (breach_answer (instr_names d.instrs) (first_breach d.instrs)) (λ kept. guest_answer r d image) (only-rule d)
+    (λ kept due h. sym h)
+
+only-image_then : (files : Files) (r : AskedRun) (d : Desc) (cells : ℕ) → Only (behind_room (Some files) r d cells) (image_then files r d cells)
+only-image_then files r d cells =
+    only-then (ImageDue (Some files) r.image 0 d.word cells) (behind_image r d) (image_answer 0 d.word cells (files r.image)) (rule_then r d)
+    (only-image files r.image 0 d.word cells) (only-rule_then r d)
+
+only-room_then : (files : Files) (r : AskedRun) (d : Desc) → Only (behind_desc (Some files) r d) (room_then files r d)
+only-room_then files r d =
+    only-then (RoomDue r.grant (d.size - 2)) (behind_room (Some files) r d) (room_answer r.grant (d.size - 2)) (image_then files r d) (only-room r.grant (d.size - 2))
+    (only-image_then files r d)
+
+only-runs : (files : Files) (r : AskedRun) → Only (RunsDue (Some files) r) (bind (desc_answer (files r.desc)) (room_then files r))
+unfolding RunsDue
+only-runs files r =
+    only-then (DescDue (Some files) r.desc) (behind_desc (Some files) r) (desc_answer (files r.desc)) (room_then files r) (only-desc files r.desc) (only-room_then files r)
+
 abbrev print_answer : Files → AskedPrint → Result Work Refusal
 print_answer files p = bind (desc_answer (files p.desc)) (λ d. Ok (Prints d))
 
@@ -259,10 +298,12 @@ only-print files p =
 
 abbrev command_answer : Files → Asked → Result Work Refusal
 command_answer files (AsksBare b) = bare_answer files b
+command_answer files (AsksRun r) = bind (desc_answer (files r.desc)) (room_then files r)
 command_answer files (AsksPrint p) = print_answer files p
 
 only-command : (files : Files) (asked : Asked) → Only (CommandDue (Some files) asked) (command_answer files asked)
 only-command files (AsksBare b) = only-bare files b
+only-command files (AsksRun r) = only-runs files r
 only-command files (AsksPrint p) = only-print files p
 
 only-due : (files : Files) (words : List (List ℕ)) → Only (Due (Some files) words) (bind (words_answer (request_of words)) (command_answer files))

@@ -1,16 +1,17 @@
 -- Steps one after another: what is due once a step was done.
-use Rattle.std.proofs.Common.{◌≡◌, ℕ, ◌<◌, ◌≤◌, List, Option, Some, None, Result, Ok, Err, inl, inr, refl, subst, arith}
+use Rattle.std.proofs.Common.{◌≡◌, ℕ, ◌-◌, ◌<◌, ◌≤◌, List, Option, Some, None, Result, Ok, Err, inl, inr, refl, subst, arith}
 use Rattle.pg_ast.specs.declared.tree.Desc.{Desc}
 use Rattle.pg_edge.specs.Shelf.{Files}
-use Rattle.pg_command.specs.Asked.{Asked, AskedBare, request_of, AskedPrint}
-use Rattle.pg_report.specs.declared.line.RefusalLine.TheVariants.{Room}
+use Rattle.pg_command.specs.Asked.{Asked, AskedBare, AskedRun, request_of, AskedPrint}
+use Rattle.pg_report.specs.declared.line.RefusalLine.TheVariants.{Room, Open}
 use Rattle.pg_tool.specs.declared.refusal.Refusal.{Refusal}
 use Rattle.pg_tool.specs.declared.refusal.Refusal.TheVariants.{Words, Line}
 use Rattle.pg_tool.specs.declared.refusal.Stop.{Stop}
 use Rattle.pg_tool.specs.declared.refusal.Stop.TheVariants.{Refused, ReadFault, Memory}
 use Rattle.pg_tool.specs.Steps.{Step, Then}
-use Rattle.pg_tool.specs.Work.{Work, RunsBare, Prints}
-use Rattle.pg_tool.specs.Due.{RequestDue, DescDue, RoomDue, ImageDue, RunDue, BareDue, PrintDue, CommandDue, Due}
+use Rattle.pg_type.specs.Plain.{first_breach}
+use Rattle.pg_tool.specs.Work.{Work, RunsBare, RunsGuest, Prints}
+use Rattle.pg_tool.specs.Due.{RequestDue, DescDue, RoomDue, ImageDue, RunDue, BareDue, RuleDue, GuestDue, RunsDue, PrintDue, CommandDue, Due}
 use Rattle.pg_tool.specs.Loads.{Comes, stop_of_words}
 use Rattle.pg_command.specs.declared.ask.Fault.{Fault}
 use Rattle.pg_command.specs.declared.ask.Fault.TheVariants as fault
@@ -84,6 +85,75 @@ bare-runs told b d image h fits k =
     b.grant (Ok (RunsBare (record { desc = d; image = image; grant = b.grant; steps = b.steps }))) (fits, refl)
     (went (ImageDue told b.image 0 d.word b.grant) (λ image. RunDue d image b.grant b.steps)
     image (Ok (RunsBare (record { desc = d; image = image; grant = b.grant; steps = b.steps }))) k refl))
+
+-- ---- `run`
+
+-- what comes behind the verdict, the image, the room and the description
+abbrev pub behind_rule : AskedRun → Desc → List ℕ → Unit {0} → Step Work
+behind_rule r d image kept = GuestDue d image r.grant r.steps
+
+abbrev pub behind_image : AskedRun → Desc → List ℕ → Step Work
+behind_image r d image = Then (RuleDue d) (behind_rule r d image)
+
+abbrev pub behind_room : Option Files → AskedRun → Desc → ℕ → Step Work
+behind_room told r d cells = Then (ImageDue told r.image 0 d.word cells) (behind_image r d)
+
+abbrev pub behind_desc : Option Files → AskedRun → Desc → Step Work
+behind_desc told r d = Then (RoomDue r.grant (d.size - 2)) (behind_room told r d)
+
+-- the description stops it
+pub run-stopped : {T U : Type 0} (view : T → Desc) (shows : U → Work) (told : Option Files) (r : AskedRun) (before after : ℕ) (stop : Stop) →
+    Comes view (DescDue told r.desc) before after (Err stop) → Comes shows (RunsDue told r) before after (Err stop)
+unfolding RunsDue
+run-stopped view shows told r before after stop h = comes-stopped view shows (DescDue told r.desc) (behind_desc told r) before after after stop h (omega arith)
+
+-- the room stops it
+pub run-no_room : (told : Option Files) (r : AskedRun) (d : Desc) → DescDue told r.desc (Ok d) → d.size - 2 < r.grant →
+    RunsDue told r (Err (Line (Room r.grant (d.size - 2))))
+unfolding RunsDue
+run-no_room told r d h passes =
+    went (DescDue told r.desc) (behind_desc told r) d (Err (Line (Room r.grant (d.size - 2)))) h
+    (stopped (RoomDue r.grant (d.size - 2)) (behind_room told r d) (Line (Room r.grant (d.size - 2))) (record { passes = passes; wanted = refl; free = refl }))
+
+-- the image stops it
+pub run-no_image : {T U : Type 0} (view : T → List ℕ) (shows : U → Work) (told : Option Files) (r : AskedRun) (d : Desc) (before mid after : ℕ) (stop : Stop) →
+    DescDue told r.desc (Ok d) → r.grant ≤ d.size - 2 → before ≤ mid → Comes view (ImageDue told r.image 0 d.word r.grant) mid after (Err stop) →
+    Comes shows (RunsDue told r) before after (Err stop)
+unfolding RunsDue
+run-no_image view shows told r d before mid after stop h fits earlier k =
+    comes-behind shows (DescDue told r.desc) (behind_desc told r) d before mid after (Err stop) h earlier
+    (comes-behind shows (RoomDue r.grant (d.size - 2)) (behind_room told r d) r.grant mid mid after (Err stop) (fits, refl) (omega arith)
+    (comes-stopped view shows (ImageDue told r.image 0 d.word r.grant) (behind_image r d) mid after after stop k (omega arith)))
+
+-- what comes behind its image
+run-behind_image : {U : Type 0} (shows : U → Work) (told : Option Files) (r : AskedRun) (d : Desc) (image : List ℕ) (before after : ℕ) (answer : Result U Stop) →
+    DescDue told r.desc (Ok d) → r.grant ≤ d.size - 2 → ImageDue told r.image 0 d.word r.grant (Ok image) → before ≤ after →
+    Comes shows (Then (RuleDue d) (behind_rule r d image)) after after answer → Comes shows (RunsDue told r) before after answer
+unfolding RunsDue
+run-behind_image shows told r d image before after answer h fits k later rest =
+    comes-behind shows (DescDue told r.desc) (behind_desc told r) d before after after answer h later
+    (comes-behind shows (RoomDue r.grant (d.size - 2)) (behind_room told r d) r.grant after after after answer (fits, refl) (omega arith)
+    (comes-behind shows (ImageDue told r.image 0 d.word r.grant) (behind_image r d) image after after after answer k (omega arith) rest))
+
+-- the verdict stops it
+pub run-open : {T U : Type 0} (view : T → Unit {0}) (shows : U → Work) (told : Option Files) (r : AskedRun) (d : Desc) (image : List ℕ) (before after : ℕ) (stop : Stop) →
+    DescDue told r.desc (Ok d) → r.grant ≤ d.size - 2 → ImageDue told r.image 0 d.word r.grant (Ok image) → before ≤ after →
+    Comes view (RuleDue d) after after (Err stop) → Comes shows (RunsDue told r) before after (Err stop)
+run-open view shows told r d image before after stop h fits k later rest =
+    run-behind_image shows told r d image before after (Err stop) h fits k later
+    (comes-stopped view shows (RuleDue d) (behind_rule r d image) after after after stop rest (omega arith))
+
+-- nothing stops it
+pub run-runs : (told : Option Files) (r : AskedRun) (d : Desc) (image : List ℕ) → DescDue told r.desc (Ok d) → r.grant ≤ d.size - 2 →
+    ImageDue told r.image 0 d.word r.grant (Ok image) → first_breach d.instrs ≡ None →
+    RunsDue told r (Ok (RunsGuest (record { desc = d; image = image; grant = r.grant; steps = r.steps })))
+unfolding RunsDue
+run-runs told r d image h fits k kept =
+    let due : Result Work Refusal = Ok (RunsGuest (record { desc = d; image = image; grant = r.grant; steps = r.steps })) in
+    went (DescDue told r.desc) (behind_desc told r) d due h
+    (went (RoomDue r.grant (d.size - 2)) (behind_room told r d) r.grant due (fits, refl)
+    (went (ImageDue told r.image 0 d.word r.grant) (behind_image r d) image due k
+    (went (RuleDue d) (behind_rule r d image) tt due kept refl)))
 
 -- ---- `print`
 

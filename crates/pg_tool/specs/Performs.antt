@@ -7,8 +7,8 @@ use Rattle.pg_hw.specs.declared.counts.Counts.{Counts}
 use Rattle.pg_tool.specs.declared.status.Status.{Status}
 use Rattle.pg_tool.specs.declared.status.Status.TheVariants as status
 use Rattle.pg_tool.specs.declared.refusal.Refusal.{Refusal}
-use Rattle.pg_tool.specs.Work.{Work, work_text, refusal_told, refusal_status}
-use Rattle.pg_tool.specs.Leaves.{Machinery, Worked}
+use Rattle.pg_tool.specs.Work.{Work, RunsBare, RunsGuest, Prints, work_text, refusal_told, refusal_status}
+use Rattle.pg_tool.specs.Leaves.{Machinery, Worked, IsUnstepped}
 
 -- counts that have room for the steps and pokes of any command
 pub record CanCount (c : Counts) : Type 0 where
@@ -28,17 +28,24 @@ pub record TellsFront (work : Work) (was now : Option (List ℕ)) (before after 
   pub front : BothTold was now (AddsFront (work_text work))
   pub worked : Worked work old new
 
--- no memory: nothing was done
-pub record DoesNothing (was now : Option (List ℕ)) (before after : ℕ) (old new : Machinery) : Type 0 where
+-- the hardware where memory was refused: no step was done, and nothing at all but where a guest was to run
+abbrev pub Idles : Work → Machinery → Machinery → Type 0
+Idles (RunsBare r) old new = new ≡ old
+Idles (RunsGuest r) old new = IsUnstepped old new
+Idles (Prints d) old new = new ≡ old
+
+-- no memory: nothing was put
+pub record DoesNothing (work : Work) (was now : Option (List ℕ)) (before after : ℕ) (old new : Machinery) : Type 0 where
   pub silent : now ≡ was
   pub quiet : after ≡ before
-  pub untouched : new ≡ old
+  pub idle : Idles work old new
 
 -- what is done for work, by the status of it
 abbrev pub Performs : Work → (was now : Option (List ℕ)) → (before after : ℕ) → (old new : Machinery) → Status → Type 0
 Performs work was now before after old new status.Done = Tells work was now old new
 Performs work was now before after old new status.WriteFault = TellsFront work was now before after old new
-Performs work was now before after old new status.Memory = DoesNothing was now before after old new
+Performs work was now before after old new status.Memory = DoesNothing work was now before after old new
+Performs work was now before after old new status.Unsettled = ⊥
 Performs work was now before after old new status.Words = ⊥
 Performs work was now before after old new status.Description = ⊥
 Performs work was now before after old new status.Image = ⊥
@@ -62,6 +69,7 @@ Refuses why was now before after status.WriteFault = TellsFrontOfWhy why was now
 Refuses why was now before after status.Done = ⊥
 Refuses why was now before after status.ReadFault = ⊥
 Refuses why was now before after status.Memory = ⊥
+Refuses why was now before after status.Unsettled = TellsWhy why was now status.Unsettled
 Refuses why was now before after status.Words = TellsWhy why was now status.Words
 Refuses why was now before after status.Description = TellsWhy why was now status.Description
 Refuses why was now before after status.Image = TellsWhy why was now status.Image

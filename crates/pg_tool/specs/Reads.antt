@@ -1,5 +1,5 @@
 -- What bytes come to: as a description, and as an image.
-use Rattle.std.specs.Prelude.{◌≡◌, ℕ, List, Option, None, Some, Result, Ok, Err}
+use Rattle.std.specs.Prelude.{◌≡◌, ℕ, List, length, Option, None, Some, Result, Ok, Err}
 use Rattle.pg_text.specs.Cutting.{cut, tokens_in}
 use Rattle.pg_ast.specs.declared.tree.Desc.{Desc}
 use Rattle.pg_ast.specs.Tokens.{tokens_of}
@@ -8,7 +8,7 @@ use Rattle.pg_type.specs.declared.fault.TypeFault.TheVariants as type_fault
 use Rattle.pg_type.specs.Valid.{IsValid, fault_of}
 use Rattle.pg_read.specs.declared.fault.DescFault.{DescFault}
 use Rattle.pg_read.specs.declared.fault.DescFault.TheVariants as read_fault
-use Rattle.pg_read.specs.Answer.{IsFaultAt, IsUnread}
+use Rattle.pg_read.specs.Answer.{IsFaultAt, IsGrammarAt, IsTooDeepAt}
 use Rattle.pg_image.specs.declared.fault.ImageFault.{ImageFault}
 use Rattle.pg_image.specs.declared.fault.ImageFault.TheVariants as image_fault
 use Rattle.pg_image.specs.Images.{image_due}
@@ -25,7 +25,8 @@ pub record ReadsAs (text : List ℕ) (d : Desc) : Type 0 where
 abbrev pub told_of_reading : DescFault → Option DescriptionLine
 told_of_reading read_fault.Long = Some told_line.Long
 told_of_reading (read_fault.Token place) = Some (told_line.Token place)
-told_of_reading read_fault.Unread = Some told_line.Unread
+told_of_reading (read_fault.Grammar place) = Some (told_line.Grammar place)
+told_of_reading (read_fault.Deep place) = Some (told_line.Deep place)
 told_of_reading read_fault.Memory = None
 
 -- what is told of a description that is not valid
@@ -52,7 +53,8 @@ abbrev pub TextDue : List ℕ → Result Desc DescriptionLine → Type 0
 TextDue text (Ok d) = ReadsAs text d × IsValid d
 TextDue text (Err told_line.Long) = ⊥
 TextDue text (Err (told_line.Token place)) = IsFaultAt (cut text) place
-TextDue text (Err told_line.Unread) = IsUnread text
+TextDue text (Err (told_line.Grammar place)) = IsGrammarAt (cut text) (length text) place
+TextDue text (Err (told_line.Deep place)) = IsTooDeepAt (cut text) place
 TextDue text (Err told_line.Shape) = IsInvalid text told_line.Shape
 TextDue text (Err (told_line.Limit limit instr)) = IsInvalid text (told_line.Limit limit instr)
 TextDue text (Err (told_line.Twice name)) = IsInvalid text (told_line.Twice name)

@@ -31,7 +31,8 @@ fn told_of_reading(fault: DescFault) -> Option<DescriptionLine>
     match fault {
         DescFault::Long => Some(DescriptionLine::Long),
         DescFault::Token(place) => Some(DescriptionLine::Token(place)),
-        DescFault::Unread => Some(DescriptionLine::Unread),
+        DescFault::Grammar(place) => Some(DescriptionLine::Grammar(place)),
+        DescFault::Deep(place) => Some(DescriptionLine::Deep(place)),
         DescFault::Memory => None,
     }
 }

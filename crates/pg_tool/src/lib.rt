@@ -12,7 +12,7 @@
 //! - `refusal`: why one is refused, or stops before anything is put.
 //! - `described`, `imaged`, `load`: bytes and files to machines and images.
 //! - `plan`, `prepare`: the words and the files of a command to what is to be done.
-//! - `perform`: doing it, and telling of it.
+//! - `perform`, `guest`: doing it, and telling of it.
 //! - `laws`: what is due for told files is one thing.
 #![tactic(auto)]
 
@@ -27,6 +27,7 @@ ghost use Rattle.pg_tool.specs.Due.{Due};
 ghost use Rattle.pg_tool.specs.Leaves.{Leaves, Exactly};
 
 mod described;
+mod guest;
 mod imaged;
 pub mod laws;
 mod load;
@@ -91,7 +92,7 @@ pub fn tool<F: Shelf, S: Sink, H: Hardware>(
     ensures served { SameServed (H.serves hw.old) (H.serves hw.new) }
 {
     match prepare(alloc, words, shelf) {
-        Ok(plan) => perform(&plan, out, hw),
+        Ok(plan) => perform(alloc, &plan, out, hw),
         Err(Stop::Refused(refusal)) => refuse(&refusal, out),
         Err(Stop::ReadFault) => Status::ReadFault,
         Err(Stop::Memory) => Status::Memory,

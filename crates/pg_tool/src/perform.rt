@@ -9,17 +9,23 @@ ghost use Rattle.pg_tool.specs.Leaves.{Machinery, RanBare};
 ghost use Rattle.pg_tool.specs.Performs.{Performs, Refuses, CanCount};
 ghost use Rattle.pg_tool.specs.Plans.{run_as, work_as};
 
-use crate::plan::{BarePlan, Plan, PrintPlan};
+use crate::guest::{put_run, run_guest};
+use crate::plan::{BarePlan, GuestPlan, Plan, PrintPlan};
 use crate::refusal::Refusal;
 use crate::status::Status;
 use pg_edge::Sink;
 use pg_hw::Hardware;
 use pg_report::{RefusalLine, put_refusal, put_state, put_text, put_usage};
 use pg_rig::{bare, power_on};
-use std::alloc::AllocError;
+use std::alloc::{AllocError, Global};
 
 /// Does what is to be done, and puts the text of it.
-pub(crate) fn perform<S: Sink, H: Hardware>(plan: &Plan, out: &mut S, hw: &mut H) -> Status
+pub(crate) fn perform<S: Sink, H: Hardware>(
+    alloc: Global,
+    plan: &Plan,
+    out: &mut S,
+    hw: &mut H,
+) -> Status
     requires serves { (d : Desc) → H.serves hw.old d }
     requires room { 1048575 ≤ H.most_cells hw.old }
     requires counts { CanCount (H.tally hw.old) }
@@ -31,6 +37,7 @@ pub(crate) fn perform<S: Sink, H: Hardware>(plan: &Plan, out: &mut S, hw: &mut H
 {
     match plan {
         Plan::Bare(plan) => perform_bare(plan, out, hw),
+        Plan::Guest(plan) => perform_guest(alloc, plan, out, hw),
         Plan::Print(plan) => perform_print(plan, out),
     }
 }
@@ -52,6 +59,32 @@ fn perform_bare<S: Sink, H: Hardware>(plan: &BarePlan, out: &mut S, hw: &mut H) 
     }
     let psw = hw.psw();
     match put_state(out, plan.machine.shape(), hw, 0, plan.grant, psw) {
+        Ok(()) => Status::Done,
+        Err(_) => Status::WriteFault,
+    }
+}
+
+/// Runs a guest under a monitor, and puts the text of the state that it reached.
+fn perform_guest<S: Sink, H: Hardware>(
+    alloc: Global,
+    plan: &GuestPlan,
+    out: &mut S,
+    hw: &mut H,
+) -> Status
+    requires serves { (d : Desc) → H.serves hw.old d }
+    requires room { 1048575 ≤ H.most_cells hw.old }
+    requires counts { CanCount (H.tally hw.old) }
+    ensures performs { Performs (work_as (Plan.Guest plan.now)) (S.written out.old) (S.written out.new) (S.faults out.old) (S.faults out.new)
+        (record { state = H.state hw.old; tally = H.tally hw.old; bottom = H.bottom hw.old; room = H.most_cells hw.old })
+        (record { state = H.state hw.new; tally = H.tally hw.new; bottom = H.bottom hw.new; room = H.most_cells hw.new }) result }
+    ensures later { S.faults out.old ≤ S.faults out.new }
+    ensures served { SameServed (H.serves hw.old) (H.serves hw.new) }
+{
+    let told = match run_guest(alloc, plan, hw) {
+        Ok(told) => told,
+        Err(_) => return Status::Memory,
+    };
+    match put_run(out, plan, hw, told) {
         Ok(()) => Status::Done,
         Err(_) => Status::WriteFault,
     }
@@ -117,5 +150,6 @@ fn status_of(refusal: &Refusal) -> Status
         Refusal::Line(RefusalLine::Description(_)) => Status::Description,
         Refusal::Line(RefusalLine::Image(..)) => Status::Image,
         Refusal::Line(RefusalLine::Room(..)) => Status::Room,
+        Refusal::Line(RefusalLine::Open(_)) => Status::Unsettled,
     }
 }

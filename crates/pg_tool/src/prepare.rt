@@ -1,19 +1,25 @@
 //! The words and the files of a command.
 
-ghost use Rattle.std.specs.Prelude.{◌≡◌, ◌≤◌, map, string_bytes};
-ghost use Rattle.pg_command.specs.Asked.{asked_as, bare_as, print_as, IsBounded, IsBoundedBare};
-ghost use Rattle.pg_tool.specs.Due.{BareDue, PrintDue, CommandDue, Due};
+ghost use Rattle.std.specs.Prelude.{◌≡◌, ◌≤◌, ℕ, None, map, string_bytes, IfOk};
+ghost use Rattle.pg_type.specs.Plain.{first_breach};
+ghost use Rattle.pg_command.specs.Asked.{asked_as, bare_as, run_as, print_as, IsBounded, IsBoundedBare, IsBoundedRun};
+ghost use Rattle.pg_tool.specs.Due.{BareDue, RunsDue, PrintDue, CommandDue, RuleDue, Due};
 ghost use Rattle.pg_tool.specs.Loads.{Comes, OnlyReads, stop_of_words};
 ghost use Rattle.pg_tool.specs.Plans.{work_as};
 
 use crate::load::{load_image, load_machine};
-use crate::plan::{BarePlan, Plan, PrintPlan};
+use crate::plan::{BarePlan, GuestPlan, Plan, PrintPlan};
 use crate::refusal::{Refusal, Stop};
-use pg_command::{Bare, Fault, Print, Request, request};
+use pg_command::{Bare, Fault, Print, Request, Run, request};
 use pg_edge::Shelf;
 use pg_print::print;
 use pg_report::RefusalLine;
+use pg_type::{Machine, plain};
+use sqlite_items::Items;
 use std::alloc::Global;
+
+/// The cells that a monitor keeps for the traps of its machine.
+const MONITOR_CELLS: u32 = 2;
 
 /// What is to be done for the words, with the files that they name.
 pub(crate) fn prepare<F: Shelf>(
@@ -48,6 +54,7 @@ fn prepare_request<F: Shelf>(alloc: Global, request: &Request, shelf: &mut F) ->
 {
     match request {
         Request::Bare(bare) => prepare_bare(alloc, bare, shelf),
+        Request::Run(run) => prepare_run(alloc, run, shelf),
         Request::Print(print) => prepare_print(alloc, print, shelf),
     }
 }
@@ -76,6 +83,50 @@ fn prepare_bare<F: Shelf>(alloc: Global, bare: &Bare, shelf: &mut F) -> Result<P
         grant: bare.grant,
         steps: bare.steps,
     }))
+}
+
+/// What is to be done for `run`: the description is loaded, the room is tried, the image is loaded, and the verdict found.
+fn prepare_run<F: Shelf>(alloc: Global, run: &Run, shelf: &mut F) -> Result<Plan, Stop>
+    requires { IsBoundedRun (run_as run.now) }
+    ensures comes { Comes work_as (RunsDue (F.files shelf.old) (run_as run.now)) (F.reads shelf.old) (F.reads shelf.new) result }
+    ensures reads { OnlyReads (F.files shelf.old) (F.files shelf.new) (F.saves shelf.old) (F.saves shelf.new) (F.reads shelf.old) (F.reads shelf.new) }
+{
+    let machine = match load_machine(alloc, &run.desc, shelf) {
+        Ok(machine) => machine,
+        Err(stop) => return Err(stop),
+    };
+    let most = machine.shape().q - MONITOR_CELLS;
+    if run.grant > most {
+        return Err(no_room(run.grant, most));
+    }
+    let image = match load_image(alloc, &run.image, 0, machine.shape(), run.grant, shelf) {
+        Ok(image) => image,
+        Err(stop) => return Err(stop),
+    };
+    match rule(alloc, &machine) {
+        Ok(()) => {}
+        Err(stop) => return Err(stop),
+    }
+    Ok(Plan::Guest(GuestPlan {
+        machine,
+        image,
+        grant: run.grant,
+        steps: run.steps,
+    }))
+}
+
+/// The verdict: no instruction of a machine breaks the plain rule, so that a monitor may run it.
+fn rule(alloc: Global, machine: &Machine) -> Result<(), Stop>
+    ensures comes { (reads : ℕ) → Comes (λ kept. kept) (RuleDue machine.now.desc) reads reads result }
+    ensures plain { IfOk result (λ kept. first_breach machine.now.desc.instrs ≡ None) }
+{
+    match plain(machine) {
+        None => Ok(()),
+        Some(instr) => match Items::from_slice(alloc, machine.name(instr)) {
+            Ok(name) => Err(Stop::Refused(Refusal::Line(RefusalLine::Open(name)))),
+            Err(_) => Err(Stop::Memory),
+        },
+    }
 }
 
 /// What is to be done for `print`: the description is loaded, and its text made.

@@ -8,6 +8,8 @@ ghost use Rattle.pg_tool.specs.Codes.{code_of};
 pub enum Status {
     /// The text of the command was written whole.
     Done,
+    /// It stays open whether a monitor may run the machine.
+    Unsettled,
     /// The words are none that the program takes.
     Words,
     /// The description is refused.
@@ -27,12 +29,13 @@ pub enum Status {
 }
 
 impl Status {
-    /// The number of the status: 0, 3, 4, 5, 7, 8, 9, 10 and 11, in the order above.
+    /// The number of the status: 0, 2, 3, 4, 5, 7, 8, 9, 10 and 11, in the order above.
     pub fn code(self) -> u8
         ensures { result ≡ code_of self }
     {
         match self {
             Status::Done => 0,
+            Status::Unsettled => 2,
             Status::Words => 3,
             Status::Description => 4,
             Status::Image => 5,

@@ -2,6 +2,7 @@ use Rattle.std.proofs.Common.{map, Err, refl, subst}
 use Rattle.std.specs.Prelude.{string_bytes}
 use Rattle.pg_tool.specs.Due.{Due}
 use Rattle.pg_tool.specs.Loads.{Comes}
+use Rattle.pg_tool.specs.Performs.{Refuses}
 use Rattle.pg_tool.specs.Plans.{work_as}
 use Rattle.pg_tool.proofs.ExactLemmas.{exactly-of}
 use Rattle.pg_tool.proofs.LeaveLemmas.{leaves-performed, leaves-refused}
@@ -50,7 +51,9 @@ returns-in-Err-Refused-clause-leaves g c =
     c.in-Err-Refused.refusal c.refuse.result
     (subst (λ s. Comes work_as (Due (g.F.Shelf.files c.args.shelf.now) (map string_bytes c.args.words.now)) (g.F.Shelf.reads c.args.shelf.now)
     (g.F.Shelf.reads c.prepare.new.shelf) (Err s)) c.in-Err-Refused.field-0-is c.in-Err-Refused.ensures.comes)
-    c.refuse.ensures.told refl
+    (subst (λ why. Refuses why (g.S.Sink.written c.args.out.now) (g.S.Sink.written c.refuse.new.out) (g.S.Sink.faults c.args.out.now) (g.S.Sink.faults c.refuse.new.out) c.refuse.result)
+    c.in-Err-Refused.refusal-is c.refuse.ensures.told)
+    refl
 
 pub returns-in-Ok-clause-exactly : goal.returns-in-Ok-clause-exactly
 returns-in-Ok-clause-exactly g c = exactly-of (map string_bytes c.args.words.now) _ _ c.perform.result (returns-in-Ok-clause-leaves g c)

@@ -44,8 +44,32 @@ pub(super) fn run(
     shelf_fails: Vec<(u64, usize)>,
     sink_fails: Vec<(u64, usize)>,
 ) -> Result<Ran, Fail> {
-    let given = words_of(alloc, words)?;
     let files = files_of(alloc, desc, image)?;
+    run_on(alloc, words, files, shelf_fails, sink_fails)
+}
+
+/// Runs the words on the files `d` and `i` of these bytes.
+pub(super) fn run_bytes(
+    alloc: Global,
+    words: &[&str],
+    desc: Vec<u8>,
+    image: Vec<u8>,
+) -> Result<Ran, Fail> {
+    let mut files = Vec::new(alloc);
+    files.push((text(alloc, "d")?, desc))?;
+    files.push((text(alloc, "i")?, image))?;
+    run_on(alloc, words, files, Vec::new(alloc), Vec::new(alloc))
+}
+
+/// Runs the words on these files.
+fn run_on(
+    alloc: Global,
+    words: &[&str],
+    files: Vec<(String, Vec<u8>)>,
+    shelf_fails: Vec<(u64, usize)>,
+    sink_fails: Vec<(u64, usize)>,
+) -> Result<Ran, Fail> {
+    let given = words_of(alloc, words)?;
     let mut shelf = MemShelf::new(alloc, files, 0, shelf_fails)?;
     let mut out = MemSink::new(alloc, 4096, sink_fails)?;
     let mut hw = Rig::new(alloc);

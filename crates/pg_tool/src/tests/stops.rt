@@ -54,7 +54,7 @@ fn words_that_are_not_taken_show_the_usage(rt: HostRuntime) -> Result<(), Fail> 
     assert!(rt; ran.status == Status::Words);
     assert_eq!(rt;
         ran.text.as_str(),
-        "pgv bare DESC IMAGE --grant G --steps N\npgv print DESC\n"
+        "pgv bare DESC IMAGE --grant G --steps N\npgv run DESC IMAGE --grant G --steps N\npgv print DESC\n"
     );
     assert!(rt; is_fresh(&ran.hw));
     Ok(())
@@ -73,7 +73,7 @@ fn more_cells_than_the_size_find_no_room(rt: HostRuntime) -> Result<(), Fail> {
 fn files_that_are_not_read_are_refused(rt: HostRuntime) -> Result<(), Fail> {
     let ran = bare(rt.alloc(), "", "", "8", "0")?;
     assert!(rt; ran.status == Status::Description);
-    assert_eq!(rt; ran.text.as_str(), "description: unread\n");
+    assert_eq!(rt; ran.text.as_str(), "description: grammar 0\n");
     let head = "machine { word 16; address 4; size 8; } ";
     let ran = bare(
         rt.alloc(),

@@ -1,0 +1,64 @@
+use Rattle.std.proofs.Common.{◌≡◌, ℕ, ◌-◌, ◌≤◌, List, Ok, Err, sym, ap, subst, arith, refl}
+use Rattle.pg_type.specs.declared.machine.Machine.{Machine}
+use Rattle.pg_command.specs.Asked.{run_as}
+use Rattle.pg_report.specs.declared.line.RefusalLine.TheVariants.{Room}
+use Rattle.pg_tool.specs.declared.refusal.Refusal.TheVariants.{Line}
+use Rattle.pg_tool.specs.Due.{DescDue, ImageDue, RunsDue}
+use Rattle.pg_tool.specs.Loads.{Comes}
+use Rattle.pg_tool.specs.Plans.{work_as}
+use Rattle.pg_tool.proofs.StepLemmas.{run-stopped, run-no_room, run-no_image, run-open, run-runs, same_three}
+use Rattle.pg_tool.proofs.prepare.prepare_run.Goals as goal
+
+pub returns-in-Err-clause-comes : goal.returns-in-Err-clause-comes
+returns-in-Err-clause-comes g c =
+    let told = g.F.Shelf.files c.args.shelf.now in
+    run-stopped (λ (m : Machine). m.desc) work_as told (run_as c.args.run.now) _ _ c.in-Err.stop
+    (subst (λ name. Comes (λ (m : Machine). m.desc) (DescDue told name) (g.F.Shelf.reads c.args.shelf.now) (g.F.Shelf.reads c.load_machine.new.shelf) (Err c.in-Err.stop))
+    c.deref.ensures c.in-Err.ensures.comes)
+
+pub returns-then-run-most-clause-comes : goal.returns-then-run-most-clause-comes
+returns-then-run-most-clause-comes g c =
+    let told = g.F.Shelf.files c.args.shelf.now in
+    let r = run_as c.args.run.now in
+    let d = c.in-Ok.machine.desc in
+    let most : c.shape.result.now.q ≡ d.size = ap (λ s. s.q) c.shape.ensures.numbers in
+    let described = subst (λ name. DescDue told name (Ok d)) c.deref.ensures c.in-Ok.ensures.comes in
+    let refused = subst (λ q. RunsDue told r (Err (Line (Room r.grant (q - 2))))) (sym most) (run-no_room told r d described (omega (arith, most, c.if-run-most.true))) in
+    subst (λ s. Comes work_as (RunsDue told r) (g.F.Shelf.reads c.args.shelf.now) (g.F.Shelf.reads c.load_machine.new.shelf) (Err s)) (sym c.no_room.ensures) refused
+
+pub returns-in-Err-load_image-clause-comes : goal.returns-in-Err-load_image-clause-comes
+returns-in-Err-load_image-clause-comes g c =
+    let told = g.F.Shelf.files c.args.shelf.now in
+    let r = run_as c.args.run.now in
+    let d = c.in-Ok.machine.desc in
+    let most : c.shape.result.now.q ≡ d.size = ap (λ s. s.q) c.shape.ensures.numbers in
+    let described = subst (λ name. DescDue told name (Ok d)) c.deref.ensures c.in-Ok.ensures.comes in
+    run-no_image (λ (image : List ℕ). image) work_as told r d _ _ _ c.in-Err-load_image.stop described (omega (arith, most, c.if-run-most.false)) c.load_machine.ensures.reads.later
+    (same_three (λ files name w. Comes (λ (image : List ℕ). image) (ImageDue files name 0 w r.grant) (g.F.Shelf.reads c.load_machine.new.shelf)
+    (g.F.Shelf.reads c.load_image.new.shelf) (Err c.in-Err-load_image.stop)) _ _ _ _ _ _
+    c.load_machine.ensures.reads.same_files c.deref-2.ensures (ap (λ s. s.w) c.shape-2.ensures.numbers) c.in-Err-load_image.ensures.comes)
+
+pub returns-in-Err-rule-clause-comes : goal.returns-in-Err-rule-clause-comes
+returns-in-Err-rule-clause-comes g c =
+    let told = g.F.Shelf.files c.args.shelf.now in
+    let r = run_as c.args.run.now in
+    let d = c.in-Ok.machine.desc in
+    let most : c.shape.result.now.q ≡ d.size = ap (λ s. s.q) c.shape.ensures.numbers in
+    let described = subst (λ name. DescDue told name (Ok d)) c.deref.ensures c.in-Ok.ensures.comes in
+    let later : g.F.Shelf.reads c.args.shelf.now ≤ g.F.Shelf.reads c.load_image.new.shelf = omega (arith, c.load_machine.ensures.reads.later, c.load_image.ensures.reads.later) in
+    run-open (λ (kept : Unit {0}). kept) work_as told r d c.in-Ok-load_image.image _ _ c.in-Err-rule.stop described (omega (arith, most, c.if-run-most.false))
+    (same_three (λ files name w. ImageDue files name 0 w r.grant (Ok c.in-Ok-load_image.image)) _ _ _ _ _ _
+    c.load_machine.ensures.reads.same_files c.deref-2.ensures (ap (λ s. s.w) c.shape-2.ensures.numbers) c.in-Ok-load_image.ensures.comes)
+    later (c.in-Err-rule.ensures.comes _)
+
+pub returns-clause-comes : goal.returns-clause-comes
+returns-clause-comes g c =
+    let told = g.F.Shelf.files c.args.shelf.now in
+    let r = run_as c.args.run.now in
+    let d = c.in-Ok.machine.desc in
+    let most : c.shape.result.now.q ≡ d.size = ap (λ s. s.q) c.shape.ensures.numbers in
+    let described = subst (λ name. DescDue told name (Ok d)) c.deref.ensures c.in-Ok.ensures.comes in
+    run-runs told r d c.in-Ok-load_image.image described (omega (arith, most, c.if-run-most.false))
+    (same_three (λ files name w. ImageDue files name 0 w r.grant (Ok c.in-Ok-load_image.image)) _ _ _ _ _ _
+    c.load_machine.ensures.reads.same_files c.deref-2.ensures (ap (λ s. s.w) c.shape-2.ensures.numbers) c.in-Ok-load_image.ensures.comes)
+    c.in-Ok-rule.ensures.plain
