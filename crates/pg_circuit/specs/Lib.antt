@@ -1,0 +1,5 @@
+pub mod Nodes
+pub mod Values
+pub mod Made
+pub mod Grown
+pub mod Rows

@@ -1,0 +1,128 @@
+//! Circuits that grow gate by gate.
+
+ghost use Rattle.std.specs.Prelude.{◌≡◌, ◌<◌, ◌≤◌, ◌^◌, ◌∷◌, [], length, IsOk, IfOk, OnErr};
+ghost use Rattle.pg_circuit.specs.declared.node.Node.TheVariants.{Constant};
+ghost use Rattle.pg_circuit.specs.Nodes.{input_count, IsCircuit, IsCircuit-prop};
+ghost use Rattle.pg_circuit.specs.Values.{values_of};
+ghost use Rattle.pg_circuit.specs.Made.{constant_gate, not_gate, and_made, xor_made, input_made};
+
+use crate::node::{Gate, Node};
+use crate::simplify::{and_simplified, constant_gate, not_gate, xor_simplified};
+use crate::table::NodeTable;
+use crate::value::node_value;
+use std::alloc::{AllocError, Global};
+
+/// Gates over inputs. Each node is there once, and a gate is known by the place of its node. There are fewer than 2^31 nodes:
+/// one more is want of memory.
+#[derive(Drop)]
+pub struct Circuit {
+    nodes: NodeTable,
+    inputs: u32,
+    pub ghost circuit: { IsCircuit nodes } by { IsCircuit-prop nodes },
+    pub ghost counted: { inputs ≡ input_count nodes },
+    pub ghost bound: { length nodes < 2 ^ 31 },
+}
+
+impl Circuit {
+    /// A circuit of the constant alone. The error is want of memory.
+    pub fn new(alloc: Global) -> Result<Circuit, AllocError>
+        ensures { IfOk result (λ circuit. circuit.nodes ≡ Constant ∷ []) }
+    {
+        let mut nodes = NodeTable::new(alloc);
+        nodes.add(Node::Constant)?;
+        Ok(Circuit { nodes, inputs: 0 })
+    }
+
+    /// How many nodes there are, the constant among them.
+    pub fn len(&self) -> usize
+        ensures { result ≡ length self.now.nodes }
+    {
+        self.nodes.len()
+    }
+
+    /// How many inputs there are.
+    pub fn inputs(&self) -> usize
+        ensures { result ≡ input_count self.now.nodes }
+    {
+        self.inputs as usize
+    }
+
+    /// The nodes, in order.
+    pub fn nodes(&self) -> &[Node]
+        ensures nodes { result.now ≡ self.now.nodes }
+        ensures circuit { IsCircuit result.now }
+    {
+        self.nodes.as_slice()
+    }
+
+    /// The constant, which is always there.
+    pub fn constant(&self, value: bool) -> Gate
+        ensures { result ≡ constant_gate value }
+    {
+        constant_gate(value)
+    }
+
+    /// The negation of a gate, which needs no node.
+    pub fn not(&self, x: Gate) -> Gate
+        ensures { result ≡ not_gate x }
+    {
+        not_gate(x)
+    }
+
+    /// One more input. The error is want of memory, and the circuit stays.
+    pub fn input(&mut self) -> Result<Gate, AllocError>
+        ensures made { IfOk result (λ gate. (gate, self.new.nodes) ≡ input_made self.old.nodes) }
+        ensures there { IfOk result (λ gate. gate.number < length self.new.nodes) }
+        ensures grown { length self.old.nodes ≤ length self.new.nodes }
+        ensures err { OnErr result (self.new ≡ self.old) }
+    {
+        let gate = self.nodes.add(Node::Input(self.inputs))?;
+        self.inputs += 1;
+        Ok(gate)
+    }
+
+    /// The and of two gates of the circuit. The error is want of memory for a node that was not there, and the circuit stays.
+    pub fn and(&mut self, x: Gate, y: Gate) -> Result<Gate, AllocError>
+        requires left { x.number < length self.old.nodes }
+        requires right { y.number < length self.old.nodes }
+        ensures made { IfOk result (λ gate. (gate, self.new.nodes) ≡ and_made self.old.nodes x y) }
+        ensures there { IfOk result (λ gate. gate.number < length self.new.nodes) }
+        ensures grown { length self.old.nodes ≤ length self.new.nodes }
+        ensures found { (and_made self.old.nodes x y).1 ≡ self.old.nodes → IsOk result }
+        ensures err { OnErr result (self.new ≡ self.old) }
+    {
+        match and_simplified(x, y) {
+            Some(gate) => Ok(gate),
+            None => self.nodes.place(Node::And(x, y)),
+        }
+    }
+
+    /// The exclusive or of two gates of the circuit. The error is want of memory for a node that was not there, and the
+    /// circuit stays.
+    pub fn xor(&mut self, x: Gate, y: Gate) -> Result<Gate, AllocError>
+        requires left { x.number < length self.old.nodes }
+        requires right { y.number < length self.old.nodes }
+        ensures made { IfOk result (λ gate. (gate, self.new.nodes) ≡ xor_made self.old.nodes x y) }
+        ensures there { IfOk result (λ gate. gate.number < length self.new.nodes) }
+        ensures grown { length self.old.nodes ≤ length self.new.nodes }
+        ensures found { (xor_made self.old.nodes x y).1 ≡ self.old.nodes → IsOk result }
+        ensures err { OnErr result (self.new ≡ self.old) }
+    {
+        match xor_simplified(x, y) {
+            Some(gate) => Ok(gate),
+            None => self.nodes.place(Node::Xor(x, y)),
+        }
+    }
+
+    /// The value of each node, where the inputs have values: place k of `values` gets that of node k.
+    pub fn eval(&self, inputs: &[bool], values: &mut [bool])
+        requires inputs { length inputs.now ≡ input_count self.now.nodes }
+        requires room { length values.old ≡ length self.now.nodes }
+        ensures { values.new ≡ values_of inputs.now self.now.nodes }
+    {
+        for (k, node) in self.nodes.as_slice().iter().enumerate() {
+            let value = node_value(inputs, &values[..k], *node);
+            values[k] = value;
+        }
+    }
+}
