@@ -1,0 +1,13 @@
+pub mod Kept
+pub mod Sums
+pub mod GateLaws
+pub mod SumLaws
+pub mod EachLaws
+pub mod CompareLaws
+pub mod Strings
+pub mod ShiftLaws
+pub mod ProductLaws
+pub mod StringLaws
+pub mod Steps
+pub mod Loops
+pub mod OpLaws

@@ -1,0 +1,10 @@
+use Rattle.std.proofs.Common.{drop}
+use Rattle.pg_vec.specs.Pairing.{pair_made}
+use Rattle.pg_vec.specs.Strings.{each_made}
+use Rattle.pg_vec.proofs.Loops.{Built}
+use Rattle.pg_vec.proofs.pairwise.pairwise.Given as goal
+
+abbrev pub invariant-loop-i : goal.invariant-loop-i
+invariant-loop-i l =
+    Built l.fn.circuit.nodes (each_made (pair_made l.make) l.fn.circuit.nodes l.x l.y) l.i l.bits.items l.circuit.nodes
+    (each_made (pair_made l.make) l.circuit.nodes (drop l.i l.x) (drop l.i l.y))

@@ -1,0 +1,7 @@
+pub mod Number
+pub mod There
+pub mod Gates
+pub mod Strings
+pub mod Makes
+pub mod Pairing
+pub mod Direction
