@@ -1,0 +1,4 @@
+pub mod Literals
+pub mod Truth
+pub mod Encoded
+pub mod Rows

@@ -1,0 +1,121 @@
+//! The clauses of a circuit.
+
+ghost use Rattle.std.specs.Prelude.{◌≡◌, ◌+◌, ◌<◌, ◌≤◌, ◌^◌, ◌++◌, ◌∷◌, [], length, IfOk, OnOk};
+ghost use Rattle.pg_circuit.specs.Made.{not_gate};
+ghost use Rattle.pg_cnf.specs.Encoded.{literal_of, clause_of, and_clauses, xor_clauses, node_clauses, clauses_of, IsPlaced, AreApart};
+
+use crate::clause::{Clause, Cnf};
+use pg_circuit::{Circuit, Gate, Node};
+use smallvec::SmallVec;
+use std::alloc::{AllocError, Global};
+
+/// The clauses that say that a gate of a circuit is true: they are all true exactly on the values of the circuit's nodes
+/// where the gate is. Variable k + 1 stands for node k. The error is want of memory.
+pub fn encode(alloc: Global, circuit: &Circuit, root: Gate) -> Result<Cnf, AllocError>
+    requires root { root.number < length circuit.now.nodes }
+    requires small { length circuit.now.nodes < 2 ^ 29 }
+    ensures clauses { IfOk result (λ cnf. cnf.clauses.items ≡ clauses_of circuit.now.nodes root) }
+    ensures variables { IfOk result (λ cnf. cnf.variables ≡ length circuit.now.nodes) }
+{
+    let nodes = circuit.nodes();
+    let mut cnf = Cnf::new(alloc, nodes.len() as u32);
+    for (number, node) in nodes.iter().enumerate() {
+        add_node(alloc, &mut cnf, number as u32, *node)?;
+    }
+    add(alloc, &mut cnf, &[root])?;
+    Ok(cnf)
+}
+
+/// Adds the clauses of the node with a number. The error is want of memory.
+fn add_node(alloc: Global, cnf: &mut Cnf, number: u32, node: Node) -> Result<(), AllocError>
+    requires there { number < cnf.old.variables }
+    requires room { length cnf.old.clauses.items + 4 < 2 ^ 31 }
+    requires placed { IsPlaced number node }
+    ensures clauses { OnOk result (cnf.new.clauses.items ≡ cnf.old.clauses.items ++ node_clauses number node) }
+    ensures variables { cnf.new.variables ≡ cnf.old.variables }
+{
+    let own = Gate {
+        number,
+        negated: false,
+    };
+    match node {
+        Node::Constant => add(alloc, cnf, &[negation(own)]),
+        Node::Input(_) => Ok(()),
+        Node::And(x, y) => add_and(alloc, cnf, own, x, y),
+        Node::Xor(x, y) => add_xor(alloc, cnf, own, x, y),
+    }
+}
+
+/// Adds that v is true exactly where x and y both are. The error is want of memory.
+fn add_and(alloc: Global, cnf: &mut Cnf, v: Gate, x: Gate, y: Gate) -> Result<(), AllocError>
+    requires room { length cnf.old.clauses.items + 4 < 2 ^ 31 }
+    requires apart { AreApart cnf.old.variables (v ∷ x ∷ y ∷ []) }
+    ensures clauses { OnOk result (cnf.new.clauses.items ≡ cnf.old.clauses.items ++ and_clauses v x y) }
+    ensures variables { cnf.new.variables ≡ cnf.old.variables }
+{
+    add(alloc, cnf, &[negation(v), x])?;
+    add(alloc, cnf, &[negation(v), y])?;
+    add(alloc, cnf, &[v, negation(x), negation(y)])?;
+    Ok(())
+}
+
+/// Adds that v is true exactly where one of x and y is. The error is want of memory.
+fn add_xor(alloc: Global, cnf: &mut Cnf, v: Gate, x: Gate, y: Gate) -> Result<(), AllocError>
+    requires room { length cnf.old.clauses.items + 4 < 2 ^ 31 }
+    requires apart { AreApart cnf.old.variables (v ∷ x ∷ y ∷ []) }
+    ensures clauses { OnOk result (cnf.new.clauses.items ≡ cnf.old.clauses.items ++ xor_clauses v x y) }
+    ensures variables { cnf.new.variables ≡ cnf.old.variables }
+{
+    add(alloc, cnf, &[negation(v), x, y])?;
+    add(alloc, cnf, &[negation(v), negation(x), negation(y)])?;
+    add(alloc, cnf, &[v, negation(x), y])?;
+    add(alloc, cnf, &[v, x, negation(y)])?;
+    Ok(())
+}
+
+/// Adds that one of some gates is true. The error is want of memory.
+fn add(alloc: Global, cnf: &mut Cnf, gates: &[Gate]) -> Result<(), AllocError>
+    requires room { length cnf.old.clauses.items + 1 < 2 ^ 31 }
+    requires apart { AreApart cnf.old.variables gates.now }
+    ensures clauses { OnOk result (cnf.new.clauses.items ≡ cnf.old.clauses.items ++ clause_of gates.now ∷ []) }
+    ensures variables { cnf.new.variables ≡ cnf.old.variables }
+{
+    let literals = literals_of(alloc, gates, cnf.variables)?;
+    cnf.push(Clause::new(literals))
+}
+
+/// The literals of gates. The error is want of memory.
+fn literals_of(
+    alloc: Global,
+    gates: &[Gate],
+    variables: u32,
+) -> Result<SmallVec<i32, 3>, AllocError>
+    requires few { variables < 2 ^ 31 }
+    requires apart { AreApart variables gates.now }
+    ensures { IfOk result (λ literals. literals.items ≡ clause_of gates.now) }
+{
+    let mut literals = SmallVec::new(alloc);
+    for gate in gates {
+        literals.push(literal_of(*gate))?;
+    }
+    Ok(literals)
+}
+
+/// The literal of a gate: the variable of its node, or the negation.
+fn literal_of(gate: Gate) -> i32
+    requires { gate.number + 1 < 2 ^ 31 }
+    ensures { result ≡ literal_of gate }
+{
+    let variable = (gate.number + 1) as i32;
+    if gate.negated { -variable } else { variable }
+}
+
+/// The negation of a gate.
+fn negation(gate: Gate) -> Gate
+    ensures { result ≡ not_gate gate }
+{
+    Gate {
+        number: gate.number,
+        negated: !gate.negated,
+    }
+}
