@@ -57,11 +57,19 @@ instr_of-holds n p body = instr_when-holds n p body (nat_le (1 + greatest (map b
 abbrev pub IsInstrFront : List Tok → Instr × List Tok → Type 0
 IsInstrFront ts p = ts ≡ instr_tokens p.0 ++ p.1
 
-abbrev IsInstrs : List Tok → List Instr → Type 0
+-- the tokens are those of the instructions
+abbrev pub IsInstrs : List Tok → List Instr → Type 0
 IsInstrs ts instrs = ts ≡ flat (map instr_tokens instrs)
 
+-- an instruction in front of those that were read
+pub cons-exact : (ts us : List Tok) (i : Instr) → ts ≡ instr_tokens i ++ us → (read : Option (List Instr)) → IfSome read (IsInstrs us) → IfSome (cons_read i read) (IsInstrs ts)
+cons-exact ts us i e None h = tt
+cons-exact ts us i e (Some instrs) h = cc
+
+-- where b reads bodies
 module _ (b : List Tok → Option (List Stmt × List Tok)) (block : IsExactBlock b) where
-  instr-exact : (ts : List Tok) → IfSome (read_instr b ts) (IsInstrFront ts)
+  -- what was read as an instruction are its tokens
+  pub instr-exact : (ts : List Tok) → IfSome (read_instr b ts) (IsInstrFront ts)
   unfolding read_instr
   instr-exact ts =
       let all : Instr × List Tok → Type 0 = IsInstrFront ts in
@@ -73,10 +81,6 @@ module _ (b : List Tok → Option (List Stmt × List Tok)) (block : IsExactBlock
       past_found-holds all (instr_of n p body) t5 _ (λ i p6.
       let parts = read_at (HasParts n p body) (instr_of n p body) i (instr_of-holds n p body) p6 in
       cc (instr_front i t5, p1, p2, p3, p4, read_at (IsBlockFront t4) (b t4) (body, t5) (block t4) p5, parts.name, parts.pattern, parts.body_is)))))))
-
-  cons-exact : (ts us : List Tok) (i : Instr) → ts ≡ instr_tokens i ++ us → (read : Option (List Instr)) → IfSome read (IsInstrs us) → IfSome (cons_read i read) (IsInstrs ts)
-  cons-exact ts us i e None h = tt
-  cons-exact ts us i e (Some instrs) h = cc
 
   instrs-exact : (k : ℕ) (ts : List Tok) → IfSome (read_instrs b k ts) (IsInstrs ts)
   unfolding read_instrs
@@ -99,11 +103,12 @@ past_causes-holds P (Number n ∷ ts) go on off = tt
 past_causes-holds P (Pattern w ∷ ts) go on off = tt
 past_causes-holds P (Sign s ∷ ts) go on off = past_sign-holds P CloseBrace (Sign s ∷ ts) _ (λ t1 p1. off t1 p1)
 
-abbrev IsTokens : List Tok → Desc → Type 0
+-- the tokens are those of the description
+abbrev pub IsTokens : List Tok → Desc → Type 0
 IsTokens ts d = ts ≡ tokens_of d
 
 -- the tokens of a description with these parts, behind the head's last number
-abbrev behind_size : Bool → List Tok → List Tok
+abbrev pub behind_size : Bool → List Tok → List Tok
 behind_size true ts = Word (codes "causes") ∷ Word (codes "on") ∷ Sign Semicolon ∷ Sign CloseBrace ∷ ts
 behind_size false ts = Sign CloseBrace ∷ ts
 
@@ -115,7 +120,8 @@ unfolding tokens_of head_tokens
 desc_front word address size true instrs = refl
 desc_front word address size false instrs = refl
 
-with_instrs-exact : (ts us : List Tok) (word address size : ℕ) (causes : Bool) →
+-- a description of the numbers of a head and of the instructions behind it
+pub with_instrs-exact : (ts us : List Tok) (word address size : ℕ) (causes : Bool) →
     ts ≡ Word (codes "machine") ∷ Sign OpenBrace ∷ Word (codes "word") ∷ Number word ∷ Sign Semicolon ∷ Word (codes "address") ∷ Number address ∷ Sign Semicolon ∷
     Word (codes "size") ∷ Number size ∷ Sign Semicolon ∷ behind_size causes us →
     (read : Option (List Instr)) → IfSome read (IsInstrs us) → IfSome (with_instrs word address size causes read) (IsTokens ts)

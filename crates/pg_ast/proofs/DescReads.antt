@@ -47,8 +47,10 @@ pub instr_front : (i : Instr) (rest : List Tok) → instr_tokens i ++ rest ≡ W
 unfolding instr_tokens
 instr_front i rest = ap (λ z. Word (codes "instr") ∷ Word i.name.bytes ∷ Pattern i.pattern.bytes ∷ z) (block_front (map stmt_tokens i.body) rest)
 
+-- where b reads bodies
 module _ (b : List Tok → Option (List Stmt × List Tok)) where
-  read_instr-tokens : (i : Instr) → ReadsBlock b i.body → (rest : List Tok) → read_instr b (instr_tokens i ++ rest) ≡ Some (i, rest)
+  -- the tokens of an instruction whose body is read give it back and leave what follows
+  pub read_instr-tokens : (i : Instr) → ReadsBlock b i.body → (rest : List Tok) → read_instr b (instr_tokens i ++ rest) ≡ Some (i, rest)
   unfolding read_instr
   read_instr-tokens i h rest = rw (instr_front i rest) (simp (name_of-bytes, pattern_of-bytes, h, instr_of-parts))
 

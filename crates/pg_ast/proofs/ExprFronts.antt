@@ -52,5 +52,3 @@ expr_front-sext e n rest = rw (equations.expr_tokens-sext e n) (simp append_asso
 
 pub expr_front-sel : (c x y : Expr) (rest : List Tok) → expr_tokens (Sel c x y) ++ rest ≡ Word (codes "sel") ∷ Sign OpenParen ∷ (expr_tokens c ++ (Sign Comma ∷ (expr_tokens x ++ (Sign Comma ∷ (expr_tokens y ++ (Sign CloseParen ∷ rest))))))
 expr_front-sel c x y rest = rw (equations.expr_tokens-sel c x y) (simp append_assoc)
-
-pub ruleset expr_front_rules = (expr_front-lit, expr_front-name, expr_front-pc, expr_front-mode, expr_front-rel, expr_front-bound, expr_front-load, expr_front-not, expr_front-bin, expr_front-cat, expr_front-cut, expr_front-ext, expr_front-sext, expr_front-sel)

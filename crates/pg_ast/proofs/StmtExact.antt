@@ -29,7 +29,8 @@ IsExact read = (ts : List Tok) → IfSome (read ts) (IsFront ts)
 abbrev pub IsExactBlock : (List Tok → Option (List Stmt × List Tok)) → Type 0
 IsExactBlock read = (ts : List Tok) → IfSome (read ts) (IsBlockFront ts)
 
-past_close-holds : (ts : List Tok) → IfSome (past_close ts) (λ rest. ts ≡ Sign CloseBrace ∷ rest)
+-- where a closing brace was passed, it stood in front
+pub past_close-holds : (ts : List Tok) → IfSome (past_close ts) (λ rest. ts ≡ Sign CloseBrace ∷ rest)
 past_close-holds [] = tt
 past_close-holds (Word w ∷ ts) = tt
 past_close-holds (Number n ∷ ts) = tt
@@ -108,7 +109,8 @@ module _ (x : List Tok → Option (Expr × List Tok)) (b : List Tok → Option (
       else-exact (Word w ∷ ts) c held t3 (past_else t3) refl (cc (same_word w (codes "if") same, expr-part ts c t1 p1, p2, block-part t2 held t3 p3)))))) (λ other.
       tt))))))))
 
-  stmt-exact : IsExact (read_stmt x b)
+  -- what was read as a statement are its tokens
+  pub stmt-exact : IsExact (read_stmt x b)
   unfolding read_stmt
   stmt-exact [] = tt
   stmt-exact (Word w ∷ ts) = word-exact w ts

@@ -53,8 +53,6 @@ stmt_front-if_else c held other rest =
     ∙ ap (λ z. expr_tokens c ++ z) (block_front (map stmt_tokens held) (else_tokens (Some (map stmt_tokens other)) ++ rest)
     ∙ ap (λ z. Sign OpenBrace ∷ (flat (map stmt_tokens held) ++ (Sign CloseBrace ∷ Word (codes "else") ∷ z))) (block_front (map stmt_tokens other) rest))))
 
-pub ruleset stmt_front_rules = (stmt_front-let, stmt_front-store, stmt_front-pc, stmt_front-mode, stmt_front-rel, stmt_front-bound, stmt_front-trap, stmt_front-if, stmt_front-if_else)
-
 -- a statement begins with a word, which is not else
 abbrev pub Begins : Stmt → Type 0
 Begins s = (w : List ℕ) × (ts : List Tok) × (stmt_tokens s ≡ Word w ∷ ts) × (bytes_eq w (codes "else") ≡ false)

@@ -12,7 +12,7 @@ use Rattle.pg_ast.specs.declared.tree.Stmt.TheOpen as Open
 use Rattle.pg_ast.specs.declared.tree.Stmt.TheFolds.{ind-Stmt, map-Stmt}
 use Rattle.pg_ast.specs.declared.tree.Stmt.TheViews.{roll-Stmt}
 use Rattle.pg_ast.specs.Tokens.{stmt_tokens, flat}
-use Rattle.pg_ast.specs.Levels.{greatest, expr_levels}
+use Rattle.pg_ast.specs.Levels.{greatest, depth_of, expr_levels}
 use Rattle.pg_ast.specs.Reading.{past_close, past_else, read_expr, read_stmt_word, read_stmt, read_first, read_block}
 use Rattle.pg_ast.proofs.ExprReads.{Reads, name_of-bytes, read_expr-tokens}
 use Rattle.pg_ast.proofs.StmtEquations as equations
@@ -27,16 +27,16 @@ abbrev pub ReadsBlock : (List Tok → Option (List Stmt × List Tok)) → List S
 ReadsBlock read stmts = (rest : List Tok) → read (flat (map stmt_tokens stmts) ++ (Sign CloseBrace ∷ rest)) ≡ Some (stmts, rest)
 
 -- behind a statement of a block comes no else
-else_free : (more : List Stmt) (rest : List Tok) → past_else (flat (map stmt_tokens more) ++ (Sign CloseBrace ∷ rest)) ≡ None
+pub else_free : (more : List Stmt) (rest : List Tok) → past_else (flat (map stmt_tokens more) ++ (Sign CloseBrace ∷ rest)) ≡ None
 else_free [] rest = refl
 else_free (s ∷ more) rest = let begun = fronts.stmt_begins s in rw (begun.2) (simp (begun.3))
 
 -- a block does not end where a statement begins
-open_front : (s : Stmt) (rest : List Tok) → past_close (stmt_tokens s ++ rest) ≡ None
+pub open_front : (s : Stmt) (rest : List Tok) → past_close (stmt_tokens s ++ rest) ≡ None
 open_front s rest = let begun = fronts.stmt_begins s in rw (begun.2) refl
 
 -- a statement has tokens
-stmt-some : (s : Stmt) → 1 ≤ length (stmt_tokens s)
+pub stmt-some : (s : Stmt) → 1 ≤ length (stmt_tokens s)
 stmt-some s = let begun = fronts.stmt_begins s in rw (begun.2) (omega arith)
 
 -- one level, where x reads expressions and b reads the blocks inside
@@ -87,11 +87,54 @@ module _ (x : List Tok → Option (Expr × List Tok)) (b : List Tok → Option (
   first-next s more hs hmore rest =
       rw (append_assoc (stmt_tokens s) (flat (map stmt_tokens more)) (Sign CloseBrace ∷ rest), open_front s (flat (map stmt_tokens more) ++ (Sign CloseBrace ∷ rest)), hs (flat (map stmt_tokens more) ++ (Sign CloseBrace ∷ rest)) (else_free more rest), hmore rest) refl
 
--- with fuel for its levels and its tokens a reader gives this statement
-abbrev IsRead : Stmt → Type 0
-IsRead s = (n k : ℕ) → expr_levels s ≤ n → length (stmt_tokens s) ≤ k → ReadsStmt (read_stmt (read_expr n) (read_block (read_expr n) k)) s
+-- at each i of a family, where x i reads expressions and b i blocks: a statement is read that has so many levels of expressions, and this size, at most
+abbrev pub IsReadAt : (I : Type 0) (x : I → List Tok → Option (Expr × List Tok)) (b : I → List Tok → Option (List Stmt × List Tok)) (levels room : I → ℕ) (size : Stmt → ℕ) → Stmt → Type 0
+IsReadAt I x b levels room size s = (i : I) → expr_levels s ≤ levels i → size s ≤ room i → ReadsStmt (read_stmt (x i) (b i)) s
 
-block-reads : (stmts : List ((s : Stmt) × IsRead s)) (n k : ℕ) → greatest (map expr_levels (map (λ p. p.0) stmts)) ≤ n → length (flat (map stmt_tokens (map (λ p. p.0) stmts))) + 1 ≤ k →
+-- the same of the statements of a block, whose size is no greater than that of the statement that it stands in
+module _ (I : Type 0) (x : I → List Tok → Option (Expr × List Tok)) (b : I → List Tok → Option (List Stmt × List Tok)) (levels room : I → ℕ) (size : Stmt → ℕ) (block_size : List Stmt → ℕ)
+    (exprs : (i : I) (e : Expr) → depth_of e ≤ levels i → Reads (x i) e)
+    (held_size : (c : Expr) (held : List Stmt) (other : Option (List Stmt)) → block_size held ≤ size (If c held other))
+    (else_size : (c : Expr) (held other : List Stmt) → block_size other ≤ size (If c held (Some other)))
+    (block : (stmts : List ((s : Stmt) × IsReadAt I x b levels room size s)) (i : I) → greatest (map expr_levels (map (λ p. p.0) stmts)) ≤ levels i → block_size (map (λ p. p.0) stmts) ≤ room i → ReadsBlock (b i) (map (λ p. p.0) stmts)) where
+  abbrev IsRead : Stmt → Type 0
+  IsRead = IsReadAt I x b levels room size
+
+  layer : (y : Open.Stmt-F ((s : Stmt) × IsRead s)) → IsRead (roll-Stmt (map-Stmt ((s : Stmt) × IsRead s) Stmt (λ p. p.0) y))
+  layer (Open.Let m e) = subst IsRead (sym (rolls-Let m e)) (λ i deep fits.
+      level-let (x i) (b i) m e (exprs i e (omega (arith, equations.expr_levels-let m e))))
+  layer (Open.Store a e) = subst IsRead (sym (rolls-Store a e)) (λ i deep fits.
+      level-store (x i) (b i) a e (exprs i a (omega (arith, equations.expr_levels-store a e))) (exprs i e (omega (arith, equations.expr_levels-store a e))))
+  layer (Open.Pc e) = subst IsRead (sym (rolls-Pc e)) (λ i deep fits.
+      level-pc (x i) (b i) e (exprs i e (omega (arith, equations.expr_levels-pc e))))
+  layer (Open.Mode e) = subst IsRead (sym (rolls-Mode e)) (λ i deep fits.
+      level-mode (x i) (b i) e (exprs i e (omega (arith, equations.expr_levels-mode e))))
+  layer (Open.Rel e) = subst IsRead (sym (rolls-Rel e)) (λ i deep fits.
+      level-rel (x i) (b i) e (exprs i e (omega (arith, equations.expr_levels-rel e))))
+  layer (Open.Bound e) = subst IsRead (sym (rolls-Bound e)) (λ i deep fits.
+      level-bound (x i) (b i) e (exprs i e (omega (arith, equations.expr_levels-bound e))))
+  layer Open.Trap = subst IsRead (sym rolls-Trap) (λ i deep fits. level-trap (x i) (b i))
+  layer (Open.If c held None) = subst IsRead (sym (rolls-If c (map (λ p. p.0) held) None)) (λ i deep fits.
+      let within = equations.expr_levels-if c (map (λ p. p.0) held) None in
+      level-if (x i) (b i) c (map (λ p. p.0) held)
+      (exprs i c (omega (arith, within)))
+      (block held i (omega (arith, within)) (omega (arith, held_size c (map (λ p. p.0) held) None))))
+  layer (Open.If c held (Some other)) = subst IsRead (sym (rolls-If c (map (λ p. p.0) held) (Some (map (λ p. p.0) other)))) (λ i deep fits.
+      let within = equations.expr_levels-if c (map (λ p. p.0) held) (Some (map (λ p. p.0) other)) in
+      level-if_else (x i) (b i) c (map (λ p. p.0) held) (map (λ p. p.0) other)
+      (exprs i c (omega (arith, within)))
+      (block held i (omega (arith, within)) (omega (arith, held_size c (map (λ p. p.0) held) (Some (map (λ p. p.0) other)))))
+      (block other i (omega (arith, within)) (omega (arith, else_size c (map (λ p. p.0) held) (map (λ p. p.0) other)))))
+
+  -- the tokens of each statement that keeps the bounds give it back and leave what follows, unless that is an else
+  pub stmt-read : (s : Stmt) → IsReadAt I x b levels room size s
+  stmt-read = ind-Stmt IsRead (λ y z is. subst (λ s. IsRead (roll-Stmt s)) is (layer z))
+
+-- with fuel for its levels and its tokens a reader gives this statement
+abbrev IsFueled : Stmt → Type 0
+IsFueled = IsReadAt (ℕ × ℕ) (λ i. read_expr i.0) (λ i. read_block (read_expr i.0) i.1) (λ i. i.0) (λ i. i.1) (λ s. length (stmt_tokens s))
+
+block-reads : (stmts : List ((s : Stmt) × IsFueled s)) (n k : ℕ) → greatest (map expr_levels (map (λ p. p.0) stmts)) ≤ n → length (flat (map stmt_tokens (map (λ p. p.0) stmts))) + 1 ≤ k →
     ReadsBlock (read_block (read_expr n) k) (map (λ p. p.0) stmts)
 unfolding read_block
 block-reads [] n zero levels fuel rest = absurd (omega arith)
@@ -101,7 +144,7 @@ block-reads (s ∷ more) n (suc k) levels fuel rest =
     let total = length-append (stmt_tokens s.0) (flat (map stmt_tokens (map (λ p. p.0) more))) in
     let some = stmt-some s.0 in
     first-next (read_expr n) (read_block (read_expr n) k) s.0 (map (λ p. p.0) more)
-    (s.1 n k (omega arith) (omega (arith, total)))
+    (s.1 (n, k) (omega arith) (omega (arith, total)))
     (block-reads more n k (omega arith) (omega (arith, total, some)))
     rest
 
@@ -113,35 +156,11 @@ else-length : (c : Expr) (held other : List Stmt) → length (flat (map stmt_tok
 else-length c held other =
     rw (equations.stmt_tokens-if c held (Some other)) (simp length-append (omega arith))
 
-layer : (y : Open.Stmt-F ((s : Stmt) × IsRead s)) → IsRead (roll-Stmt (map-Stmt ((s : Stmt) × IsRead s) Stmt (λ p. p.0) y))
-layer (Open.Let m e) = subst IsRead (sym (rolls-Let m e)) (λ n k levels fuel.
-    level-let (read_expr n) (read_block (read_expr n) k) m e (read_expr-tokens e n (omega (arith, equations.expr_levels-let m e))))
-layer (Open.Store a e) = subst IsRead (sym (rolls-Store a e)) (λ n k levels fuel.
-    level-store (read_expr n) (read_block (read_expr n) k) a e (read_expr-tokens a n (omega (arith, equations.expr_levels-store a e))) (read_expr-tokens e n (omega (arith, equations.expr_levels-store a e))))
-layer (Open.Pc e) = subst IsRead (sym (rolls-Pc e)) (λ n k levels fuel.
-    level-pc (read_expr n) (read_block (read_expr n) k) e (read_expr-tokens e n (omega (arith, equations.expr_levels-pc e))))
-layer (Open.Mode e) = subst IsRead (sym (rolls-Mode e)) (λ n k levels fuel.
-    level-mode (read_expr n) (read_block (read_expr n) k) e (read_expr-tokens e n (omega (arith, equations.expr_levels-mode e))))
-layer (Open.Rel e) = subst IsRead (sym (rolls-Rel e)) (λ n k levels fuel.
-    level-rel (read_expr n) (read_block (read_expr n) k) e (read_expr-tokens e n (omega (arith, equations.expr_levels-rel e))))
-layer (Open.Bound e) = subst IsRead (sym (rolls-Bound e)) (λ n k levels fuel.
-    level-bound (read_expr n) (read_block (read_expr n) k) e (read_expr-tokens e n (omega (arith, equations.expr_levels-bound e))))
-layer Open.Trap = subst IsRead (sym rolls-Trap) (λ n k levels fuel. level-trap (read_expr n) (read_block (read_expr n) k))
-layer (Open.If c held None) = subst IsRead (sym (rolls-If c (map (λ p. p.0) held) None)) (λ n k levels fuel.
-    let within = equations.expr_levels-if c (map (λ p. p.0) held) None in
-    level-if (read_expr n) (read_block (read_expr n) k) c (map (λ p. p.0) held)
-    (read_expr-tokens c n (omega (arith, within)))
-    (block-reads held n k (omega (arith, within)) (omega (arith, if-length c (map (λ p. p.0) held) None))))
-layer (Open.If c held (Some other)) = subst IsRead (sym (rolls-If c (map (λ p. p.0) held) (Some (map (λ p. p.0) other)))) (λ n k levels fuel.
-    let within = equations.expr_levels-if c (map (λ p. p.0) held) (Some (map (λ p. p.0) other)) in
-    level-if_else (read_expr n) (read_block (read_expr n) k) c (map (λ p. p.0) held) (map (λ p. p.0) other)
-    (read_expr-tokens c n (omega (arith, within)))
-    (block-reads held n k (omega (arith, within)) (omega (arith, if-length c (map (λ p. p.0) held) (Some (map (λ p. p.0) other)))))
-    (block-reads other n k (omega (arith, within)) (omega (arith, else-length c (map (λ p. p.0) held) (map (λ p. p.0) other)))))
-
 -- the tokens of a statement, read with fuel for its expressions and for its tokens, give it back and leave what follows, unless that is an else
-pub read_stmt-tokens : (s : Stmt) → IsRead s
-read_stmt-tokens = ind-Stmt IsRead (λ x y is. subst (λ z. IsRead (roll-Stmt z)) is (layer y))
+pub read_stmt-tokens : (s : Stmt) → IsFueled s
+read_stmt-tokens =
+    stmt-read (ℕ × ℕ) (λ i. read_expr i.0) (λ i. read_block (read_expr i.0) i.1) (λ i. i.0) (λ i. i.1) (λ s. length (stmt_tokens s)) (λ stmts. length (flat (map stmt_tokens stmts)) + 1)
+    (λ i e deep. read_expr-tokens e i.0 deep) if-length else-length (λ stmts i. block-reads stmts i.0 i.1)
 
 -- the same of the statements of a block
 pub read_block-tokens : (stmts : List Stmt) (n k : ℕ) → greatest (map expr_levels stmts) ≤ n → length (flat (map stmt_tokens stmts)) + 1 ≤ k → ReadsBlock (read_block (read_expr n) k) stmts
@@ -153,6 +172,6 @@ read_block-tokens (s ∷ more) n (suc k) levels fuel rest =
     let total = length-append (stmt_tokens s) (flat (map stmt_tokens more)) in
     let some = stmt-some s in
     first-next (read_expr n) (read_block (read_expr n) k) s more
-    (read_stmt-tokens s n k (omega arith) (omega (arith, total)))
+    (read_stmt-tokens s (n, k) (omega arith) (omega (arith, total)))
     (read_block-tokens more n k (omega arith) (omega (arith, total, some)))
     rest

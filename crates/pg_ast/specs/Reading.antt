@@ -1,4 +1,5 @@
--- Reading a tree back from its tokens. A reader takes the tree at the front of a list of tokens and leaves the tokens behind it.
+-- Reading a tree back from its tokens. A reader takes the tree at the front of a list of tokens and leaves the tokens
+-- behind it.
 -- Each is given as much fuel as it may go down levels, and without fuel it reads nothing.
 use Rattle.std.specs.Prelude.{◌≡◌, ℕ, zero, suc, ◌+◌, Bool, true, false, cond, ◌==◌, nat_le, map, List, [], ◌∷◌, length, Option, None, Some, codes, bytes_eq}
 use Rattle.std.specs.List.{list_all}

@@ -5,12 +5,12 @@
 //! have a limit each. A body is asked for its blocks first, so that the walk to its expressions goes
 //! no deeper than the limits either.
 
-ghost use Rattle.std.specs.Prelude.{◌≡◌, ◌≤◌, ◌↔◌, IsTrue, map};
+ghost use Rattle.std.specs.Prelude.{◌≤◌, ◌↔◌, IsTrue, map};
 ghost use Rattle.pg_ast.specs.Levels.{depth_of, expr_levels, block_levels, greatest, IsShallow};
 
 use crate::tree::{Expr, Stmt, StmtList};
 
-/// The greatest number of levels of an expression.
+/// The greatest number of levels of an expression, which is the first of them itself.
 pub const EXPR_LEVELS: u32 = 32;
 
 /// The greatest number of levels of blocks, a body itself being the first.

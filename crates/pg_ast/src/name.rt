@@ -14,6 +14,7 @@ use sqlite_items::Items;
 /// language keeps for itself.
 #[derive(Debug, Drop)]
 pub struct Name {
+    /// Its bytes, from 1 to 32 of them, the first a letter.
     pub bytes: Items<u8>,
     pub ghost is_name: { IsTrue (is_name bytes) },
 }
@@ -22,6 +23,7 @@ pub struct Name {
 /// of that letter. It may have any length here, also none.
 #[derive(Debug, Drop)]
 pub struct PatternText {
+    /// One byte a bit, the highest bit first: `0`, `1`, `.`, or `a` to `z`.
     pub bytes: Items<u8>,
     pub ghost is_pattern: { IsTrue (list_all is_pattern_byte bytes) },
 }

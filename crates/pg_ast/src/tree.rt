@@ -1,9 +1,11 @@
 //! The trees of expressions, statements, instructions and descriptions.
 //!
-//! A tree is plain data, in which `Boxed` and `Items` are seen as what they hold. Expressions and
-//! statements may go down any number of levels here: the limits stand on `Instr`, whose body is
-//! known to keep them. What a tree means is not said here, only its parts and, by its tokens, how
-//! each is written.
+//! A tree is plain data, in which `Boxed` and `Items` are seen as what they hold: two trees are equal
+//! exactly where they are the same description, whatever their storage. Expressions and statements may
+//! go down any number of levels here: the limits stand on `Instr`, whose body is known to keep them, so
+//! that a walk over it recurses no further. The reader makes trees, the printer writes them, the tests
+//! of validity go over them, and the interpreter executes the bodies. What a tree means is defined above
+//! this crate; here stand its parts and, by its tokens, how each is written.
 
 ghost use Rattle.std.specs.Prelude.{◌≡◌, ◌↔◌, IsSome, IfSome};
 ghost use Rattle.pg_ast.specs.Levels.{IsShallow};
@@ -12,18 +14,29 @@ use crate::limits::is_shallow;
 use crate::name::{Name, PatternText};
 use sqlite_items::{Boxed, Items};
 
-/// An operator between two expressions.
+/// An operator between two expressions. In a valid description both sides have n bits, n from 1 to 64, and so has the
+/// answer, but where something else is said.
 #[derive(Clone, Copy, Debug, PartialEq, Eq)]
 pub enum Op {
+    /// `+`, the sum modulo `2^n`.
     Add,
+    /// `-`, the difference modulo `2^n`.
     Sub,
+    /// `*`, the product modulo `2^n`.
     Mul,
+    /// `&`, bit by bit.
     And,
+    /// `|`, bit by bit.
     Or,
+    /// `^`, bit by bit.
     Xor,
+    /// `==`: one bit, 1 where both are equal.
     Eq,
+    /// `<`, of numbers without sign: one bit, 1 where the left one is below the right one.
     Lt,
+    /// `<<`, to the left by as many places as the right side says, which may have any width; 0 from n places on.
     Shl,
+    /// `>>`, to the right, in the same way.
     Shr,
 }
 
@@ -91,8 +104,11 @@ pub type InstrList = Items<Instr>;
 /// levels, its own being the first, and expressions of at most 32.
 #[derive(Debug, Drop)]
 pub struct Instr {
+    /// Its name, which no other instruction of a valid description has.
     pub name: Name,
+    /// The words that it takes, and its fields: in a valid description it has as many places as a word has bits.
     pub pattern: PatternText,
+    /// What it does, in order: from 0 to 200 statements in a valid description, those inside ifs counted too.
     pub body: StmtList,
     pub ghost shallow: { IsShallow body },
 }
@@ -133,12 +149,18 @@ impl Instr {
 }
 
 /// A description: the numbers of its head, whether causes are on, and its instructions. The numbers
-/// are any of 64 bits here.
+/// are any of 64 bits here; the ranges below are those of a valid description.
 #[derive(Debug, Drop)]
 pub struct Desc {
+    /// `word`, the bits of a word: 16, 24, 32, 40, 48, 56 or 64.
     pub word: u64,
+    /// `address`, the bits of an address: 4 to 20, and such that a program status word fits a word,
+    /// `3 address + 1 <= word`, or `3 address + 3 <= word` where causes are on.
     pub address: u64,
+    /// `size`, the greatest size of a storage, in cells: 4 to `2^address - 1`.
     pub size: u64,
+    /// Whether a trap stores its cause: whether the head has `causes on;`.
     pub causes: bool,
+    /// The instructions, at most 256. Where an instruction has a number, it is its place here, from 0.
     pub instrs: InstrList,
 }

@@ -1,8 +1,7 @@
 -- The places of a text's tokens are in order.
-use Rattle.std.proofs.Common.{◌≡◌, ℕ, zero, suc, ◌+◌, ◌-◌, ◌<◌, ◌≤◌, List, [], ◌∷◌, ◌++◌, length, Option, Some, None, Result, Ok, subst, refl, arith}
+use Rattle.std.proofs.Common.{◌≡◌, ℕ, zero, suc, ◌+◌, ◌-◌, ◌<◌, ◌≤◌, List, [], ◌∷◌, ◌++◌, length, Option, Some, None, Ok, subst, refl, arith}
 use Rattle.pg_token.specs.declared.tok.Tok.{Tok}
 use Rattle.pg_text.specs.declared.place.Span.{Span}
-use Rattle.pg_text.specs.declared.place.TextFault.{TextFault}
 use Rattle.pg_text.specs.declared.piece.Piece.{Piece}
 use Rattle.pg_text.specs.Cutting.{front, placed, cut_from, cut}
 use Rattle.pg_text.specs.Places.{InOrder}
@@ -17,9 +16,6 @@ earlier start later end (t ∷ ts) le h = (omega arith, h.1, h.2)
 in_front : (place len end : ℕ) (tok : Option Tok) (ts : List (Tok × Span)) → 0 < len → InOrder (place + len) end ts → InOrder place end (placed place (record { tok = tok; len = len }) ++ ts)
 in_front place len end None ts some h = earlier place (place + len) end ts (omega arith) h
 in_front place len end (Some t) ts some h = (omega arith, omega arith, h)
-
-abbrev Tokens : Type 0
-Tokens = Result (List (Tok × Span)) TextFault
 
 -- the tokens behind k bytes of a piece before
 in_order : (k place start end : ℕ) (text : List ℕ) (ts : List (Tok × Span)) → k ≤ length text → start ≡ place + k → end ≡ place + length text → cut_from k place text ≡ Ok ts → InOrder start end ts

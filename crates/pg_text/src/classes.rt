@@ -1,8 +1,10 @@
 //! Which bytes make what.
 //!
-//! Tests of one byte, how many bytes of a kind stand at the front, and the signs. What a word byte and
-//! a pattern byte are is defined below, beside the tokens, since a tree's names and patterns rest on
-//! it too. Nothing here refuses or allocates.
+//! Tests of one byte, how many bytes of a kind stand at the front, and the signs: what `piece` asks of
+//! the text before it. The classes of first bytes do not meet, so the order in which it asks says
+//! nothing; but of signs it asks for two bytes before one, since `=` and `<` begin longer ones. What a
+//! word byte and a pattern byte are is defined below, beside the tokens, since a tree's names and
+//! patterns rest on it too. Nothing here refuses or allocates.
 
 ghost use Rattle.std.specs.Prelude.{◌≡◌, ◌≤◌, length, not, ◌==◌};
 ghost use Rattle.std.specs.List.{prefix_len};

@@ -3,6 +3,10 @@
 //! A loop from the left: what stands at the front is looked at by `piece`, its token is put at the
 //! end of the list, and the loop goes on behind it. Each byte is passed over once by the loop and
 //! read a few times by what looks at the front, so the time grows with the bytes alone.
+//!
+//! Whoever reads a description calls `tokens` once, for the whole of its text, and works on the list
+//! from then on. Each token has its place beside it, so that a fault which is found later, in the order
+//! of the tokens, can still say where in the text it is.
 
 ghost use Rattle.std.specs.Prelude.{◌≡◌, ◌+◌, ◌<◌, ◌^◌, ◌++◌, OnOk};
 ghost use Rattle.pg_text.specs.Cutting.{IsDue, placed, cut};

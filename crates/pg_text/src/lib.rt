@@ -12,9 +12,12 @@
 //! | Token | The bytes that make it | What it carries |
 //! |---|---|---|
 //! | word | a letter, then every letter, digit and `_` that follows, at most 32 bytes in all | its bytes |
-//! | number | a digit, then every letter, digit and `_` that follows: decimal digits, or `0x` and 1 to 16 hexadecimal digits of either case; leading zeros are fine | its value, below 2^64 |
-//! | pattern | `"`, then any number of the bytes `0`, `1`, `.`, `_` and `a` to `z`, then `"` | the bytes between the quotes without `_` |
+//! | number | a digit, then every letter, digit and `_` that follows, where these are as below | its value, below 2^64 |
+//! | pattern | `"`, then bytes `0`, `1`, `.`, `_` and `a` to `z`, if any, then `"` | these bytes without `_` |
 //! | sign | one of `{ } ( ) [ ] ; , : = == ~ + - * & \| ^ < << >>` | which sign |
+//!
+//! The bytes of a number are decimal digits, or `0x` and 1 to 16 hexadecimal digits of either case. Leading
+//! zeros are fine.
 //!
 //! What is none of these is a fault. Its place is a byte's, counted from 0, and the first fault from
 //! the left is the answer. `BadWord` is a longer word, at its first byte; `BadNumber` a number that

@@ -1,8 +1,10 @@
 //! What a number's text stands for.
 //!
-//! The text is a whole run of letters, digits and `_`, so what is asked here is only whether all of it
-//! makes a number: decimal digits, or `0x` and 1 to 16 hexadecimal digits. The value is built from the
-//! left, and a digit that would bring it to 2^64 ends the work, since digits behind it never lower it.
+//! The text that `piece` gives is a whole run of letters, digits and `_`, so what is asked here is only
+//! whether all of it makes a number: decimal digits, or `0x` and 1 to 16 hexadecimal digits. So `12a` is a
+//! bad number, and never a number with a word behind it. The value is built from the left, and a digit
+//! that would bring it to 2^64 ends the work, since digits behind it never lower it. What digits are worth
+//! is std's definition (`digits_value`).
 
 ghost use Rattle.std.specs.Prelude.{◌≡◌, ◌+◌, ◌*◌, ◌<◌};
 ghost use Rattle.std.specs.List.{list_all};

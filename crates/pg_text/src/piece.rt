@@ -5,7 +5,7 @@
 //! exact against its part of the definition. A word or a pattern makes at most one allocation, the
 //! others none.
 
-ghost use Rattle.std.specs.Prelude.{◌≡◌, ◌≤◌, ◌<◌, length, slice_index, filter, IfOk};
+ghost use Rattle.std.specs.Prelude.{◌≡◌, ◌<◌, length, slice_index, filter, IfOk};
 ghost use Rattle.pg_token.specs.Words.{is_pattern_byte};
 ghost use Rattle.pg_text.specs.Cutting.{IsDue, word_at, number_at, pattern_at, sign_at, sign_of_two, front};
 
@@ -21,7 +21,10 @@ use std::alloc::{AllocError, Global};
 /// The bytes at the front of a text: how many, and the token that they make, if they make one.
 #[derive(Drop)]
 pub struct Piece {
+    /// The token; `None` of a blank and of a comment.
     pub tok: Option<Tok>,
+    /// How many bytes it takes, at least 1: for a word or a number the whole run of letters, digits and `_`, for a
+    /// pattern its quotes too, for a comment all before its LF.
     pub len: usize,
 }
 

@@ -11,7 +11,9 @@ use thiserror::Error;
 /// Where a token stands: from the byte `from` up to, and without, the byte `to`, counted from 0.
 #[derive(Clone, Copy, Debug, PartialEq, Eq)]
 pub struct Span {
+    /// The place of its first byte.
     pub from: usize,
+    /// The place behind its last byte: above `from`, and at most the length of the text.
     pub to: usize,
 }
 

@@ -17,3 +17,6 @@ mod words;
 
 pub use tok::{Sign, Tok};
 pub use words::{is_name, is_pattern, is_pattern_byte, is_reserved, is_word};
+
+#[cfg(test)]
+mod tests;

@@ -55,11 +55,13 @@ pub enum Sign {
 /// A token: a word, a number, a pattern without its quotes and underscores, or a sign.
 #[derive(Debug, Drop)]
 pub enum Tok {
-    /// A word, reserved or not.
+    /// A word, reserved or not: a letter, then letters, digits and `_`, from 1 to 32 bytes in all
+    /// where it comes from a text.
     Word(Items<u8>),
     /// The value of a number, however it was written.
     Number(u64),
-    /// The letters of a pattern.
+    /// The letters of a pattern, one a bit, the highest bit first; it may have none.
     Pattern(Items<u8>),
+    /// A sign.
     Sign(Sign),
 }

@@ -4,9 +4,12 @@
 //! pattern: tests that answer what the definitions of the same names say. They read bytes and
 //! allocate nothing. A lexer asks them where a word ends and what it is, and a tree keeps their
 //! answers as facts of its names and patterns.
+//!
+//! A word that is reserved is no name, and that is all that keeps the two apart: the lexer gives both
+//! as words. The words of the head, as `size`, are reserved in bodies too.
 
-ghost use Rattle.std.specs.Prelude.{◌≡◌, ◌∷◌, ◌||◌, bytes_eq, codes, [], List};
-ghost use Rattle.std.specs.List.{list_all, list_any};
+ghost use Rattle.std.specs.Prelude.{◌≡◌, bytes_eq};
+ghost use Rattle.std.specs.List.{list_all};
 ghost use Rattle.pg_token.specs.Words.{is_letter, is_word_byte, is_word, is_reserved, is_name, is_pattern_byte};
 
 /// A letter of either case.
@@ -23,6 +26,7 @@ fn is_word_byte(byte: u8) -> bool
     is_letter(byte) || byte.is_ascii_digit() || byte == b'_'
 }
 
+/// Letters, digits and `_` alone, or no byte at all.
 fn are_word_bytes(bytes: &[u8]) -> bool
     ensures { result ≡ list_all is_word_byte bytes.now }
 {
@@ -39,6 +43,7 @@ pub fn is_word(bytes: &[u8]) -> bool
     }
 }
 
+/// Whether these bytes are those of a word, case and all.
 fn is_same(bytes: &[u8], word: &[u8]) -> bool
     ensures { result ≡ bytes_eq bytes.now word.now }
 {
@@ -90,43 +95,4 @@ pub fn is_pattern(bytes: &[u8]) -> bool
     ensures { result ≡ list_all is_pattern_byte bytes.now }
 {
     bytes.iter().all(|byte| is_pattern_byte(*byte))
-}
-
-#[cfg(test)]
-mod tests {
-    use super::*;
-
-    #[test]
-    fn tells_names_from_other_bytes(rt: HostRuntime) {
-        let table: [(&[u8], bool, bool); 9] = [
-            (b"R7_x", true, true),
-            (b"a2345678901234567890123456789012", true, true),
-            (b"a23456789012345678901234567890123", false, false),
-            (b"", false, false),
-            (b"7r", false, false),
-            (b"_r", false, false),
-            (b"a-b", false, false),
-            (b"sext", true, false),
-            (b"Sext", true, true),
-        ];
-        for (bytes, word, name) in table {
-            assert_eq!(rt; is_word(bytes), word, "word {bytes:?}");
-            assert_eq!(rt; is_name(bytes), name, "name {bytes:?}");
-        }
-    }
-
-    #[test]
-    fn tells_reserved_words(rt: HostRuntime) {
-        assert!(rt; is_reserved(b"machine"));
-        assert!(rt; is_reserved(b"sel"));
-        assert!(rt; !is_reserved(b"on"));
-    }
-
-    #[test]
-    fn tells_patterns(rt: HostRuntime) {
-        assert!(rt; is_pattern(b"01.az"));
-        assert!(rt; !is_pattern(b"01A"));
-        assert!(rt; is_pattern_byte(b'.'));
-        assert!(rt; !is_pattern_byte(b'_'));
-    }
 }

@@ -20,8 +20,3 @@ pub record AreShapeNumbers (w a q : ℕ) (causes : Bool) : Type 0 where
 -- the condition of every call that is lent a shape
 abbrev pub IsShape : Shape → Type 0
 IsShape s = AreShapeNumbers s.w s.a s.q s.causes
-
--- an address width of some shape
-pub record IsAddressWidth (a : ℕ) : Type 0 where
-  pub least : 4 ≤ a
-  pub most : a ≤ 20

@@ -3,8 +3,11 @@
 //! A value of n bits is a number below `2^n`, n from 1 to 64. Each function is the arithmetic one; none allocates, and
 //! each is a few machine instructions: sums and products wrap at 64 bits first and are cut to n bits then, which is the
 //! same since `2^n` divides `2^64`.
+//!
+//! The interpreter computes with these functions. Strings of gates are proved against the definitions that they cite, so
+//! that a circuit and a run mean the same by an operator.
 
-ghost use Rattle.std.specs.Prelude.{◌≡◌, ℕ, ◌+◌, ◌-◌, ◌*◌, ◌/◌, ◌%◌, ◌^◌, ◌<◌, ◌≤◌, bit_and, bit_or, bit_xor, if◌then◌else◌, ◌==◌};
+ghost use Rattle.std.specs.Prelude.{◌≡◌, ◌+◌, ◌-◌, ◌*◌, ◌%◌, ◌^◌, ◌<◌, ◌≤◌, bit_and, bit_or, bit_xor, if◌then◌else◌, ◌==◌};
 ghost use Rattle.pg_word.specs.Bits.{IsWidth, sum_of, difference_of, product_of, complement_of, left_shifted, right_shifted, bits_between, joined, sign_extended, equal_bit, below_bit};
 
 /// The sum of two values of n bits, modulo `2^n`.
@@ -164,7 +167,7 @@ pub fn sel(c: u64, x: u64, y: u64) -> u64
     if c == 1 { x } else { y }
 }
 
-// `high` above the `width` bits of `low`. Where `width` is 64 the shift wraps to one by 0, but `high` is 0 then.
+/// `high` above the `width` bits of `low`. Where `width` is 64 the shift wraps to one by 0, but `high` is 0 then.
 pub(crate) fn above(high: u64, width: u32, low: u64) -> u64
     requires low_fits { low < 2 ^ width }
     requires all_fit { high * 2 ^ width + low < 2 ^ 64 }
@@ -173,7 +176,7 @@ pub(crate) fn above(high: u64, width: u32, low: u64) -> u64
     high.wrapping_shl(width) | low
 }
 
-// The lowest n bits.
+/// The lowest n bits.
 fn low(n: u32, x: u64) -> u64
     requires width { IsWidth n }
     ensures value { result ≡ x % 2 ^ n }
@@ -182,7 +185,7 @@ fn low(n: u32, x: u64) -> u64
     x & ones(n)
 }
 
-// n bits of 1.
+/// n bits of 1.
 fn ones(n: u32) -> u64
     requires width { IsWidth n }
     ensures { result ≡ 2 ^ n - 1 }

@@ -2,8 +2,13 @@
 //!
 //! From bit 0 the word holds b, l and P, of `a` bits each, and the mode, a bit: 0 supervisor, 1 user. Where a shape has
 //! causes on, what a trap stores has its cause in the two bits above; loading ignores all that stands above the mode.
+//! Mode, P and (l, b) are those of the 1974 paper (section 2); how they lie in a word is ours.
+//!
+//! A hardware packs what a trap stores and unpacks what it loads, and so does a routine that emulates the step of a guest;
+//! both measure windows here. Unpacking gives back what was packed, with a cause or without (`laws`). Every word unpacks, to
+//! fields that are in their ranges, so what a program left in cell 1 needs no test.
 
-ghost use Rattle.std.specs.Prelude.{◌≡◌, ℕ, ◌+◌, ◌*◌, ◌/◌, ◌%◌, ◌^◌, ◌<◌, ◌≤◌};
+ghost use Rattle.std.specs.Prelude.{◌≡◌, ◌+◌, ◌*◌, ◌%◌, ◌^◌, ◌<◌, ◌≤◌};
 ghost use Rattle.pg_word.specs.Shape.{IsShape};
 ghost use Rattle.pg_word.specs.Psw.{IsPsw, bit_of, packed, packed_trap, unpacked, window_len_of};
 
@@ -13,19 +18,23 @@ use super::shape::Shape;
 /// The mode of the machine: supervisor or user.
 #[derive(Clone, Copy, Debug, PartialEq, Eq)]
 pub enum Mode {
+    /// Supervisor: 0 in the word.
     S,
+    /// User: 1 in the word.
     U,
 }
 
-/// A program status word: mode, instruction counter P, and the relocation-bounds register (l, b).
+/// A program status word: mode, instruction counter P, and the relocation-bounds register (l, b). Calls that are lent a
+/// shape ask that P, l and b are below `2^a` (`IsPsw`), and what is unpacked has them so.
 #[derive(Clone, Copy, Debug, PartialEq, Eq)]
 pub struct Psw {
+    /// The mode in which the next instruction is executed.
     pub mode: Mode,
-    /// The address of the next instruction, relative to `l`.
+    /// The address of the next instruction, relative to `l`; below `2^a`.
     pub p: u32,
-    /// The relocation: the cell of address 0.
+    /// The relocation: the cell of address 0; below `2^a`, and maybe past the storage.
     pub l: u32,
-    /// The bound: addresses from it on are not usable.
+    /// The bound, in cells: addresses from it on are not usable; below `2^a`, and maybe above the size of the storage.
     pub b: u32,
 }
 
@@ -83,7 +92,7 @@ pub fn window_len(psw: Psw, size: u32) -> u32
     psw.b.min(size.saturating_sub(psw.l))
 }
 
-// The mode as a bit.
+/// The mode as a bit.
 fn mode_bit(mode: Mode) -> u64
     ensures { result ≡ bit_of mode }
 {
@@ -93,7 +102,7 @@ fn mode_bit(mode: Mode) -> u64
     }
 }
 
-// The lowest `a` bits.
+/// The lowest `a` bits, at most 20.
 fn low_bits(word: u64, a: u32) -> u32
     requires { a ≤ 20 }
     ensures { result ≡ word % 2 ^ a }
