@@ -1,13 +1,18 @@
 //! The files that a shelf in memory keeps, with the steps that reads and saves are made of.
 //!
-//! Each file's storage has room for whatever may be saved to it, so that a save never allocates.
-ghost use Rattle.std.specs.Prelude.{◌≡◌, ◌↔◌, ◌≤◌, ◌<◌, ◌+◌, [], ◌∷◌, ◌++◌, length, take, drop, position, option_copied, slice_set, slice_get, string_bytes, vec_capacity, All, OnOk, IfOk, IfSome, OnErr, IfErr, IsOk, is_some, map, IsTrue, IsSome, IsSomeAnd, IsErrOf, Some, None};
+//! `MemShelf` counts the calls and says which are to fail; what is done to the files is done here, over
+//! slices. A file is found by its name, byte for byte, and where several have one name it is the first in
+//! each of these functions: a save is seen by the reads that follow it.
+//!
+//! Each file's storage has room for whatever may be saved to it (`HasRoom`), so that a save never allocates:
+//! it clears the content and fills it again, which leaves the room as it was. Reads take memory for what the
+//! caller's buffer is to hold, and for nothing else.
+ghost use Rattle.std.specs.Prelude.{◌≡◌, ◌↔◌, ◌≤◌, ◌<◌, [], length, take, drop, position, option_copied, slice_set, string_bytes, vec_capacity, All, OnOk, IfOk, OnErr, IfErr, is_some, map, IsTrue, IsSome, IsSomeAnd, IsErrOf, Some, None};
 ghost use Rattle.std.specs.Bool.{OnTrue, OnFalse};
 ghost use Rattle.std.specs.List.{HoldsAt};
 ghost use Rattle.std.specs.Str.{bytes_eq};
-ghost use Rattle.pg_edge.specs.MemFile.{shown, all_shown, HasRoom};
+ghost use Rattle.pg_edge.specs.MemFile.{all_shown, HasRoom};
 ghost use Rattle.pg_edge.specs.ShelfView.{content_of, with_content, files_left};
-ghost use Rattle.pg_edge.specs.Shelf.{IsPart};
 
 use crate::shelf::LoadFault;
 use std::alloc::{AllocError, Global};
@@ -15,7 +20,9 @@ use std::alloc::{AllocError, Global};
 /// A file's name and content.
 #[derive(Drop)]
 pub(crate) struct MemFile {
+    /// The name, which others may have too.
     pub(crate) name: String,
+    /// The content, in a storage that may be larger.
     pub(crate) bytes: Vec<u8>,
 }
 

@@ -3,6 +3,9 @@
 //! Its names are those that it was given at the start, and so is its room: a save never allocates and never
 //! makes a new file. A call fails exactly where it was listed to fail, and a save also where its bytes would
 //! pass the room or no file has the name. Only the memory for what a caller reads can be wanting besides.
+//!
+//! Contracts see it as a `ShelfView`, and each method says besides the clauses of the trait what view it
+//! leaves, so that a test knows every answer of a list of calls before it makes them.
 ghost use Rattle.std.specs.Prelude.{◌≡◌, ◌↔◌, ◌≤◌, ◌<◌, [], length, take, drop, map, option_copied, string_bytes, is_some, OnOk, OnErr, IfOk, IsOk, IsSome, IsSomeAnd, IsErrOf, None};
 ghost use Rattle.pg_edge.specs.Shelf.{Loads, Sizes, LoadsPart, CountsRead, CountsSave, Saves};
 ghost use Rattle.pg_edge.specs.ShelfView.{content_of, told, next_call, after_read, after_save, after_failed_save};

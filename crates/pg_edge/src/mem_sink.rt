@@ -1,7 +1,10 @@
 //! A sink in memory, for tests: it tells its bytes, and fails where it was asked to.
 //!
 //! All the room there will ever be is taken at the start, so a put never allocates. It fails exactly where
-//! it was listed to fail or where its piece would pass the room.
+//! it was listed to fail or where its piece would pass the room: the capacity of the vector, which its
+//! invariant keeps at the room or above, never decides.
+//!
+//! Contracts see it as a `SinkView`, and `put` says besides the clause of the trait what view it leaves.
 ghost use Rattle.std.specs.Prelude.{◌≡◌, ◌↔◌, ◌+◌, ◌≤◌, [], ◌++◌, length, vec_capacity, OnOk, OnErr, IfOk, IsOk, IsTrue, Some};
 ghost use Rattle.std.specs.Bool.{OnTrue, OnFalse};
 ghost use Rattle.pg_edge.specs.Sink.{Puts};

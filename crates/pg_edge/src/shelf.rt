@@ -4,19 +4,24 @@
 //! the caller cannot foresee, so each answer says what it proves of the files and each refusal what it
 //! leaves. Reads change no file. A save changes one name alone, and where it fails that name may be left
 //! with the first bytes of what was to be saved.
+//!
+//! `files` is none for a shelf that does not tell its files, as one over a real directory. Then the clauses
+//! still bound what comes in, and still say what is counted: a count never falls, and rises at each failure
+//! until it stands at `2^64 - 1`. So a count that is below that, and is what it was, says that none of the
+//! calls between failed. The top call is lent a shelf for the files that a command names.
 ghost use Rattle.std.specs.Prelude.{◌≡◌, ℕ, ◌≤◌, [], Option};
 ghost use Rattle.pg_edge.specs.Shelf.{Files, Loads, Sizes, LoadsPart, CountsRead, CountsSave, Saves};
 
 /// Why a shelf did not give what was asked for.
 #[derive(Debug, Clone, Copy, PartialEq, Eq)]
 pub enum LoadFault {
-    /// No file has the name.
+    /// No file has the name. It is not counted.
     Missing,
-    /// The file has more bytes than the caller wants.
+    /// The file has more bytes than the caller wants. It comes of `load` alone, and is not counted.
     Long,
     /// The read did not go through, and is counted.
     Failed,
-    /// There was no memory for the bytes.
+    /// There was no memory for the bytes. It is not counted.
     Memory,
 }
 

@@ -2,7 +2,11 @@
 //!
 //! A sink takes bytes in order and keeps their order. A piece goes in whole or is refused, and a refused
 //! piece may have gone in as far as some byte. A writer of many pieces has the same contract as one `put`
-//! of them all, by the laws on `Puts`.
+//! of them all, by the laws on `Puts`: it stops at the first piece that is refused, and what was written is
+//! then a front of the whole. So each text above is one `Puts`, however it is cut into pieces.
+//!
+//! `written` is none for a sink that does not tell its bytes, as standard output. The count of faults never
+//! falls, and rises at each put that fails until it stands at `2^64 - 1`.
 ghost use Rattle.std.specs.Prelude.{ℕ, List, Option};
 ghost use Rattle.pg_edge.specs.Sink.{Puts};
 

@@ -1,4 +1,12 @@
-//! The trait of hardware.
+//! The trait of hardware: what a machine that runs owes to those who run it.
+//!
+//! Its state is that of the 1974 paper (section 2), a storage and a program status word, and `step` is *Step*. Bare
+//! runs, the routines that emulate a guest, the monitor and the texts of states are written for any `Hardware`, and
+//! know no more of it than these clauses.
+//!
+//! Each call says of every ghost member what becomes of it, so that a fact on one of them lasts over all calls that do not
+//! name it. A count rises at the calls whose documentation says so, and at no other: what was done to a hardware can be read
+//! off it afterwards. A count stands still at `2^64 - 1`. Only `install` takes memory, so no other call can be refused.
 
 use super::counts::Counts;
 use pg_type::Machine;
@@ -8,9 +16,9 @@ use std::alloc::AllocError;
 /// A machine that runs: a storage of cells and a program status word that move by *Step*.
 ///
 /// A call leaves everything as it was but what it names: the state, the counts, the counts at the bottom, the room and
-/// the machines served.
+/// the machines served. What only looks raises no count.
 pub trait Hardware {
-    ghost use Rattle.std.specs.Prelude.{◌≡◌, ℕ, ◌+◌, ◌≤◌, ◌<◌, length, slice_get, slice_set, OnOk, OnErr};
+    ghost use Rattle.std.specs.Prelude.{◌≡◌, ℕ, ◌≤◌, ◌<◌, length, slice_get, slice_set, OnOk, OnErr};
     ghost use Rattle.pg_ast.specs.declared.tree.Desc.{Desc};
     ghost use Rattle.pg_type.specs.States.{State, IsState};
     ghost use Rattle.pg_type.specs.Steps.{step as stepped, steps as stepped_often};
@@ -34,8 +42,11 @@ pub trait Hardware {
     /// The machines that it may run.
     ghost serves: { Self → Desc → Type 0 };
 
-    /// Gives it `size` cells of zero and the program status word (s, 2, (0, size)); refused only for want of memory, and
-    /// then all is as before.
+    /// Gives it `size` cells of zero and the program status word (s, 2, (0, size)); `size` is from 2 to its room. No count
+    /// rises.
+    ///
+    /// # Errors
+    /// Only for want of memory, and then all is as before.
     fn install(&mut self, size: u32) -> Result<(), AllocError>
         requires least { 2 ≤ size }
         requires most { size ≤ most_cells self.old }
@@ -50,11 +61,13 @@ pub trait Hardware {
     fn size(&self) -> u32
         ensures { result ≡ length (state self.now).cells };
 
-    /// The greatest size that it can be given.
+    /// The greatest size that it can be given, in cells.
     fn room(&self) -> u32
         ensures { result ≡ most_cells self.now };
 
-    /// One step of the machine.
+    /// One step of a machine that it serves, of which its state must be one. The count of steps rises by one, and that
+    /// of untrapped ones where the step began in user mode and did not trap. At the bottom a step that began in user
+    /// mode counts in the same way; one that began in supervisor mode counts as a step, and maybe as an untrapped one.
     fn step(&mut self, m: &Machine)
         requires served { serves self.old m.now.desc }
         requires state { IsState m.now.desc (state self.old) }
@@ -64,7 +77,8 @@ pub trait Hardware {
         ensures room { most_cells self.new ≡ most_cells self.old }
         ensures served { SameServed (serves self.old) (serves self.new) };
 
-    /// Steps until `k` were done or one trapped; how many were done.
+    /// Steps until `k` were done or one trapped, which is then the last; how many were done, from 1 to `k`, or 0 where
+    /// `k` is 0. The counts rise as by so many calls of `step`, here and at the bottom.
     fn burst(&mut self, m: &Machine, k: u64) -> u64
         requires served { serves self.old m.now.desc }
         requires state { IsState m.now.desc (state self.old) }
@@ -75,12 +89,13 @@ pub trait Hardware {
         ensures room { most_cells self.new ≡ most_cells self.old }
         ensures served { SameServed (serves self.old) (serves self.new) };
 
-    /// The cell at an address of the storage.
+    /// The word of a cell, by its address in the storage, which is below the size: R plays no part.
     fn peek(&self, at: u32) -> u64
         requires { at < length (state self.now).cells }
         ensures { slice_get (state self.now).cells at ≡ Some result };
 
-    /// Sets a cell.
+    /// Sets a cell, by its address in the storage, which is below the size, to a word that has no more bits than the
+    /// words of some machine that it serves. The count of pokes rises by one.
     fn poke(&mut self, at: u32, word: u64)
         requires within { at < length (state self.old).cells }
         requires word { IsServedWord (serves self.old) word }
@@ -94,7 +109,8 @@ pub trait Hardware {
     fn psw(&self) -> Psw
         ensures { result ≡ (state self.now).psw };
 
-    /// Loads a program status word.
+    /// Loads a program status word, whose P, l and b have no more bits than the addresses of some machine that it
+    /// serves. They may lie past the storage. The count of loads rises by one.
     fn set_psw(&mut self, psw: Psw)
         requires { IsServedPsw (serves self.old) psw }
         ensures state { state self.new ≡ record (state self.old) { psw = psw } }
@@ -103,7 +119,7 @@ pub trait Hardware {
         ensures room { most_cells self.new ≡ most_cells self.old }
         ensures served { SameServed (serves self.old) (serves self.new) };
 
-    /// The four counts.
+    /// The four counts, each from 0 to `2^64 - 1`.
     fn counts(&self) -> Counts
         ensures { result ≡ tally self.now };
 }

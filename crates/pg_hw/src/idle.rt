@@ -1,9 +1,10 @@
 //! The smallest hardware: it runs the machines that have no instruction, so that every step traps.
 //!
 //! It is no hardware to run guests on. It shows that the clauses of the trait can be met, and how: a storage that is a
-//! vector, a program status word, and counts that are raised in one place.
+//! vector, a program status word, and counts that are raised in one place. The tests of the crates above use it where a
+//! hardware is only poked, peeked at, or made to trap.
 
-ghost use Rattle.std.specs.Prelude.{◌≡◌, ℕ, ◌-◌, ◌^◌, ◌<◌, ◌≤◌, [], vec_len, slice_set, slice_index, length};
+ghost use Rattle.std.specs.Prelude.{◌≡◌, ◌^◌, ◌<◌, ◌≤◌, [], vec_len, slice_set, slice_index};
 ghost use Rattle.pg_word.specs.Shape.{IsShape};
 ghost use Rattle.pg_word.specs.Psw.{IsPsw, packed_trap, unpacked};
 ghost use Rattle.pg_hw.specs.Tallies.{raised_by};
@@ -53,7 +54,6 @@ impl Idle {
 
 impl Hardware for Idle {
     ghost use Rattle.std.specs.Prelude.{◌≡◌, ℕ, []};
-    ghost use Rattle.pg_hw.specs.declared.idle.Idle.{Idle};
 
     ghost state = { λ h. record { cells = h.cells.items; psw = h.psw } };
 
@@ -123,14 +123,14 @@ impl Hardware for Idle {
     }
 }
 
-// Why the step of a machine without instructions traps: no word at P, or no pattern for it.
+/// Why the step of a machine without instructions traps: no word at P, or no pattern for it.
 fn cause_of(p: u32, usable: u32) -> u8
     ensures { result ≡ cause_where p usable }
 {
     if p < usable { 3 } else { 1 }
 }
 
-// Stores the word of a trap in cell 0, and gives the program status word that cell 1 held.
+/// Stores the word of a trap in cell 0, and gives the program status word that cell 1 held.
 fn trap(cells: &mut Vec<u64>, shape: &Shape, psw: Psw, cause: u8) -> Psw
     requires shape { IsShape shape.now }
     requires fields { IsPsw shape.now.a psw }
@@ -146,7 +146,7 @@ fn trap(cells: &mut Vec<u64>, shape: &Shape, psw: Psw, cause: u8) -> Psw
     loaded
 }
 
-// A count that rises by one, and stands still at its last value.
+/// A count that rises by one, and stands still at its last value.
 fn raised(count: u64) -> u64
     ensures { result ≡ raised_by 1 count }
 {

@@ -1,4 +1,4 @@
-//! Laws of counts and bursts.
+//! Laws of counts and bursts, for those who read the definitions or cite them: none of it does anything when it runs.
 
 ghost use Rattle.std.specs.Prelude.{◌≡◌, ℕ, suc, ◌+◌, ◌-◌, ◌^◌, ◌<◌, ◌≤◌, true, false};
 ghost use Rattle.pg_ast.specs.declared.tree.Desc.{Desc};
