@@ -1,5 +1,6 @@
 -- An instruction that is not sensitive is done alike at all states that have the same window and the same P:
--- from one state to another lead pairs that differ in the bound alone, in the place alone, in the bound again, and in the mode.
+-- from one state to another lead pairs that differ in the bound alone, in the place alone, in the bound again, and in the
+-- mode.
 use Rattle.std.proofs.Common.{◌≡◌, ◌≢◌, ◌⊎◌, ℕ, ◌+◌, ◌-◌, ◌^◌, ◌<◌, ◌≤◌, Bool, true, false, ◌==◌, List, ◌++◌, length, take, replicate, slice_get, Option, None, Some, refl, sym, ◌∙◌, ap, subst, arith, inl, inr, length-append}
 use Rattle.std.specs.Prelude.{IsSomeAnd, IsTrue, bytes_eq}
 use Rattle.std.proofs.lemmas.Bool.Decides.{eqb_tells, not_from_Decides}

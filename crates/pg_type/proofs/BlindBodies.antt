@@ -12,7 +12,8 @@ use Rattle.pg_type.specs.Plain.{Controls, no_control, only_mode, only_rel, only_
 use Rattle.pg_type.specs.Blind.{AreAlikeBut, IsLeftAlike, AreRunsAlike, AreEndsAlike, IsSameCourse, AreKept, IsTrapless}
 use Rattle.pg_type.proofs.BlindDeeds.{then_same, in_order-blind}
 
--- one body, from two PSWs that differ at most in what it does not read: the same becomes of it, up to the registers as they were
+-- one body, from two PSWs that differ at most in what it does not read: the same becomes of it, up to the registers as
+-- they were
 pub body-blind : (what : Sought) (d : Desc) (i : Instr) (window : List ℕ) (x y : Psw) (word : ℕ) → any_has what i.body ≡ false → AreAlikeBut what.read x y →
     IsSameCourse what.trap (AreEndsAlike what.assigned x y) (body d i window x word) (body d i window y word)
 unfolding body

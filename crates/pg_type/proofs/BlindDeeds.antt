@@ -1,5 +1,5 @@
--- Statements do not tell apart two PSWs that differ in what they do not read: two runs of them end alike, keep each register that they do
--- not assign, and do not trap where there is no trap in them.
+-- Statements do not tell apart two PSWs that differ in what they do not read: two runs of them end alike, keep each
+-- register that they do not assign, and do not trap where there is no trap in them.
 use Rattle.std.proofs.Common.{◌≡◌, ℕ, Bool, true, false, ◌||◌, ◌==◌, nat_lt, if◌then◌else◌, List, [], ◌∷◌, map, length, slice_set, Option, None, Some, refl, sym, ◌∙◌, ap, subst, inr}
 use Rattle.std.specs.Option.{option_map}
 use Rattle.pg_word.specs.declared.psw.Psw.{Psw}

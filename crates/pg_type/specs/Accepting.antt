@@ -6,8 +6,8 @@ use Rattle.pg_ast.specs.declared.tree.Desc.{Desc}
 use Rattle.pg_type.specs.States.{State, IsState, in_user}
 use Rattle.pg_type.specs.Kinds.{IsAt, course_at, IsDone, IsNoMemTrap, ShowsControl, ShowsMode, ShowsLocation, ShowsBound}
 
--- *Privileged* (section 3 of the paper): in user mode the instruction traps, in some way, at every state; and where neither it nor the
--- same state in supervisor mode memory traps, the supervisor one does not trap
+-- *Privileged* (section 3 of the paper): in user mode the instruction traps, in some way, at every state; and where neither
+-- it nor the same state in supervisor mode memory traps, the supervisor one does not trap
 pub record IsPrivileged (d : Desc) (i : Instr) : Type 0 where
   pub user_traps : (s : State) → IsState d s → s.psw.mode ≡ S → IsAt i s → ¬ IsDone (course_at d i (in_user s))
   pub supervisor_done : (s : State) → IsState d s → s.psw.mode ≡ S → IsAt i s →
@@ -17,7 +17,8 @@ pub record IsPrivileged (d : Desc) (i : Instr) : Type 0 where
 abbrev pub ControlSensitive : Desc → Instr → Type 0
 ControlSensitive d i = (s : State) × (t : State) × ShowsControl d i s t
 
--- *ModeAndLocationSensitive* (section 3 of the paper, behavior sensitive): what it does depends on the mode, or on where the window lies
+-- *ModeAndLocationSensitive* (section 3 of the paper, behavior sensitive): what it does depends on the mode, or on where
+-- the window lies
 abbrev pub ModeSensitive : Desc → Instr → Type 0
 ModeSensitive d i = (s : State) × (t : State) × ShowsMode d i s t
 

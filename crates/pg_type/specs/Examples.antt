@@ -6,7 +6,7 @@ use Rattle.pg_token.specs.Words.{is_name, is_pattern_byte}
 use Rattle.pg_ast.specs.declared.name.Name.{Name as Names}
 use Rattle.pg_ast.specs.declared.tree.Expr.{Expr}
 use Rattle.pg_ast.specs.declared.tree.Expr.TheVariants.{Lit, Name, Mode as TheMode, Rel as TheRel, Bound as TheBound, Load, Not, Bin, Cut, Ext, Sext}
-use Rattle.pg_ast.specs.declared.tree.Op.TheVariants.{Add, And, Lt, Shl}
+use Rattle.pg_ast.specs.declared.tree.Op.TheVariants.{Add, Lt, Shl}
 use Rattle.pg_ast.specs.declared.tree.Stmt.{Stmt}
 use Rattle.pg_ast.specs.declared.tree.Stmt.TheVariants.{Let, Store, Pc, Mode, Rel, Bound, Trap, If}
 use Rattle.pg_ast.specs.declared.tree.Instr.{Instr}
@@ -39,9 +39,6 @@ field_a = named (codes "a") refl
 
 abbrev pub field_b : Expr
 field_b = named (codes "b") refl
-
-abbrev pub field_k : Expr
-field_k = named (codes "k") refl
 
 abbrev pub field_l : Expr
 field_l = named (codes "l") refl
@@ -109,17 +106,6 @@ rtu_body-shallow = record { blocks = simp block_levels_rules (lit≤ tt); exprs 
 -- rtu "00000101................aaaaaaaa"
 abbrev pub rtu : Instr
 rtu = instr (codes "rtu") (codes "00000101................aaaaaaaa") rtu_body refl refl rtu_body-shallow
-
--- { if (mode & k) { trap; } mem[x] = mem[y]; }
-abbrev pub half_body : List Stmt
-half_body = If (Bin And TheMode field_k) (Trap ∷ []) None ∷ Store field_x (Load field_y) ∷ []
-
-pub half_body-shallow : IsShallow half_body
-half_body-shallow = record { blocks = simp block_levels_rules (lit≤ tt); exprs = simp (expr_levels_rules, depth_of_rules) (lit≤ tt) }
-
--- half "00000111.......kxxxxxxxxyyyyyyyy"
-abbrev pub half : Instr
-half = instr (codes "half") (codes "00000111.......kxxxxxxxxyyyyyyyy") half_body refl refl half_body-shallow
 
 -- { mem[a] = ext(mode, 32); }
 abbrev pub store_mode_body : List Stmt
@@ -218,14 +204,6 @@ m0 = machine (add ∷ jmp ∷ svc ∷ lr ∷ [])
 abbrev pub m0_causes : Desc
 m0_causes = record m0 { causes = true }
 
--- rtu alone, which changes the mode and is not privileged
-abbrev pub m1 : Desc
-m1 = machine (rtu ∷ [])
-
--- m0 and half
-abbrev pub m2 : Desc
-m2 = machine (add ∷ jmp ∷ svc ∷ lr ∷ half ∷ [])
-
 -- the machine of one instruction
 abbrev pub alone : Instr → Desc
 alone i = machine (i ∷ [])
@@ -233,7 +211,3 @@ alone i = machine (i ∷ [])
 -- a state, by its cells and its PSW
 abbrev pub state : List ℕ → Modes → ℕ → ℕ → ℕ → State
 state cells mode p l b = record { cells = cells; psw = record { mode = mode; p = p; l = l; b = b } }
-
--- a storage of four cells whose cell 2 is a word
-abbrev pub at_two : ℕ → List ℕ
-at_two word = 0 ∷ 0 ∷ word ∷ 0 ∷ []

@@ -1,5 +1,5 @@
--- The paper's own words (section 3 of the paper), without this project's readings but that sizes range from 2 to q: privileged
--- over pairs of states in which neither memory traps, sensitive over states that do not trap.
+-- The paper's own words (section 3 of the paper), without this project's readings but that sizes range from 2 to q:
+-- privileged over pairs of states in which neither memory traps, sensitive over states that do not trap.
 use Rattle.std.specs.Prelude.{◌≡◌, ◌≢◌, ◌⊎◌, length, All}
 use Rattle.pg_word.specs.declared.psw.Mode.TheVariants.{S}
 use Rattle.pg_ast.specs.declared.tree.Instr.{Instr}

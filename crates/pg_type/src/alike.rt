@@ -6,7 +6,7 @@
 //! user mode at one is done alike at the other: the same window and the same P after it, and mode and R as they were. What
 //! leads from one state to the other are four pairs, of which each differs in one thing alone: the bound down to the length
 //! of the window, the place, the bound up again, and the mode. Of a trap the laws say whether it comes, and not which it is:
-//! no sensitive kind is shown by two states that both trap.
+//! no sensitive kind is shown by two states that both trap. This is the heart of Theorem 1 of the 1974 paper (section 5).
 
 ghost use Rattle.std.specs.Prelude.{◌≡◌, ◌⊎◌, ℕ, ◌<◌, ◌≤◌, ◌^◌, false, List, All, Contains};
 ghost use Rattle.pg_word.specs.declared.psw.Psw.{Psw};

@@ -1,4 +1,10 @@
 //! The test of a description for validity.
+//!
+//! `check` is the one way from a description to a `Machine`. It tests the seven classes of `Valid` in their order, each over
+//! the whole description before the next: the fault that comes is that of the first class that has one, as the definition of
+//! that class names it. A class may rest on those before it, as the widths on names that mean something. A description is
+//! taken by value and comes back with its fault, so that it is never copied. What a machine keeps besides is made here: the
+//! table of names by the test that each is given once, and the decoders at the end, when no pattern is longer than a word.
 
 ghost use Rattle.std.specs.Prelude.{◌≡◌, IfOk, IfErr, OnOk};
 ghost use Rattle.pg_type.specs.Twice.{instr_names};

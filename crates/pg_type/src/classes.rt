@@ -1,6 +1,12 @@
 //! The tests of the seven classes of validity.
+//!
+//! One public function a class, in their order, which `check_desc` calls. Each asks the module of its class for the
+//! first break and makes a `TypeFault` of it: an `Ok` says that the class has no fault, and an error is the fault that
+//! `Valid` names, or `Memory`, which says nothing of the description. The classes of the head, of limits, of patterns
+//! and of overlaps take no memory. A name goes into a fault as a copy, since the fault outlives the loan of the
+//! description.
 
-ghost use Rattle.std.specs.Prelude.{◌≡◌, ℕ, ◌+◌, ◌*◌, nat_le, None, [], IfOk, OnOk, IfErr};
+ghost use Rattle.std.specs.Prelude.{◌≡◌, ◌+◌, ◌*◌, nat_le, None, [], IfOk, OnOk, IfErr};
 ghost use Rattle.pg_word.specs.Shape.{bits_above};
 ghost use Rattle.pg_type.specs.Twice.{first_twice, instr_names, let_twice_among};
 ghost use Rattle.pg_type.specs.Valid.{has_shape, shape_fault, limit_fault, as_twice, twice_fault, pattern_fault, overlap_fault, name_fault, width_fault};

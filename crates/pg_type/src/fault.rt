@@ -1,4 +1,7 @@
 //! Why a description is not valid.
+//!
+//! The variants are in the order of the classes of validity, and what they carry says where the first break of the class is.
+//! A fault owns what it carries: it is told after the description is gone.
 
 use sqlite_items::Items;
 use thiserror::Error;
@@ -45,7 +48,7 @@ pub enum TypeFault {
     /// first such statement, counted from 0 in the order of the text.
     #[error("statement {1} of instruction {0} breaks the table of widths")]
     Width(usize, usize),
-    /// Memory was refused.
+    /// Memory was refused while the description was tested or its machine made. It says nothing of the description.
     #[error("memory was refused")]
     Memory,
 }

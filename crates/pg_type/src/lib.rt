@@ -7,12 +7,11 @@
 //!
 //! `check` tests a description and makes a `Machine` of it, which is valid by its type. The seven classes are tested in
 //! `classes`, over `limits`, `twice`, `patterns`, `overlaps`, `scopes` and `widths`, whose functions are the definitions one
-//! for one. `states` says that a valid description's machine never
-//! leaves its states, and `laws` what else follows from the definitions alone. An `Accepted` is a machine whose
-//! instructions are as the monitor of Theorem 1 needs them, and `alike` says what a monitor gains by it: what is done in user
-//! mode is done alike wherever the window and P are the same. `plain` tests a rule on the text of bodies, in `Plain`, under
-//! which a machine is accepted; `Blind` says what two runs of one body have in common where it does not read in what they
-//! differ.
+//! for one. `states` says that a valid description's machine never leaves its states, and `laws` what else follows from the
+//! definitions alone. An `Accepted` is a machine whose instructions are as the monitor of Theorem 1 needs them, and `alike`
+//! says what a monitor gains by it: what is done in user mode is done alike wherever the window and P are the same. `plain`
+//! tests a rule on the text of bodies, in `Plain`, under which a machine is accepted; `Blind` says what two runs of one body
+//! have in common where it does not read in what they differ.
 #![tactic(auto)]
 
 mod accepted;

@@ -1,7 +1,13 @@
 //! How much a description holds, against its limits.
+//!
+//! The second class of validity, before every other that goes over the bodies: the limits bound the work of those, and
+//! the interpreter has room for 8 stores and 32 lets and no more. An instruction is counted whole, in one walk over its
+//! body, and the counts are compared at its end; the one with the number 256 is one too many, whatever its body. A
+//! count stops at the greatest number of 64 bits in place of wrapping, so it is past its limit where the number that it
+//! stands for is (`Counted`). Nothing here takes memory.
 
-ghost use Rattle.std.specs.Prelude.{◌≡◌, ℕ, ◌-◌, ◌^◌, ◌+◌, min, map, List};
-ghost use Rattle.pg_type.specs.Limits.{Tally, tally, both, all_of, expr_tally, stmt_tally, instr_tally, tally_limit, limit_at, limit_broken};
+ghost use Rattle.std.specs.Prelude.{◌≡◌, map};
+ghost use Rattle.pg_type.specs.Limits.{Tally, tally, both, all_of, expr_tally, stmt_tally, tally_limit, limit_at, limit_broken};
 
 use crate::fault::Limit;
 use pg_ast::{Expr, Instr, Stmt};
@@ -9,9 +15,13 @@ use pg_ast::{Expr, Instr, Stmt};
 /// What the limits of an instruction count, each count stopping at the greatest number of 64 bits.
 #[derive(Clone, Copy, Debug)]
 struct Counts {
+    /// Reads and writes of cells, each a `mem [`.
     accesses: u64,
+    /// Lets.
     lets: u64,
+    /// Statements, those inside ifs too.
     statements: u64,
+    /// Expressions, their parts too.
     expressions: u64,
 }
 
@@ -31,6 +41,7 @@ impl Counts {
         }
     }
 
+    /// What an expression counts beside its parts.
     #[tactic(auto, unfolding(crate::specs::Counted::capped))]
     fn one_expression() -> Counts
         ensures { result ≡ capped (tally 0 0 0 1) }
@@ -43,6 +54,7 @@ impl Counts {
         }
     }
 
+    /// What a `mem [` counts, beside the expression or the statement that it stands in.
     #[tactic(auto, unfolding(crate::specs::Counted::capped))]
     fn one_access() -> Counts
         ensures { result ≡ capped (tally 1 0 0 0) }
@@ -55,6 +67,7 @@ impl Counts {
         }
     }
 
+    /// What a statement counts beside what it holds.
     #[tactic(auto, unfolding(crate::specs::Counted::capped))]
     fn one_statement() -> Counts
         ensures { result ≡ capped (tally 0 0 1 0) }
@@ -67,6 +80,7 @@ impl Counts {
         }
     }
 
+    /// What a let counts beside its statement.
     #[tactic(auto, unfolding(crate::specs::Counted::capped))]
     fn one_let() -> Counts
         ensures { result ≡ capped (tally 0 1 0 0) }
@@ -79,6 +93,7 @@ impl Counts {
         }
     }
 
+    /// What nothing counts, as an else that is absent.
     #[tactic(auto, unfolding(crate::specs::Counted::capped))]
     fn none() -> Counts
         ensures { result ≡ capped (tally 0 0 0 0) }

@@ -1,6 +1,11 @@
 //! Patterns that match one word both.
+//!
+//! The fifth class of validity, after which at most one instruction is meant by a word. Two patterns of one length
+//! match no word both exactly where they clash: where some place has 0 in one and 1 in the other; the class before has
+//! seen that all patterns are as long as a word. Each pair is looked at once, of which there are at most 32,640.
+//! Nothing here takes memory.
 
-ghost use Rattle.std.specs.Prelude.{◌≡◌, ℕ, ◌+◌, ◌≤◌, length, drop};
+ghost use Rattle.std.specs.Prelude.{◌≡◌, ◌≤◌, length, drop};
 ghost use Rattle.pg_type.specs.Overlaps.{bytes_clash, clash, overlap_with, overlap};
 
 use pg_ast::Instr;

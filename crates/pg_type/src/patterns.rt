@@ -1,17 +1,24 @@
 //! Which words a pattern matches, the fields that it has, and which patterns are well formed.
+//!
+//! A pattern lists the bits of a word from the highest one on: 0 and 1 want that bit, a dot takes either, and so does a
+//! letter, whose run is a field. The functions are the definitions one for one, and go over the pattern; a machine that
+//! runs asks a decoder in their place. The fourth class of validity is here: as many places as a word has bits, and
+//! each letter in one run, so that a field is all of its letter. Nothing here takes memory.
 
-ghost use Rattle.std.specs.Prelude.{◌≡◌, ℕ, ◌^◌, ◌/◌, ◌%◌, ◌≤◌, ◌==◌, length, IsSome, ◌↔◌};
+ghost use Rattle.std.specs.Prelude.{◌≡◌, ◌≤◌, ◌==◌, length};
 ghost use Rattle.pg_type.specs.Patterns.{bit_of_word, takes_bit, matches, run_length, field_of_letter, field_of};
 ghost use Rattle.std.specs.List.{list_any};
 ghost use Rattle.pg_type.specs.Fields.{fields_as};
-ghost use Rattle.pg_type.specs.Overlaps.{is_field_letter, has_split_letter, is_well_formed, pattern_broken};
+ghost use Rattle.pg_type.specs.Overlaps.{has_split_letter, is_well_formed, pattern_broken};
 
 use pg_ast::Instr;
 
 /// A field of a pattern: how many bits it has, and how many bits of the word stand below it.
 #[derive(Clone, Copy, Debug, PartialEq, Eq)]
 pub struct Field {
+    /// Its bits, at least 1.
     pub width: u64,
+    /// The bits below it; `low + width` is at most the length of the pattern.
     pub low: u64,
 }
 

@@ -5,7 +5,7 @@
 //! two machines apart that differ in these alone. One that begins with `if mode { trap; }`, and has no other trap, is
 //! privileged, whatever else it does.
 
-ghost use Rattle.std.specs.Prelude.{◌≡◌, map, not, IfNone};
+ghost use Rattle.std.specs.Prelude.{◌≡◌, IfNone};
 ghost use Rattle.pg_ast.specs.declared.tree.Expr.TheViews.{out-Expr};
 ghost use Rattle.pg_ast.specs.declared.tree.Stmt.TheViews.{out-Stmt};
 ghost use Rattle.pg_type.specs.Accepting.{IsAccepted};

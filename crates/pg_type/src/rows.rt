@@ -1,4 +1,8 @@
 //! Worked runs and worked kinds, as laws: the definitions of this crate, computed on machines of a few instructions.
+//!
+//! A definition can be wrong and every proof on it right. So here are runs and pairs whose outcome was worked out by
+//! hand: `specs/WorkedRuns.antt` and `specs/WorkedKinds.antt` state them, over the machines of `specs/Examples.antt`,
+//! and the proof computes them. Neither function does anything when it runs.
 
 ghost use Rattle.pg_type.specs.WorkedRuns.{NoPattern, NoWindow, PastStorage, LastUsable, FirstPastBound, FirstPastSize, RunsPastWindow, DoublesInALoop, WindowOfOneCell, NoPatternCause, MemoryTrapCause, TrapCause, TrapsForEver, WidensAndShifts};
 ghost use Rattle.pg_type.specs.WorkedKinds.{RtuShowsControl, RtuInUserModeDoesNot, RtuBreaksPrivilege, LrBreaksNoPrivilege, StoreModeShowsMode, StoreModeOutsideDoesNot, SupervisorLoadShowsMode, UserJumpShowsMode, UserJumpBreaksPrivilege, StoreRelShowsLocation, StoreRelUserShowsLocation, StoreRelOutsideDoesNot, StoreBoundShowsBound, StoreBoundUserShowsBound, StoreBoundOutsideDoesNot, OpenLrShowsControl, OpenLrOfTheSameDoesNot, StoreRelIsNoUserPair, StoreBoundIsNoUserPair};

@@ -1,6 +1,12 @@
 //! Names that mean nothing where they stand.
+//!
+//! The sixth class of validity. A name in an expression means a field of the pattern, or a let that is visible: from
+//! the statement behind the let to the end of its block. The statements are gone over in the order of the text with a
+//! list of the visible lets; a let is put at its end, and the end of a block cuts it back, which gives the list as it
+//! was since lets are only ever put behind it (`kept`). That no two lets of a body, and no let and field, have one name
+//! was seen before, so a name that is known means one thing. The list alone takes memory.
 
-ghost use Rattle.std.specs.Prelude.{◌≡◌, ℕ, ◌||◌, if◌then◌else◌, List, [], length, take, map, None, Some, IfOk, OnOk};
+ghost use Rattle.std.specs.Prelude.{◌≡◌, ◌||◌, if◌then◌else◌, length, take, map, None, Some, IfOk, OnOk};
 ghost use Rattle.std.specs.Option.{option_map, option_copied};
 ghost use Rattle.pg_type.specs.Twice.{is_among, is_field, first_of_two};
 ghost use Rattle.pg_type.specs.Scopes.{unknown_name, sight_of, seen_in_order, unknown_in, name_unknown};

@@ -1,4 +1,6 @@
 //! Laws of states: the machine of a valid description never leaves them.
+//!
+//! Whatever runs a machine needs them: a step asks that the state is one, and leaves one for the next.
 
 ghost use Rattle.std.specs.Prelude.{ℕ, ◌<◌, ◌≤◌, ◌^◌, List, length, All};
 ghost use Rattle.pg_ast.specs.declared.tree.Desc.{Desc};

@@ -1,6 +1,11 @@
 //! The names of instructions, found by look-up.
+//!
+//! The test that each name is given once fills the table, and the machine keeps it, so that an instruction is found by
+//! its name without a walk over the description. Contracts see the names in the order in which they came, which for a
+//! machine is the order of the instructions: a place in it is an instruction's number. The table owns copies of the
+//! names. Only `insert` takes memory.
 
-ghost use Rattle.std.specs.Prelude.{◌≡◌, ℕ, ◌<◌, not, if◌then◌else◌, List, [], ◌∷◌, ◌++◌, length, position, bytes_eq, slice_get, Some, IfOk, OnErr};
+ghost use Rattle.std.specs.Prelude.{◌≡◌, ℕ, ◌<◌, not, if◌then◌else◌, List, [], ◌∷◌, ◌++◌, length, position, bytes_eq, slice_get, Some, IfOk};
 ghost use Rattle.pg_type.specs.Twice.{is_among};
 
 use indexmap::IndexSet;
@@ -53,7 +58,8 @@ impl NameTable {
         self.names.get_index_of(name)
     }
 
-    /// Adds a name at the end, if it is not there, and says whether it was not. The error is want of memory, and the names stay.
+    /// Adds a name at the end, if it is not there, and says whether it was not. The error is want of memory, and the names
+    /// stay.
     pub fn insert(&mut self, alloc: Global, name: &[u8]) -> Result<bool, AllocError>
         ensures added { IfOk result (λ added. added ≡ not (is_among self.old name.now)) }
         ensures names { IfOk result (λ added. self.new ≡ (if added then self.old ++ name.now ∷ [] else self.old)) }

@@ -1,7 +1,12 @@
 //! Lets that have a name twice.
+//!
+//! The second half of the third class of validity; the first, on the names of instructions, is in `classes`. A let may
+//! not have the name of a field of its instruction, nor that of an earlier let, also where the earlier one is no more
+//! visible: so a name means one thing in a whole body. The names of lets are gathered first, in the order of the text,
+//! and then gone over. The lists of names take memory, and nothing else does.
 
-ghost use Rattle.std.specs.Prelude.{◌≡◌, ℕ, List, [], ◌++◌, map, is_some, IfOk, OnOk};
-ghost use Rattle.std.specs.Option.{option_map, option_copied};
+ghost use Rattle.std.specs.Prelude.{◌≡◌, [], ◌++◌, map, IfOk, OnOk};
+ghost use Rattle.std.specs.Option.{option_copied};
 ghost use Rattle.pg_type.specs.Twice.{all_names, let_names, is_field, let_twice, let_twice_in, let_twice_among};
 
 use crate::names::NameList;

@@ -1,7 +1,13 @@
 //! Widths of expressions.
+//!
+//! The seventh class of validity. In the definitions of what a body does each value carries its width; a body without a
+//! fault of this class never meets a width that does not fit, which is what the interpreter rests on. The small
+//! functions are the rows of the table of widths, `None` where an expression or a part of it breaks it. Statements are
+//! gone over in the order of the text with the visible lets and their widths, and the lets of a block end with it; they
+//! are counted in that order from 0, an if before those inside it, and a fault has the place of the first whose own
+//! expressions break the table. The names are known already, by the class before. The list of lets alone takes memory.
 
-ghost use Rattle.std.specs.Prelude.{◌≡◌, ℕ, ◌+◌, ◌^◌, ◌==◌, ◌-◌, ◌≤◌, Bool, nat_le, nat_lt, List, map, IfOk, OnOk, length, drop};
-ghost use Rattle.std.specs.Option.{option_map};
+ghost use Rattle.std.specs.Prelude.{◌≡◌, ◌+◌, ◌^◌, ◌==◌, nat_le, nat_lt, map, IfOk, OnOk};
 ghost use Rattle.pg_type.specs.Patterns.{field_of};
 ghost use Rattle.pg_type.specs.Fares.{fare_as, Grows};
 ghost use Rattle.pg_type.specs.Widths.{LetWidths as Visible, setting_of, field_or_let_width, where_holds, with_width, literal_width, op_width, cut_width, widened_width, choice_width, width_of, wants, binds, then_fares, after_block, fares_in_order, fare_of, width_broken_in, width_broken};
@@ -148,7 +154,8 @@ fn choice_width(test: Option<u64>, left: Option<u64>, right: Option<u64>) -> Opt
     }
 }
 
-/// The width of an expression of an instruction, where lets are visible; `None` where it, or a part, breaks the table of widths.
+/// The width of an expression of an instruction, where lets are visible; `None` where it, or a part, breaks the table of
+/// widths.
 #[tactic(auto, using(crate::proofs::CheckExprEquations::width_of_rules))]
 fn width_of(desc: &Desc, instr: &Instr, expr: &Expr, lets: &LetWidths<'_>) -> Option<u64>
     ensures { result ≡ width_of (setting_of desc.now instr.now) expr.now lets.now }
@@ -185,7 +192,9 @@ fn width_of(desc: &Desc, instr: &Instr, expr: &Expr, lets: &LetWidths<'_>) -> Op
 /// How statements fare: the place of the first that breaks the table of widths, or the place after them.
 #[derive(Clone, Copy, Debug)]
 enum Fare {
+    /// The place of the first that breaks it.
     Breaks(usize),
+    /// The place after them, where all keep it.
     Keeps(usize),
 }
 

@@ -102,15 +102,47 @@ fn is_twice(fault: &Option<TypeFault>, name: &[u8]) -> bool {
     }
 }
 
+/// This many `trap;`.
+fn traps(alloc: Global, count: u32) -> Result<StmtList, AllocError> {
+    let mut body = Items::new(alloc);
+    for _ in 0..count {
+        body.push(Stmt::Trap)?;
+    }
+    Ok(body)
+}
+
+/// This many `mem[pc] = 0:16;`.
+fn stores(alloc: Global, count: u32) -> Result<StmtList, AllocError> {
+    let mut body = Items::new(alloc);
+    for _ in 0..count {
+        body.push(Stmt::Store(Expr::Pc, Expr::Lit(0, 16)))?;
+    }
+    Ok(body)
+}
+
+/// This many `let x = 1:5;`.
+fn lets(alloc: Global, count: u32) -> Result<StmtList, Fail> {
+    let mut body = Items::new(alloc);
+    for _ in 0..count {
+        body.push(let_x(alloc)?)?;
+    }
+    Ok(body)
+}
+
+/// This many jumps to `pc` under 31 `~`, of 32 expressions each.
+fn jumps(alloc: Global, count: u32) -> Result<StmtList, AllocError> {
+    let mut body = Items::new(alloc);
+    for _ in 0..count {
+        body.push(Stmt::Pc(negated(alloc, 31)?))?;
+    }
+    Ok(body)
+}
+
 #[test]
 fn a_body_has_200_statements(rt: HostRuntime) -> Result<(), Fail> {
     let alloc = rt.alloc();
     for (count, broken) in [(200, false), (201, true)] {
-        let mut body = Items::new(alloc);
-        for _ in 0..count {
-            body.push(Stmt::Trap)?;
-        }
-        let fault = fault_of(alloc, body)?;
+        let fault = fault_of(alloc, traps(alloc, count)?)?;
         assert_eq!(rt; is_limit(&fault, Limit::Statements), broken);
         assert_eq!(rt; fault.is_none(), !broken);
     }
@@ -121,11 +153,7 @@ fn a_body_has_200_statements(rt: HostRuntime) -> Result<(), Fail> {
 fn a_body_has_8_accesses(rt: HostRuntime) -> Result<(), Fail> {
     let alloc = rt.alloc();
     for (count, broken) in [(8, false), (9, true)] {
-        let mut body = Items::new(alloc);
-        for _ in 0..count {
-            body.push(Stmt::Store(Expr::Pc, Expr::Lit(0, 16)))?;
-        }
-        let fault = fault_of(alloc, body)?;
+        let fault = fault_of(alloc, stores(alloc, count)?)?;
         assert_eq!(rt; is_limit(&fault, Limit::Accesses), broken);
         assert_eq!(rt; fault.is_none(), !broken);
     }
@@ -136,11 +164,7 @@ fn a_body_has_8_accesses(rt: HostRuntime) -> Result<(), Fail> {
 fn a_body_has_32_lets(rt: HostRuntime) -> Result<(), Fail> {
     let alloc = rt.alloc();
     for (count, broken) in [(32, false), (33, true)] {
-        let mut body = Items::new(alloc);
-        for _ in 0..count {
-            body.push(let_x(alloc)?)?;
-        }
-        let fault = fault_of(alloc, body)?;
+        let fault = fault_of(alloc, lets(alloc, count)?)?;
         assert_eq!(rt; is_limit(&fault, Limit::Lets), broken);
         assert_eq!(rt; is_twice(&fault, b"x"), !broken);
     }
@@ -151,10 +175,7 @@ fn a_body_has_32_lets(rt: HostRuntime) -> Result<(), Fail> {
 fn a_body_has_1024_expressions(rt: HostRuntime) -> Result<(), Fail> {
     let alloc = rt.alloc();
     for broken in [false, true] {
-        let mut body = Items::new(alloc);
-        for _ in 0..32 {
-            body.push(Stmt::Pc(negated(alloc, 31)?))?;
-        }
+        let mut body = jumps(alloc, 32)?;
         if broken {
             body.push(Stmt::Pc(Expr::Pc))?;
         }
