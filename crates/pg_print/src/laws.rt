@@ -1,4 +1,8 @@
 //! What holds of every description that is printed.
+//!
+//! Nothing runs here: the contracts are theorems over the definitions alone. In these a tree has any
+//! numbers, and a text has none from 2^64 on, so both laws ask that the numbers of a tree are below.
+//! Those of a `Desc` in memory always are, and `print` has no such premise.
 
 ghost use Rattle.std.specs.Prelude.{◌≡◌, Some};
 ghost use Rattle.pg_ast.specs.declared.tree.Desc.{Desc};

@@ -1,7 +1,10 @@
 //! Tokens as text.
 //!
-//! One walk over the tokens, which keeps two things: whether a line begins, and how many braces are
-//! open. What a token needs in front of it and behind it follows from these and the token alone.
+//! `print` calls `layout`: one walk over the tokens, which keeps two things, whether a line begins and
+//! how many braces are open. What a token needs in front of it and behind it follows from these and
+//! the token alone. The walk never fails on tokens: where more braces are closed than are open, none
+//! is open then, and every list has a layout. Its time is linear in the text that it writes. Want of
+//! memory ends it, and nothing is said of what was written by then, since nobody sees it.
 
 ghost use Rattle.std.specs.Prelude.{◌≡◌, ◌+◌, ◌≤◌, ◌<◌, ◌^◌, ◌++◌, ◌∷◌, [], true, All, OnOk, IfOk};
 ghost use Rattle.pg_print.specs.Layout.{sign_text, token_text, ends_line, open_behind, braces_at, indent, lead, line_end, layout};

@@ -1,4 +1,8 @@
 //! A description as text.
+//!
+//! `pg_tool` calls `print` for the command of that name. The tokens of the tree are listed whole and
+//! then laid out: memory is taken for the list, which is gone when `print` answers, and for the text.
+//! The clauses say which bytes the text has, and that they read as the description.
 
 ghost use Rattle.std.specs.Prelude.{◌≡◌, Some, IfOk};
 ghost use Rattle.pg_ast.specs.Tokens.{tokens_of};

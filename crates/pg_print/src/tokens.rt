@@ -1,13 +1,17 @@
 //! The tokens of a tree, in order.
 //!
-//! One function for each kind of tree, which puts its tokens at the end of one list.
+//! `print` calls `desc_tokens`. There is one function for each kind of tree, which puts its tokens at
+//! the end of one list, and each is the definition of `pg_ast` for that kind (`expr_tokens`,
+//! `stmt_tokens`, `tokens_of`). They recurse as the tree does: the type of an instruction keeps its
+//! body to 16 levels of blocks and 32 of expressions. Words and patterns are copied into the list.
 
 ghost use Rattle.std.specs.Prelude.{◌≡◌, ◌++◌, ◌∷◌, [], map, codes, OnOk, IfOk};
 ghost use Rattle.pg_token.specs.declared.tok.Tok.TheVariants.{Word, Number, Pattern};
 ghost use Rattle.pg_token.specs.declared.tok.Tok.TheVariants as toks;
-ghost use Rattle.pg_token.specs.declared.tok.Sign.TheVariants.{OpenParen, OpenBracket, CloseBracket, Comma, Colon, Semicolon, Equals};
+ghost use Rattle.pg_token.specs.declared.tok.Sign.TheVariants.{OpenParen, CloseParen, OpenBracket, CloseBracket, Comma, Colon, Semicolon, Equals};
+ghost use Rattle.pg_ast.specs.declared.tree.Expr.TheVariants.{Load, Not, Bin, Cat, Cut, Sel};
 ghost use Rattle.pg_ast.specs.ExprTokens.{sign_of, expr_tokens};
-ghost use Rattle.pg_ast.specs.Tokens.{flat, block_tokens, assign_tokens, stmt_tokens, instr_tokens, head_line, causes_tokens, head_tokens, tokens_of};
+ghost use Rattle.pg_ast.specs.Tokens.{block_tokens, assign_tokens, stmt_tokens, instr_tokens, head_line, causes_tokens, head_tokens, tokens_of};
 
 use pg_ast::{Desc, Expr, Instr, Op, Stmt};
 use pg_token::{Sign, Tok};
@@ -87,8 +91,9 @@ fn sign_of(op: Op) -> Sign
     }
 }
 
-/// The tokens of an expression.
-#[tactic(auto, using(pg_ast::proofs::ExprEquations::expr_tokens_rules, std::proofs::lemmas::List::append_assoc))]
+/// The tokens of an expression, by its form.
+#[tactic(auto, using(pg_ast::proofs::ExprEquations::expr_tokens_rules, pg_ast::proofs::ExprEquations::depth_of_rules, std::proofs::lemmas::List::append_assoc))]
+#[cycle(exprs)]
 fn put_expr(alloc: Global, list: &mut Items<Tok>, expr: &Expr) -> Result<(), AllocError>
     ensures { OnOk result (list.new ≡ list.old ++ expr_tokens expr.now) }
 {
@@ -99,59 +104,121 @@ fn put_expr(alloc: Global, list: &mut Items<Tok>, expr: &Expr) -> Result<(), All
         Expr::Mode => put_word(alloc, list, b"mode"),
         Expr::Rel => put_word(alloc, list, b"rel"),
         Expr::Bound => put_word(alloc, list, b"bound"),
-        Expr::Load(e) => {
-            put_word(alloc, list, b"mem")?;
-            put_sign(list, Sign::OpenBracket)?;
-            put_expr(alloc, list, e.get())?;
-            put_sign(list, Sign::CloseBracket)
-        }
-        Expr::Not(e) => {
-            put_sign(list, Sign::Tilde)?;
-            put_expr(alloc, list, e.get())
-        }
-        Expr::Bin(op, x, y) => {
-            put_sign(list, Sign::OpenParen)?;
-            put_expr(alloc, list, x.get())?;
-            put_sign(list, sign_of(*op))?;
-            put_expr(alloc, list, y.get())?;
-            put_sign(list, Sign::CloseParen)
-        }
-        Expr::Cat(x, y) => {
-            put_call(alloc, list, b"cat")?;
-            put_expr(alloc, list, x.get())?;
-            put_sign(list, Sign::Comma)?;
-            put_expr(alloc, list, y.get())?;
-            put_sign(list, Sign::CloseParen)
-        }
-        Expr::Cut(e, h, k) => {
-            put_call(alloc, list, b"cut")?;
-            put_expr(alloc, list, e.get())?;
-            put_next(list, *h)?;
-            put_next(list, *k)?;
-            put_sign(list, Sign::CloseParen)
-        }
-        Expr::Ext(e, n) => {
-            put_call(alloc, list, b"ext")?;
-            put_expr(alloc, list, e.get())?;
-            put_next(list, *n)?;
-            put_sign(list, Sign::CloseParen)
-        }
-        Expr::Sext(e, n) => {
-            put_call(alloc, list, b"sext")?;
-            put_expr(alloc, list, e.get())?;
-            put_next(list, *n)?;
-            put_sign(list, Sign::CloseParen)
-        }
-        Expr::Sel(c, x, y) => {
-            put_call(alloc, list, b"sel")?;
-            put_expr(alloc, list, c.get())?;
-            put_sign(list, Sign::Comma)?;
-            put_expr(alloc, list, x.get())?;
-            put_sign(list, Sign::Comma)?;
-            put_expr(alloc, list, y.get())?;
-            put_sign(list, Sign::CloseParen)
-        }
+        Expr::Load(e) => put_load(alloc, list, e.get()),
+        Expr::Not(e) => put_not(alloc, list, e.get()),
+        Expr::Bin(op, x, y) => put_bin(alloc, list, *op, x.get(), y.get()),
+        Expr::Cat(x, y) => put_cat(alloc, list, x.get(), y.get()),
+        Expr::Cut(e, h, k) => put_cut(alloc, list, e.get(), *h, *k),
+        Expr::Ext(e, n) => put_extended(alloc, list, b"ext", e.get(), *n),
+        Expr::Sext(e, n) => put_extended(alloc, list, b"sext", e.get(), *n),
+        Expr::Sel(c, x, y) => put_sel(alloc, list, c.get(), x.get(), y.get()),
     }
+}
+
+/// The tokens of `mem[e]`.
+#[tactic(auto, using(pg_ast::proofs::ExprEquations::expr_tokens_rules, pg_ast::proofs::ExprEquations::depth_of_rules, std::proofs::lemmas::List::append_assoc))]
+#[cycle(exprs)]
+fn put_load(alloc: Global, list: &mut Items<Tok>, e: &Expr) -> Result<(), AllocError>
+    ensures { OnOk result (list.new ≡ list.old ++ expr_tokens (Load e.now)) }
+{
+    put_word(alloc, list, b"mem")?;
+    put_sign(list, Sign::OpenBracket)?;
+    put_expr(alloc, list, e)?;
+    put_sign(list, Sign::CloseBracket)
+}
+
+/// The tokens of `~e`.
+#[tactic(auto, using(pg_ast::proofs::ExprEquations::expr_tokens_rules, pg_ast::proofs::ExprEquations::depth_of_rules, std::proofs::lemmas::List::append_assoc))]
+#[cycle(exprs)]
+fn put_not(alloc: Global, list: &mut Items<Tok>, e: &Expr) -> Result<(), AllocError>
+    ensures { OnOk result (list.new ≡ list.old ++ expr_tokens (Not e.now)) }
+{
+    put_sign(list, Sign::Tilde)?;
+    put_expr(alloc, list, e)
+}
+
+/// The tokens of two expressions with an operator between.
+#[tactic(auto, using(pg_ast::proofs::ExprEquations::expr_tokens_rules, pg_ast::proofs::ExprEquations::depth_of_rules, std::proofs::lemmas::List::append_assoc))]
+#[cycle(exprs)]
+fn put_bin(
+    alloc: Global,
+    list: &mut Items<Tok>,
+    op: Op,
+    x: &Expr,
+    y: &Expr,
+) -> Result<(), AllocError>
+    ensures { OnOk result (list.new ≡ list.old ++ expr_tokens (Bin op x.now y.now)) }
+{
+    put_sign(list, Sign::OpenParen)?;
+    put_expr(alloc, list, x)?;
+    put_sign(list, sign_of(op))?;
+    put_expr(alloc, list, y)?;
+    put_sign(list, Sign::CloseParen)
+}
+
+/// The tokens of `cat(x, y)`.
+#[tactic(auto, using(pg_ast::proofs::ExprEquations::expr_tokens_rules, pg_ast::proofs::ExprEquations::depth_of_rules, std::proofs::lemmas::List::append_assoc))]
+#[cycle(exprs)]
+fn put_cat(alloc: Global, list: &mut Items<Tok>, x: &Expr, y: &Expr) -> Result<(), AllocError>
+    ensures { OnOk result (list.new ≡ list.old ++ expr_tokens (Cat x.now y.now)) }
+{
+    put_call(alloc, list, b"cat")?;
+    put_expr(alloc, list, x)?;
+    put_sign(list, Sign::Comma)?;
+    put_expr(alloc, list, y)?;
+    put_sign(list, Sign::CloseParen)
+}
+
+/// The tokens of `cut(e, h, k)`.
+#[tactic(auto, using(pg_ast::proofs::ExprEquations::expr_tokens_rules, pg_ast::proofs::ExprEquations::depth_of_rules, std::proofs::lemmas::List::append_assoc))]
+#[cycle(exprs)]
+fn put_cut(alloc: Global, list: &mut Items<Tok>, e: &Expr, h: u64, k: u64) -> Result<(), AllocError>
+    ensures { OnOk result (list.new ≡ list.old ++ expr_tokens (Cut e.now h k)) }
+{
+    put_call(alloc, list, b"cut")?;
+    put_expr(alloc, list, e)?;
+    put_next(list, h)?;
+    put_next(list, k)?;
+    put_sign(list, Sign::CloseParen)
+}
+
+/// The tokens of `ext(e, n)`, or of `sext(e, n)`, by the word.
+#[tactic(auto, using(pg_ast::proofs::ExprEquations::depth_of_rules, std::proofs::lemmas::List::append_assoc))]
+#[cycle(exprs)]
+fn put_extended(
+    alloc: Global,
+    list: &mut Items<Tok>,
+    word: &[u8],
+    e: &Expr,
+    n: u64,
+) -> Result<(), AllocError>
+    ensures { OnOk result (list.new ≡ list.old ++ Word word.now ∷ toks.Sign OpenParen ∷ expr_tokens e.now ++ toks.Sign Comma ∷ Number n ∷ toks.Sign CloseParen ∷ []) }
+{
+    put_call(alloc, list, word)?;
+    put_expr(alloc, list, e)?;
+    put_next(list, n)?;
+    put_sign(list, Sign::CloseParen)
+}
+
+/// The tokens of `sel(c, x, y)`.
+#[tactic(auto, using(pg_ast::proofs::ExprEquations::expr_tokens_rules, pg_ast::proofs::ExprEquations::depth_of_rules, std::proofs::lemmas::List::append_assoc))]
+#[cycle(exprs)]
+fn put_sel(
+    alloc: Global,
+    list: &mut Items<Tok>,
+    c: &Expr,
+    x: &Expr,
+    y: &Expr,
+) -> Result<(), AllocError>
+    ensures { OnOk result (list.new ≡ list.old ++ expr_tokens (Sel c.now x.now y.now)) }
+{
+    put_call(alloc, list, b"sel")?;
+    put_expr(alloc, list, c)?;
+    put_sign(list, Sign::Comma)?;
+    put_expr(alloc, list, x)?;
+    put_sign(list, Sign::Comma)?;
+    put_expr(alloc, list, y)?;
+    put_sign(list, Sign::CloseParen)
 }
 
 /// An assignment of an expression to a register.

@@ -2,22 +2,20 @@
 use Rattle.std.proofs.Common.{◌≡◌, ◌≢◌, ℕ, zero, suc, ◌+◌, ◌-◌, ◌≤◌, ◌<◌, Bool, true, false, List, [], ◌∷◌, ◌++◌, length, map, Option, None, Some, IfSome, codes, ap, sym, ◌∙◌, refl, arith}
 use Rattle.std.proofs.lemmas.List.{append_assoc, length-append, append-nil}
 use Rattle.pg_token.specs.declared.tok.Tok.{Tok}
-use Rattle.pg_token.specs.declared.tok.Tok.TheVariants.{Word, Number, Pattern, Sign}
+use Rattle.pg_token.specs.declared.tok.Tok.TheVariants.{Sign}
 use Rattle.pg_token.specs.declared.tok.Sign.TheVariants.{OpenBrace, CloseBrace, Semicolon}
-use Rattle.pg_ast.specs.declared.name.PatternText.{PatternText}
 use Rattle.pg_ast.specs.declared.tree.Instr.{Instr}
 use Rattle.pg_ast.specs.declared.tree.Desc.{Desc}
 use Rattle.pg_ast.specs.Tokens.{instr_tokens, head_tokens, tokens_of, flat}
-use Rattle.pg_ast.specs.Reading.{then_read, past_sign, past_word, past_close, past_pattern, pattern_of, instr_of, read_instr, cons_read, with_instrs, past_line}
-use Rattle.pg_ast.proofs.Exact.{read_at, then_read-holds, past_found-holds, past_sign-holds, past_word-holds, past_number-holds, past_name-holds}
-use Rattle.pg_ast.proofs.ExprReads.{name_of-bytes}
-use Rattle.pg_ast.proofs.StmtExact.{IsBlockFront}
-use Rattle.pg_ast.proofs.DescReads.{pattern_of-bytes, instr_of-parts, instr_front}
-use Rattle.pg_ast.proofs.DescExact.{pattern_of-holds, HasParts, instr_of-holds, IsInstrFront}
+use Rattle.pg_ast.specs.Reading.{then_read, past_sign, past_word, past_close, read_instr, cons_read, with_instrs, past_line}
+use Rattle.pg_ast.proofs.Exact.{read_at, then_read-holds, past_sign-holds, past_word-holds, past_number-holds}
+use Rattle.pg_ast.proofs.StmtExact.{past_close-holds}
+use Rattle.pg_ast.proofs.DescReads.{instr_front, read_instr-tokens}
+use Rattle.pg_ast.proofs.DescExact.{IsInstrFront, IsInstrs, IsTokens, behind_size, cons-exact, instr-exact as read_instr-exact, with_instrs-exact}
 use Rattle.pg_read.specs.Blocks.{body_at}
 use Rattle.pg_read.specs.Whole.{instr_at, instrs_within, instrs_at, line_at, causes_found, causes_at, desc_at}
 use Rattle.pg_read.proofs.FormLemmas.{then-past_sign, then-past_word, then-number_at, then-name_at, then-pattern_at, then-then}
-use Rattle.pg_read.proofs.BodyExact.{past_close-holds, body_at-exact}
+use Rattle.pg_read.proofs.BodyExact.{body_at-exact}
 use Rattle.pg_read.proofs.BodyReads.{body-tokens}
 
 instr-form : (ts : List Tok) → instr_at ts ≡ read_instr (body_at 16) ts
@@ -26,42 +24,14 @@ instr-form ts = simp (then-past_word, then-past_sign, then-name_at, then-pattern
 
 -- ---- what was read
 
-past_pattern-holds : {B : Type 0} (P : B → Type 0) (ts : List Tok) (go : PatternText → List Tok → Option B) → ((p : PatternText) (us : List Tok) → ts ≡ Pattern p.bytes ∷ us → IfSome (go p us) P) → IfSome (past_pattern ts go) P
-past_pattern-holds P [] go h = tt
-past_pattern-holds P (Word w ∷ ts) go h = tt
-past_pattern-holds P (Number n ∷ ts) go h = tt
-past_pattern-holds P (Pattern w ∷ ts) go h =
-    past_found-holds P (pattern_of w) ts go (λ p e. h p ts (ap (λ u. Pattern u ∷ ts) (sym (read_at (λ q. q.bytes ≡ w) (pattern_of w) p (pattern_of-holds w) e))))
-past_pattern-holds P (Sign s ∷ ts) go h = tt
-
-read_instr-exact : (ts : List Tok) → IfSome (read_instr (body_at 16) ts) (IsInstrFront ts)
-unfolding read_instr
-read_instr-exact ts =
-    let all : Instr × List Tok → Type 0 = IsInstrFront ts in
-    past_word-holds all (codes "instr") ts _ (λ t1 p1.
-    past_name-holds all t1 _ (λ n t2 p2.
-    past_pattern-holds all t2 _ (λ p t3 p3.
-    past_sign-holds all OpenBrace t3 _ (λ t4 p4.
-    then_read-holds all (body_at 16 t4) _ (λ body t5 p5.
-    past_found-holds all (instr_of n p body) t5 _ (λ i p6.
-    let parts = read_at (HasParts n p body) (instr_of n p body) i (instr_of-holds n p body) p6 in
-    cc (instr_front i t5, p1, p2, p3, p4, read_at (IsBlockFront t4) (body_at 16 t4) (body, t5) (body_at-exact 16 t4) p5, parts.name, parts.pattern, parts.body_is)))))))
-
 instr-exact : (ts : List Tok) → IfSome (instr_at ts) (IsInstrFront ts)
-instr-exact ts = rw (instr-form ts) (read_instr-exact ts)
+instr-exact ts = rw (instr-form ts) (read_instr-exact (body_at 16) (body_at-exact 16) ts)
 
 -- what is left behind an instruction is shorter
 pub instr-shorter : (ts us : List Tok) (i : Instr) → instr_at ts ≡ Some (i, us) → length us < length ts
 instr-shorter ts us i e =
     let front = read_at (IsInstrFront ts) (instr_at ts) (i, us) (instr-exact ts) e in
     rw (front, instr_front i us) (simp length-append (omega arith))
-
-abbrev IsInstrs : List Tok → List Instr → Type 0
-IsInstrs ts instrs = ts ≡ flat (map instr_tokens instrs)
-
-cons-exact : (ts us : List Tok) (i : Instr) → ts ≡ instr_tokens i ++ us → (read : Option (List Instr)) → IfSome read (IsInstrs us) → IfSome (cons_read i read) (IsInstrs ts)
-cons-exact ts us i e None h = tt
-cons-exact ts us i e (Some instrs) h = cc
 
 instrs_within-exact : (k : ℕ) (ts : List Tok) → IfSome (instrs_within k ts) (IsInstrs ts)
 unfolding instrs_within
@@ -75,11 +45,7 @@ instrs-exact : (ts : List Tok) → IfSome (instrs_at ts) (IsInstrs ts)
 unfolding instrs_at
 instrs-exact ts = instrs_within-exact (suc (length ts)) ts
 
--- the end of a head, and the tokens behind it
-abbrev behind_size : Bool → List Tok → List Tok
-behind_size true ts = Word (codes "causes") ∷ Word (codes "on") ∷ Sign Semicolon ∷ Sign CloseBrace ∷ ts
-behind_size false ts = Sign CloseBrace ∷ ts
-
+-- the tokens are those of the end of a head, and then the rest
 abbrev IsEnd : List Tok → Bool × List Tok → Type 0
 IsEnd ts p = ts ≡ behind_size p.0 p.1
 
@@ -95,25 +61,6 @@ causes-exact ts None e =
     past_word-holds all (codes "on") t1 _ (λ t2 p2.
     past_sign-holds all Semicolon t2 _ (λ t3 p3.
     past_sign-holds all CloseBrace t3 _ (λ t4 p4. cc)))))
-
-desc_front : (word address size : ℕ) (causes : Bool) (instrs : List Instr) →
-    tokens_of (record { word = word; address = address; size = size; causes = causes; instrs = instrs }) ≡
-    Word (codes "machine") ∷ Sign OpenBrace ∷ Word (codes "word") ∷ Number word ∷ Sign Semicolon ∷ Word (codes "address") ∷ Number address ∷ Sign Semicolon ∷
-    Word (codes "size") ∷ Number size ∷ Sign Semicolon ∷ behind_size causes (flat (map instr_tokens instrs))
-unfolding tokens_of head_tokens
-desc_front word address size true instrs = refl
-desc_front word address size false instrs = refl
-
-abbrev IsTokens : List Tok → Desc → Type 0
-IsTokens ts d = ts ≡ tokens_of d
-
-with_instrs-exact : (ts us : List Tok) (word address size : ℕ) (causes : Bool) →
-    ts ≡ Word (codes "machine") ∷ Sign OpenBrace ∷ Word (codes "word") ∷ Number word ∷ Sign Semicolon ∷ Word (codes "address") ∷ Number address ∷ Sign Semicolon ∷
-    Word (codes "size") ∷ Number size ∷ Sign Semicolon ∷ behind_size causes us →
-    (read : Option (List Instr)) → IfSome read (IsInstrs us) → IfSome (with_instrs word address size causes read) (IsTokens ts)
-with_instrs-exact ts us word address size causes e None h = tt
-with_instrs-exact ts us word address size causes e (Some instrs) h = e ∙ ap (λ v. Word (codes "machine") ∷ Sign OpenBrace ∷ Word (codes "word") ∷ Number word ∷ Sign Semicolon ∷ Word (codes "address") ∷ Number address ∷ Sign Semicolon ∷
-    Word (codes "size") ∷ Number size ∷ Sign Semicolon ∷ behind_size causes v) h ∙ sym (desc_front word address size causes instrs)
 
 then-line_at : {B : Type 0} (w : List ℕ) (ts : List Tok) (go : ℕ → List Tok → Option B) → then_read (line_at w ts) go ≡ past_line w ts go
 unfolding line_at
@@ -148,10 +95,7 @@ desc-exact ts =
 -- ---- what is read back
 
 instr-tokens : (i : Instr) (rest : List Tok) → instr_at (instr_tokens i ++ rest) ≡ Some (i, rest)
-unfolding read_instr
-instr-tokens i rest =
-    let body = body-tokens i.body 16 i.shallow.exprs i.shallow.blocks in
-    rw (instr-form (instr_tokens i ++ rest), instr_front i rest) (simp (name_of-bytes, pattern_of-bytes, body, instr_of-parts))
+instr-tokens i rest = instr-form (instr_tokens i ++ rest) ∙ read_instr-tokens (body_at 16) i (body-tokens i.body 16 i.shallow.exprs i.shallow.blocks) rest
 
 instrs-few : (instrs : List Instr) → length instrs ≤ length (flat (map instr_tokens instrs))
 instrs-few [] = omega arith

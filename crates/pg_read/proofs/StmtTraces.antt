@@ -35,10 +35,6 @@ abbrev AreTraced : List Stmt → Type 0
 AreTraced ss = (n : ℕ) (gs : List Goal) (ts : List Tok) →
     trace (goal.Stmts n ∷ gs) (flat (map stmt_tokens ss) ++ (Sign CloseBrace ∷ ts)) ≡ with_marks (marks_within n (map stmt_marks ss)) (with_mark Plain (trace gs ts))
 
-else_free-close : (ts : List Tok) → ElseFree (Sign CloseBrace ∷ ts)
-unfolding taken met
-else_free-close ts n gs = refl
-
 -- behind a statement of a block comes no else
 else_free : (more : List Stmt) (ts : List Tok) → ElseFree (flat (map stmt_tokens more) ++ (Sign CloseBrace ∷ ts))
 unfolding taken met

@@ -14,7 +14,8 @@ unfoldable pub stmts_at : (stmt : List Tok → Option (Stmt × List Tok)) → �
 stmts_at stmt zero ts = None
 stmts_at stmt (suc k) ts = stmts_next stmt (stmts_at stmt k) ts (past_close ts)
 
--- the statements of a block of at most so many levels, up to its closing brace and past it: there are no more of them than tokens
+-- the statements of a block of at most so many levels, up to its closing brace and past it: there are no more of them than
+-- tokens
 unfoldable pub body_at : ℕ → List Tok → Option (List Stmt × List Tok)
 body_at zero ts = None
 body_at (suc n) ts = stmts_at (read_stmt (read_expr 32) (body_at n)) (suc (length ts)) ts

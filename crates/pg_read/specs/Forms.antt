@@ -1,5 +1,5 @@
--- The forms of expressions and statements behind their first token, step by step. The argument r reads an expression inside, and
--- b the statements of a block inside up to its end.
+-- The forms of expressions and statements behind their first token, step by step. The argument r reads an expression inside,
+-- and b the statements of a block inside up to its end.
 use Rattle.std.specs.Prelude.{ℕ, List, Option, None, Some}
 use Rattle.pg_token.specs.declared.tok.Tok.{Tok}
 use Rattle.pg_token.specs.declared.tok.Sign.TheVariants.{OpenBrace, OpenParen, CloseParen, OpenBracket, CloseBracket, Semicolon, Comma, Colon, Equals}

@@ -1,4 +1,5 @@
--- Going over tokens with a list of goals: the parts of a description that are still to come. A token meets the first goal, or is wrong.
+-- Going over tokens with a list of goals: the parts of a description that are still to come. A token meets the first goal,
+-- or is wrong.
 use Rattle.std.specs.Prelude.{◌≡◌, ℕ, suc, Bool, true, false, cond, ◌==◌, List, [], ◌∷◌, ◌++◌, Option, None, Some, codes, bytes_eq}
 use Rattle.std.specs.List.{list_all}
 use Rattle.pg_token.specs.Words.{is_name, is_pattern_byte}

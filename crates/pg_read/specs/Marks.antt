@@ -1,5 +1,5 @@
--- What each token of an expression, a statement or a block does to depth. The lists of marks stand beside the lists of tokens that
--- pg_ast defines, one mark for each token.
+-- What each token of an expression, a statement or a block does to depth. The lists of marks stand beside the lists of
+-- tokens that pg_ast defines, one mark for each token.
 use Rattle.std.specs.Prelude.{ℕ, suc, Bool, false, ◌||◌, nat_lt, map, List, [], ◌∷◌, ◌++◌, Option, None, Some}
 use Rattle.pg_ast.specs.declared.tree.Expr.{Expr}
 use Rattle.pg_ast.specs.declared.tree.Expr.TheOpen.{Expr-F, Lit, Name, Pc, Mode, Rel, Bound, Load, Not, Bin, Cat, Cut, Ext, Sext, Sel}

@@ -1,7 +1,9 @@
 //! The tokens that are left, and the small steps over them.
 //!
-//! Each step passes over what it names, and answers `Unread` where something else comes first. After that nothing is read,
-//! so no contract says where the cursor then stands. `close` and `otherwise` leave it where it was.
+//! `exprs`, `stmts` and `instrs` read with one cursor, which only goes forward. Each step passes over what it names, and
+//! answers `Unread` where something else comes first. After that nothing is read, so no contract says where the cursor then
+//! stands. `close` and `otherwise` leave it where it was. `name` and `pattern` copy what they find into memory of its own,
+//! so that a tree keeps nothing of the tokens, and answer `Memory` where there is none; the other steps take no memory.
 
 ghost use Rattle.std.specs.Prelude.{◌≡◌, [], ◌∷◌, map, IsTrue, ◌↔◌, IfOk, MatchOption};
 ghost use Rattle.pg_ast.specs.Reading.{past_sign, past_word, past_close, past_else, name_of, pattern_of, op_of};
@@ -11,7 +13,7 @@ use crate::fault::Stop;
 use crate::words::is_same;
 use pg_ast::{Name, Op, PatternText};
 use pg_text::Span;
-use pg_token::{Sign, Tok, is_name, is_pattern};
+use pg_token::{Sign, Tok, is_name};
 use sqlite_items::Items;
 use std::alloc::{AllocError, Global};
 use std::marker::Model;

@@ -1,4 +1,8 @@
 //! Why a description was not read.
+//!
+//! `DescFault` goes out to the caller of `read_desc`, with the place. `Stop` is what the functions that make trees answer
+//! each other: whether the tokens begin with the part that is asked for, and no place, which `judge` finds. In both, want of
+//! memory has a variant of its own, so that it is never taken for a fault of the text.
 
 ghost use Rattle.std.specs.Prelude.{◌≡◌};
 ghost use Rattle.pg_read.specs.declared.fault.Stop.TheVariants.{Memory as NoMemory};
@@ -6,7 +10,7 @@ ghost use Rattle.pg_read.specs.declared.fault.Stop.TheVariants.{Memory as NoMemo
 use std::alloc::AllocError;
 use thiserror::Error;
 
-/// Why the bytes of a text were not read as a description.
+/// Why the bytes of a text were not read as a description. Places are bytes of the text, counted from 0.
 #[derive(Clone, Copy, Debug, PartialEq, Eq, Error)]
 pub enum DescFault {
     /// There are more than `TEXT_LIMIT` of them.
@@ -15,8 +19,8 @@ pub enum DescFault {
     /// The first byte, number, word or pattern that makes no token stands here.
     #[error("no token at {0}")]
     Token(usize),
-    /// No description goes on with the token that stands here. Where each token could be followed by others and the text ends
-    /// too early, this is its length.
+    /// No description goes on with the token that stands here. Where each token could be followed by others and the text
+    /// ends too early, this is the length of the text.
     #[error("wrong at {0}")]
     Grammar(usize),
     /// The token that stands here, which a description could go on with, begins an expression of more than 32 levels, or

@@ -1,4 +1,9 @@
 //! What a token begins, and what comes behind it.
+//!
+//! `judge` asks here whether a token meets a goal and which form it begins, and has the goals of what comes behind that
+//! token pushed. The first token of an expression or a statement tells its form, so nothing is ever taken back. The
+//! functions are the definitions of `specs/Goals.antt`, one for one. The tests take no memory; a push answers `AllocError`
+//! where there is none for its goals, of which some may then be there.
 
 ghost use Rattle.std.specs.Prelude.{◌≡◌, ◌++◌, cond, Some, OnOk};
 ghost use Rattle.pg_token.specs.Words.{is_name};

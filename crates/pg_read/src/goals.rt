@@ -1,7 +1,11 @@
 //! What is still to come of a description, as a stack of goals.
+//!
+//! `judge` alone goes over tokens with it, and `forms` pushes. A goal is a part of the language that comes next, and where
+//! levels matter it carries its own, so that they are counted without recursion and a text of any depth takes memory and no
+//! stack. The goals lie in a vector with the first one last, since it is the first that is taken away and replaced;
+//! contracts see them in the order of the text. Pushing is all that takes memory.
 
 ghost use Rattle.std.specs.Prelude.{◌≡◌, ◌∷◌, [], ◌++◌, MatchOption, OnOk};
-ghost use Rattle.pg_read.specs.Goals.{desc_goals};
 
 use crate::words::HeadWord;
 use pg_token::Sign;
@@ -23,11 +27,12 @@ pub enum Goal {
     Pattern,
     /// The sign of an operator.
     Op,
-    /// An expression of this level.
+    /// An expression of this level, from 1 on. One of level 33 is too deep.
     Expr(u32),
-    /// A block of this level, from its opening brace on.
+    /// A block of this level, from its opening brace on. The body of an instruction has level 1, and one of level 17 is too
+    /// deep.
     Block(u32),
-    /// The statements of a block up to its closing brace, and past it. Blocks inside have this level.
+    /// The statements of a block up to its closing brace, and past it. Blocks inside have this level: 2 to 17.
     Stmts(u32),
     /// The same behind the block of an if, where an else may come first.
     AfterIf(u32),

@@ -1,12 +1,11 @@
 //! Where tokens stop being a description's.
 //!
-//! `desc` reads trees, and where it reads none it says only that there is none. Then the tokens are gone over once more, by a
-//! stack of what is still to come: each token meets the first goal, and puts what comes behind it in its place. The first
-//! token that meets no goal is the one with which no description goes on. Levels are counted by the goals, not by calls, so
-//! that no text makes this recurse. A text that is a description never comes here.
+//! `desc` reads trees, and where it reads none it says only that there is none. Then `whole` has the tokens gone over once
+//! more, by a stack of what is still to come: each token meets the first goal, and puts what comes behind it in its place.
+//! The first token that does not meet it is the one with which no description goes on. Levels are counted by the goals, not
+//! by calls, so that no text makes this recurse. A text that is a description never comes here.
 
 ghost use Rattle.std.specs.Prelude.{◌≡◌, ◌+◌, List, [], ◌∷◌, IfOk};
-ghost use Rattle.pg_token.specs.declared.tok.Sign.TheVariants.{CloseBrace};
 ghost use Rattle.pg_read.specs.declared.goals.Goal.{Goal};
 ghost use Rattle.pg_read.specs.declared.goals.Goal.TheVariants.{Stmts as ToStmts, AfterIf as ToAfterIf, HeadEnd as ToHeadEnd, Instrs as ToInstrs};
 ghost use Rattle.pg_read.specs.Marks.{Opens, Plain};

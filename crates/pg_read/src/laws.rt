@@ -1,4 +1,7 @@
 //! What holds of all texts and all tokens.
+//!
+//! Nothing runs here: the contracts are theorems over the definitions alone. They say that what `read_desc` is asked for
+//! leaves it no choice, so that its contract names one answer.
 
 ghost use Rattle.std.specs.Prelude.{◌≡◌, ◌≢◌, ℕ, List, Result, Err};
 ghost use Rattle.pg_token.specs.declared.tok.Tok.{Tok};

@@ -1,8 +1,9 @@
 //! Statements and blocks.
 //!
-//! `block` and `body` are given how many levels a block may have, and read nothing where that is none, so they recurse no
-//! deeper. The others are given how many a block inside may have: one less. The expressions of each statement have all of
-//! their own levels left. The statements of a block are read by a loop, so a long block takes no stack.
+//! `instrs` calls `block` for the body of an instruction. `block` and `body` are given how many levels a block may have, 16
+//! at first, and read nothing where that is none, so they recurse no deeper. The others are given how many a block inside
+//! may have: one less. The expressions of each statement have all of their own levels left. The statements of a block are
+//! read by a loop, so a long block takes no stack.
 
 ghost use Rattle.std.specs.Prelude.{suc, length};
 ghost use Rattle.pg_ast.specs.Reading.{read_expr, read_stmt, read_stmt_word, past_sign, past_else};

@@ -1,4 +1,9 @@
-//! The text.
+//! A description from its text.
+//!
+//! `read_desc` is the one call that other crates make. It has the bytes cut into tokens (`pg_text`), and the tokens read as
+//! a tree (`instrs`); where they make none, `judge` goes over the same tokens once more for the place, so only a text that
+//! is refused pays for that. The order of these steps is the order in which faults are told: `Long`, `Token`, and then
+//! `Grammar` or `Deep`. Tokens are kept only until the answer is found.
 
 ghost use Rattle.std.specs.Prelude.{◌≡◌};
 ghost use Rattle.pg_read.specs.Answer.{IsAnswer, token_fault};
@@ -13,7 +18,7 @@ use pg_text::{Span, TextFault, tokens};
 use pg_token::Tok;
 use std::alloc::Global;
 
-/// The greatest number of bytes of a text.
+/// The greatest number of bytes of a text: one more, and the text is `Long`.
 pub const TEXT_LIMIT: usize = 1_048_576;
 
 /// The fault of a text that has a fault of its tokens.

@@ -1,4 +1,9 @@
 //! The words that begin expressions and statements, and those of the head.
+//!
+//! Both the reader (`exprs`, `stmts`) and the judge (`forms`) ask here which word some bytes are, and from then on match on
+//! an enum in place of bytes. The table is `specs/Keywords.antt`. `mem`, `pc`, `mode`, `rel` and `bound` begin expressions
+//! and statements both; which is meant is known from where they stand. The words of the head stand at fixed places, so no
+//! bytes are looked up among them. Nothing here takes memory.
 
 ghost use Rattle.std.specs.Prelude.{◌≡◌, bytes_eq};
 ghost use Rattle.pg_read.specs.Keywords.{expr_word, stmt_word};
@@ -6,38 +11,61 @@ ghost use Rattle.pg_read.specs.Keywords.{expr_word, stmt_word};
 /// A word that begins an expression and is no name.
 #[derive(Clone, Copy, Debug, PartialEq, Eq)]
 pub enum ExprWord {
+    /// `pc`, alone.
     Pc,
+    /// `mode`, alone.
     Mode,
+    /// `rel`, alone.
     Rel,
+    /// `bound`, alone.
     Bound,
+    /// `mem`, with an address in brackets behind it.
     Mem,
+    /// `cat`, with two expressions in parentheses.
     Cat,
+    /// `cut`, with an expression and two numbers in parentheses.
     Cut,
+    /// `ext`, with an expression and a number in parentheses.
     Ext,
+    /// `sext`, with an expression and a number in parentheses.
     Sext,
+    /// `sel`, with three expressions in parentheses.
     Sel,
 }
 
 /// A word that begins a statement.
 #[derive(Clone, Copy, Debug, PartialEq, Eq)]
 pub enum StmtWord {
+    /// `let`, with a name and what is assigned to it.
     Let,
+    /// `mem`, with an address in brackets and what is assigned to that cell.
     Mem,
+    /// `pc`, with what is assigned to it.
     Pc,
+    /// `mode`, with what is assigned to it.
     Mode,
+    /// `rel`, with what is assigned to it.
     Rel,
+    /// `bound`, with what is assigned to it.
     Bound,
+    /// `trap`, alone.
     Trap,
+    /// `if`, with an expression, a block, and an else or none.
     If,
 }
 
 /// A word that stands at a fixed place of the head.
 #[derive(Clone, Copy, Debug, PartialEq, Eq)]
 pub enum HeadWord {
+    /// `machine`, the first word of a description.
     Machine,
+    /// `word`, before the number of bits of a word.
     Word,
+    /// `address`, before the number of bits of an address.
     Address,
+    /// `size`, before the number of cells.
     Size,
+    /// `on`, behind `causes`.
     On,
 }
 
