@@ -1,8 +1,9 @@
 //! Images: the words that a storage begins with, read from text.
 //!
-//! The text is read three times, each time line by line: for bytes that may not stand where they do, for lines of another
-//! form, and to put the words. So the first fault is told in that order, wherever it stands. The time grows with the bytes,
-//! and with the size once; memory is taken for the image, and for a flag a cell.
+//! `pg_tool` calls `read_image` with the bytes of a file. The text is read three times, each time line by line: for bytes
+//! that may not stand where they do, for lines of another form (`scan`), and to put the words (`placing`). So the first
+//! fault is told in that order, wherever it stands. The time grows with the bytes, and with the size once; memory is taken
+//! for the image, and for a flag a cell, and only once the text is known to have the form of an image.
 
 ghost use Rattle.std.specs.Prelude.{◌≡◌, ◌<◌, ◌≤◌, ◌^◌, length, vec_len, replicate, false, All, IfOk};
 ghost use Rattle.pg_word.specs.Shape.{IsShape};
@@ -15,10 +16,10 @@ use pg_word::Shape;
 use sqlite_items::Items;
 use std::alloc::{AllocError, Global};
 
-/// An image: a list of words.
+/// An image: the words of the cells of a storage, from cell 0 on.
 pub type Image = Items<u64>;
 
-/// The most bytes that an image's text may have.
+/// The most bytes that an image's text may have: with one more it is `Long`.
 const MOST_BYTES: usize = 33_554_432;
 
 /// So many cells, all zero.

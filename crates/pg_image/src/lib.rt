@@ -4,8 +4,8 @@
 //!
 //! # What the bytes of an image mean
 //!
-//! - There are at most 33,554,432 bytes. `#` begins a comment, up to, and without, the next LF; it may hold any byte. Outside
-//!   comments only hexadecimal digits of either case, `:`, space, tab, CR and LF may stand.
+//! - There are at most 33,554,432 bytes. `#` begins a comment, up to, and without, the next LF; it may hold any byte.
+//!   Outside comments only hexadecimal digits of either case, `:`, space, tab, CR and LF may stand.
 //! - The text is cut into lines at LF, numbered from 1. Space, tab and CR separate the parts of a line. A line without parts
 //!   says nothing. Any other is a row: an address, which is 1 to 7 decimal digits with a colon right behind them, and one
 //!   word or more, each of exactly as many hexadecimal digits as the shape's words have.

@@ -2,7 +2,8 @@
 //!
 //! A state is shown as lines of ASCII: its size, its program status word, and its cells, eight on a line. Each function
 //! here writes one line, into a vector that lies in the value itself, so that it takes no memory and refuses nothing. Which
-//! lines of cells are shown, and in what order the lines stand, is for the caller; `state_text` of the definitions says it.
+//! lines of cells are shown, and in what order the lines stand, is for the caller, `pg_report`; `state_text` of the
+//! definitions says it. The longest line is one of eight cells of 64 bits: 12 bytes and 17 for each, 148 of the 160.
 
 ghost use Rattle.std.specs.Prelude.{◌≡◌, ◌+◌, ◌*◌, ◌/◌, ◌%◌, ◌^◌, ◌<◌, ◌≤◌, ◌++◌, ◌∷◌, length, All};
 ghost use Rattle.std.specs.Fmt.{decimal};
@@ -15,7 +16,7 @@ use arrayvec::ArrayVec;
 use pg_text::{dec, hex_word};
 use pg_word::{Mode, Psw, Shape};
 
-/// A line of a state text, with its LF.
+/// A line of text, with its LF: at most 160 bytes.
 pub type Line = ArrayVec<u8, 160>;
 
 /// Puts bytes at the end of a line that has room for them.

@@ -1,9 +1,10 @@
 //! What one line of an image says.
 //!
 //! A line has no part and says nothing, or its parts are an address and words and make a row, or it is of another form.
-//! A row is not copied out: its words stay text, of which it is known that each part is a word, and how many there are.
+//! `scan` asks for the form alone, and `placing` puts the row. A row is not copied out: its words stay text, of which it is
+//! known that each part is a word, and how many there are, so that they can be put as they are read. No memory is taken.
 
-ghost use Rattle.std.specs.Prelude.{◌≡◌, ◌+◌, ◌*◌, ◌/◌, ◌%◌, ◌^◌, ◌<◌, ◌≤◌, ◌==◌, ◌&&◌, length, All, IsTrue, if◌then◌else◌, Some, None};
+ghost use Rattle.std.specs.Prelude.{◌≡◌, ◌%◌, ◌^◌, ◌<◌, ◌≤◌, length, All, IsTrue, if◌then◌else◌, Some, None};
 ghost use Rattle.std.specs.List.{list_all};
 ghost use Rattle.std.specs.Char.{digit_value, is_ascii_digit, is_ascii_hexdigit};
 ghost use Rattle.std.specs.Str.Parse.{digits_value};
@@ -12,11 +13,14 @@ ghost use Rattle.pg_image.specs.Forms.{IsForm};
 
 use crate::cutting::{content, split_part};
 
-/// The row of a line: the first cell that it gives, how many cells it gives, and the text of its words.
+/// The row of a line, whose words are still text.
 #[derive(Drop)]
 pub struct RowText<'a> {
+    /// The number of the first cell that it gives: at most 9,999,999, which may be past the size.
     pub first: usize,
+    /// How many cells it gives: 1 or more, one for each part of `words`.
     pub count: usize,
+    /// What stands behind the address, up to the comment or the end of the line: words, and what separates them.
     pub words: &'a [u8],
 }
 
