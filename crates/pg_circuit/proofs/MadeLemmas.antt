@@ -1,5 +1,5 @@
 -- What follows for the gates that are made, and for those that were there.
-use Rattle.std.proofs.Common.{◌≤◌, Result, Ok, Err, IfOk, OnErr, length-take, ◌≡◌, ℕ, ◌+◌, ◌<◌, Bool, true, false, ◌&&◌, ◌==◌, not, if◌then◌else◌, List, [], ◌∷◌, ◌++◌, length, take, drop, get_or, slice_get, Option, None, Some, refl, sym, ap, subst, ◌∙◌, arith, length-append, zero-add}
+use Rattle.std.proofs.Common.{Result, Ok, Err, IfOk, OnErr, ◌≡◌, ℕ, ◌+◌, ◌<◌, Bool, true, false, ◌&&◌, ◌==◌, not, if◌then◌else◌, List, [], ◌∷◌, ◌++◌, length, take, drop, get_or, slice_get, Option, None, Some, refl, sym, ap, subst, ◌∙◌, arith, length-append, zero-add}
 use Rattle.std.specs.declared.alloc.AllocError.{AllocError}
 use Rattle.std.proofs.Math.Bool.{beq}
 use Rattle.std.proofs.Math.Seq.{get_or-append_seam, take-append_seam}
@@ -35,7 +35,7 @@ gate_value-front inputs old new x front lt =
     ∙ ap (λ vs. gate_value vs x) (values_after-append inputs [] old (drop (length old) new))
     ∙ ap (λ b. differ b x.negated) (values_after-get inputs (values_of inputs old) (drop (length old) new) x.number long)
 
-IsFront-same : (ns : List Node) → IsFront ns ns
+pub IsFront-same : (ns : List Node) → IsFront ns ns
 IsFront-same ns = ap (take (length ns)) (sym (append-nil ns)) ∙ take-append_seam ns []
 
 -- the constant
@@ -311,8 +311,7 @@ pub made-there : (r : Result Gate AllocError) (old new : List Node) (m : Gate ×
 made-there (Err e) old new m h made = tt
 made-there (Ok g) old new m h made = subst (λ (p : Gate × List Node). p.0.number < length p.1) (sym made) h.there
 
-pub made-grown : (r : Result Gate AllocError) (old new : List Node) (m : Gate × List Node) → IsMade old m → IfOk r (λ g. (g, new) ≡ m) →
-    OnErr r (new ≡ old) → length old ≤ length new
-made-grown (Err e) old new m h made err = omega (arith, ap length err)
-made-grown (Ok g) old new m h made err =
-    omega (arith, ap length h.front, length-take (length old) m.1, ap (λ (p : Gate × List Node). length p.1) made)
+pub made-kept : (r : Result Gate AllocError) (old new : List Node) (m : Gate × List Node) → IsMade old m → IfOk r (λ g. (g, new) ≡ m) →
+    OnErr r (new ≡ old) → IsFront old new
+made-kept (Err e) old new m h made err = subst (IsFront old) (sym err) (IsFront-same old)
+made-kept (Ok g) old new m h made err = subst (λ (p : Gate × List Node). IsFront old p.1) (sym made) h.front

@@ -1,10 +1,20 @@
-//! Circuits that grow gate by gate.
+//! Circuits that grow gate by gate: a circuit is its nodes in order and how many of them are inputs.
+//!
+//! This is structural hashing: before a node is added it is looked up, and an equal one that is there is taken in its place.
+//! What needs no node (`simplify`) is found before that, so that a constant or an operand stands for its gate. Nodes are
+//! never taken away nor changed, and so a gate, which is a place among them, is a handle for ever: it keeps its value in
+//! each circuit that this one grows into.
+//!
+//! `pg_vec` builds strings of gates by `and` and `xor`, and rests on `made` for which nodes there are then, and on `kept`
+//! for those that were there, also where memory runs out. `pg_cnf` reads the nodes, and writes their clauses. `eval` is the
+//! other reader: it says what all nodes are worth on values of the inputs.
 
-ghost use Rattle.std.specs.Prelude.{◌≡◌, ◌<◌, ◌≤◌, ◌^◌, ◌∷◌, [], length, IsOk, IfOk, OnErr};
+ghost use Rattle.std.specs.Prelude.{◌≡◌, ◌<◌, ◌^◌, ◌∷◌, [], length, IsOk, IfOk, OnErr};
 ghost use Rattle.pg_circuit.specs.declared.node.Node.TheVariants.{Constant};
 ghost use Rattle.pg_circuit.specs.Nodes.{input_count, IsCircuit, IsCircuit-prop};
 ghost use Rattle.pg_circuit.specs.Values.{values_of};
 ghost use Rattle.pg_circuit.specs.Made.{constant_gate, not_gate, and_made, xor_made, input_made};
+ghost use Rattle.pg_circuit.specs.Grown.{IsFront};
 
 use crate::node::{Gate, Node};
 use crate::simplify::{and_simplified, constant_gate, not_gate, xor_simplified};
@@ -12,8 +22,8 @@ use crate::table::NodeTable;
 use crate::value::node_value;
 use std::alloc::{AllocError, Global};
 
-/// Gates over inputs. Each node is there once, and a gate is known by the place of its node. There are fewer than 2^31 nodes:
-/// one more is want of memory.
+/// Gates over inputs. Each node is there once, and a gate is known by the place of its node. There are fewer than 2^31
+/// nodes: one more is want of memory.
 #[derive(Drop)]
 pub struct Circuit {
     nodes: NodeTable,
@@ -69,11 +79,11 @@ impl Circuit {
         not_gate(x)
     }
 
-    /// One more input. The error is want of memory, and the circuit stays.
+    /// One more input, whose number is that of the inputs before it. The error is want of memory, and the circuit stays.
     pub fn input(&mut self) -> Result<Gate, AllocError>
         ensures made { IfOk result (λ gate. (gate, self.new.nodes) ≡ input_made self.old.nodes) }
         ensures there { IfOk result (λ gate. gate.number < length self.new.nodes) }
-        ensures grown { length self.old.nodes ≤ length self.new.nodes }
+        ensures kept { IsFront self.old.nodes self.new.nodes }
         ensures err { OnErr result (self.new ≡ self.old) }
     {
         let gate = self.nodes.add(Node::Input(self.inputs))?;
@@ -81,13 +91,14 @@ impl Circuit {
         Ok(gate)
     }
 
-    /// The and of two gates of the circuit. The error is want of memory for a node that was not there, and the circuit stays.
+    /// The and of two gates of the circuit. The error is want of memory for a node that was not there, and the circuit
+    /// stays.
     pub fn and(&mut self, x: Gate, y: Gate) -> Result<Gate, AllocError>
         requires left { x.number < length self.old.nodes }
         requires right { y.number < length self.old.nodes }
         ensures made { IfOk result (λ gate. (gate, self.new.nodes) ≡ and_made self.old.nodes x y) }
         ensures there { IfOk result (λ gate. gate.number < length self.new.nodes) }
-        ensures grown { length self.old.nodes ≤ length self.new.nodes }
+        ensures kept { IsFront self.old.nodes self.new.nodes }
         ensures found { (and_made self.old.nodes x y).1 ≡ self.old.nodes → IsOk result }
         ensures err { OnErr result (self.new ≡ self.old) }
     {
@@ -104,7 +115,7 @@ impl Circuit {
         requires right { y.number < length self.old.nodes }
         ensures made { IfOk result (λ gate. (gate, self.new.nodes) ≡ xor_made self.old.nodes x y) }
         ensures there { IfOk result (λ gate. gate.number < length self.new.nodes) }
-        ensures grown { length self.old.nodes ≤ length self.new.nodes }
+        ensures kept { IsFront self.old.nodes self.new.nodes }
         ensures found { (xor_made self.old.nodes x y).1 ≡ self.old.nodes → IsOk result }
         ensures err { OnErr result (self.new ≡ self.old) }
     {
@@ -114,7 +125,8 @@ impl Circuit {
         }
     }
 
-    /// The value of each node, where the inputs have values: place k of `values` gets that of node k.
+    /// The value of each node, where the inputs have values: there is one value for each of the `inputs()`, in order, and
+    /// `values` has `len()` places, of which place k gets the value of node k.
     pub fn eval(&self, inputs: &[bool], values: &mut [bool])
         requires inputs { length inputs.now ≡ input_count self.now.nodes }
         requires room { length values.old ≡ length self.now.nodes }

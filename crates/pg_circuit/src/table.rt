@@ -1,4 +1,12 @@
 //! The nodes of a circuit, found by look-up.
+//!
+//! This is the unique table of structural hashing: nodes in the order in which they were added, and beside them a hash
+//! index from a node to its place. So a node is there once, the place of a node that is there is found in constant time,
+//! and a node's place never changes. Whether two nodes are equal is read off them as they stand, operands in their order:
+//! `x and y` and `y and x` are two.
+//!
+//! Only `Circuit` calls it: `place` for an and or an exclusive or, which may be there, and `add` for the constant and for
+//! inputs, which are not. It knows nothing of values, nor of which nodes may follow which.
 
 ghost use Rattle.std.specs.Prelude.{◌≡◌, ◌+◌, ◌<◌, ◌^◌, ◌++◌, ◌∷◌, [], true, false, length, IsOk, IfOk, OnErr};
 ghost use Rattle.pg_circuit.specs.Nodes.{has_node};

@@ -62,7 +62,7 @@ fn a_gate_that_is_there_is_found(rt: HostRuntime) -> Result<(), Fail> {
 }
 
 #[test]
-fn constants_and_equal_operands_need_no_node(rt: HostRuntime) -> Result<(), Fail> {
+fn ands_that_need_no_node(rt: HostRuntime) -> Result<(), Fail> {
     let mut circuit = Circuit::new(rt.alloc())?;
     let x = circuit.input()?;
     let not_x = circuit.not(x);
@@ -78,6 +78,17 @@ fn constants_and_equal_operands_need_no_node(rt: HostRuntime) -> Result<(), Fail
     ] {
         assert!(rt; and(&rt, &mut circuit, left, right)? == gate);
     }
+    assert!(rt; circuit.len() == 2);
+    Ok(())
+}
+
+#[test]
+fn exclusive_ors_that_need_no_node(rt: HostRuntime) -> Result<(), Fail> {
+    let mut circuit = Circuit::new(rt.alloc())?;
+    let x = circuit.input()?;
+    let not_x = circuit.not(x);
+    let no = circuit.constant(false);
+    let yes = circuit.constant(true);
     for (left, right, gate) in [
         (no, x, x),
         (x, no, x),

@@ -1,5 +1,7 @@
 -- Gates of different nodes make a clause.
-use Rattle.std.proofs.Common.{length, length-append, ◌≡◌, ℕ, ◌+◌, ◌≤◌, Bool, true, false, if◌then◌else◌, ℤ, pos, negsuc, nat_abs, List, [], ◌∷◌, ◌++◌, refl, sym, ap, subst, arith}
+use Rattle.std.proofs.Common.{Result, Ok, Err, OnOk, OnErr, length, length-append, ◌≡◌, ℕ, ◌+◌, ◌≤◌, Bool, true, false, if◌then◌else◌, ℤ, pos, negsuc, nat_abs, List, [], ◌∷◌, ◌++◌, refl, sym, ap, subst, arith}
+use Rattle.std.specs.Prelude.{⊤}
+use Rattle.std.specs.declared.alloc.AllocError.{AllocError}
 use Rattle.pg_circuit.specs.declared.node.Gate.{Gate}
 use Rattle.pg_cnf.specs.Literals.{AreLiterals, IsAbsent, AreDistinct, IsClause, AreClauses}
 use Rattle.pg_cnf.specs.Encoded.{literal_of, clause_of, AreOthers, AreApart}
@@ -46,8 +48,8 @@ pub record Pushed (variables : ℕ) (old new : List (List ℤ)) : Type 0 where
   pub clauses : AreClauses variables new
   pub few : length new ≤ length old + 1
 
-pub push-clauses : (ok : Bool) (m : ℕ) (old new : List (List ℤ)) (c : List ℤ) → AreClauses m old → IsClause m c →
-    new ≡ (if ok then old ++ c ∷ [] else old) → Pushed m old new
-push-clauses true m old new c h k e =
-    record { clauses = subst (AreClauses m) (sym e) (AreClauses-push m old c h k); few = omega (arith, ap length e, length-append old (c ∷ [])) }
-push-clauses false m old new c h k e = record { clauses = subst (AreClauses m) (sym e) h; few = omega (arith, ap length e) }
+pub push-clauses : (r : Result ⊤ AllocError) (m : ℕ) (old new : List (List ℤ)) (c : List ℤ) → AreClauses m old → IsClause m c →
+    OnOk r (new ≡ old ++ c ∷ []) → OnErr r (new ≡ old) → Pushed m old new
+push-clauses (Ok u) m old new c h k ok err =
+    record { clauses = subst (AreClauses m) (sym ok) (AreClauses-push m old c h k); few = omega (arith, ap length ok, length-append old (c ∷ [])) }
+push-clauses (Err e) m old new c h k ok err = record { clauses = subst (AreClauses m) (sym err) h; few = omega (arith, ap length err) }

@@ -1,6 +1,15 @@
-//! The clauses of a circuit.
+//! The clauses of a circuit: Tseitin's encoding (1968).
+//!
+//! Each node of the circuit has a variable of its own, and clauses that tie it to those of its operands: three for an and,
+//! four for an exclusive or, one for the constant and none for an input. One more clause says that the root is true. So the
+//! clauses are as many as the nodes, but for a small factor, where the formula of the root itself may be far longer. Every
+//! node has its clauses, also one that the root does not need, so that an assignment that makes all of them true is an
+//! evaluation of the whole circuit.
+//!
+//! `encode` is the one call, for whoever asks a solver whether a gate can be true. Nothing is simplified here: the circuit
+//! did that when it was built, so both operands of a node vary and differ, and no clause has a literal twice.
 
-ghost use Rattle.std.specs.Prelude.{◌≡◌, ◌+◌, ◌<◌, ◌≤◌, ◌^◌, ◌++◌, ◌∷◌, [], length, IfOk, OnOk};
+ghost use Rattle.std.specs.Prelude.{◌≡◌, ◌+◌, ◌*◌, ◌<◌, ◌≤◌, ◌^◌, ◌++◌, ◌∷◌, [], length, IfOk, OnOk};
 ghost use Rattle.pg_circuit.specs.Made.{not_gate};
 ghost use Rattle.pg_cnf.specs.Encoded.{literal_of, clause_of, and_clauses, xor_clauses, node_clauses, clauses_of, IsPlaced, AreApart};
 
@@ -9,13 +18,15 @@ use pg_circuit::{Circuit, Gate, Node};
 use smallvec::SmallVec;
 use std::alloc::{AllocError, Global};
 
-/// The clauses that say that a gate of a circuit is true: they are all true exactly on the values of the circuit's nodes
-/// where the gate is. Variable k + 1 stands for node k. The error is want of memory.
+/// The clauses that say that a gate of the circuit, the root, is true: they are all true exactly on the values of the
+/// circuit's nodes where the root is. Variable k + 1 stands for node k. The circuit has fewer than 2^29 nodes, and there are
+/// at most 4 clauses a node and 2 more. This is Tseitin's encoding (1968). The error is want of memory.
 pub fn encode(alloc: Global, circuit: &Circuit, root: Gate) -> Result<Cnf, AllocError>
     requires root { root.number < length circuit.now.nodes }
     requires small { length circuit.now.nodes < 2 ^ 29 }
-    ensures clauses { IfOk result (λ cnf. cnf.clauses.items ≡ clauses_of circuit.now.nodes root) }
+    ensures clauses { IfOk result (λ cnf. cnf.clauses ≡ clauses_of circuit.now.nodes root) }
     ensures variables { IfOk result (λ cnf. cnf.variables ≡ length circuit.now.nodes) }
+    ensures few { IfOk result (λ cnf. length cnf.clauses ≤ 4 * length circuit.now.nodes + 2) }
 {
     let nodes = circuit.nodes();
     let mut cnf = Cnf::new(alloc, nodes.len() as u32);
@@ -29,9 +40,9 @@ pub fn encode(alloc: Global, circuit: &Circuit, root: Gate) -> Result<Cnf, Alloc
 /// Adds the clauses of the node with a number. The error is want of memory.
 fn add_node(alloc: Global, cnf: &mut Cnf, number: u32, node: Node) -> Result<(), AllocError>
     requires there { number < cnf.old.variables }
-    requires room { length cnf.old.clauses.items + 4 < 2 ^ 31 }
+    requires room { length cnf.old.clauses + 4 < 2 ^ 31 }
     requires placed { IsPlaced number node }
-    ensures clauses { OnOk result (cnf.new.clauses.items ≡ cnf.old.clauses.items ++ node_clauses number node) }
+    ensures clauses { OnOk result (cnf.new.clauses ≡ cnf.old.clauses ++ node_clauses number node) }
     ensures variables { cnf.new.variables ≡ cnf.old.variables }
 {
     let own = Gate {
@@ -48,9 +59,9 @@ fn add_node(alloc: Global, cnf: &mut Cnf, number: u32, node: Node) -> Result<(),
 
 /// Adds that v is true exactly where x and y both are. The error is want of memory.
 fn add_and(alloc: Global, cnf: &mut Cnf, v: Gate, x: Gate, y: Gate) -> Result<(), AllocError>
-    requires room { length cnf.old.clauses.items + 4 < 2 ^ 31 }
+    requires room { length cnf.old.clauses + 4 < 2 ^ 31 }
     requires apart { AreApart cnf.old.variables (v ∷ x ∷ y ∷ []) }
-    ensures clauses { OnOk result (cnf.new.clauses.items ≡ cnf.old.clauses.items ++ and_clauses v x y) }
+    ensures clauses { OnOk result (cnf.new.clauses ≡ cnf.old.clauses ++ and_clauses v x y) }
     ensures variables { cnf.new.variables ≡ cnf.old.variables }
 {
     add(alloc, cnf, &[negation(v), x])?;
@@ -61,9 +72,9 @@ fn add_and(alloc: Global, cnf: &mut Cnf, v: Gate, x: Gate, y: Gate) -> Result<()
 
 /// Adds that v is true exactly where one of x and y is. The error is want of memory.
 fn add_xor(alloc: Global, cnf: &mut Cnf, v: Gate, x: Gate, y: Gate) -> Result<(), AllocError>
-    requires room { length cnf.old.clauses.items + 4 < 2 ^ 31 }
+    requires room { length cnf.old.clauses + 4 < 2 ^ 31 }
     requires apart { AreApart cnf.old.variables (v ∷ x ∷ y ∷ []) }
-    ensures clauses { OnOk result (cnf.new.clauses.items ≡ cnf.old.clauses.items ++ xor_clauses v x y) }
+    ensures clauses { OnOk result (cnf.new.clauses ≡ cnf.old.clauses ++ xor_clauses v x y) }
     ensures variables { cnf.new.variables ≡ cnf.old.variables }
 {
     add(alloc, cnf, &[negation(v), x, y])?;
@@ -75,9 +86,9 @@ fn add_xor(alloc: Global, cnf: &mut Cnf, v: Gate, x: Gate, y: Gate) -> Result<()
 
 /// Adds that one of some gates is true. The error is want of memory.
 fn add(alloc: Global, cnf: &mut Cnf, gates: &[Gate]) -> Result<(), AllocError>
-    requires room { length cnf.old.clauses.items + 1 < 2 ^ 31 }
+    requires room { length cnf.old.clauses + 1 < 2 ^ 31 }
     requires apart { AreApart cnf.old.variables gates.now }
-    ensures clauses { OnOk result (cnf.new.clauses.items ≡ cnf.old.clauses.items ++ clause_of gates.now ∷ []) }
+    ensures clauses { OnOk result (cnf.new.clauses ≡ cnf.old.clauses ++ clause_of gates.now ∷ []) }
     ensures variables { cnf.new.variables ≡ cnf.old.variables }
 {
     let literals = literals_of(alloc, gates, cnf.variables)?;

@@ -1,6 +1,6 @@
 //! Clauses of small circuits, on all assignments.
 
-use crate::{Cnf, encode};
+use crate::{Clause, Cnf, encode};
 use pg_circuit::{Circuit, Gate};
 use std::alloc::{AllocError, Global};
 use std::process::Abort;
@@ -15,14 +15,20 @@ fn literal_true(assignment: &[bool], literal: i32) -> bool {
     }
 }
 
+/// Whether an assignment makes one of a clause's literals true.
+fn clause_true(assignment: &[bool], clause: &Clause) -> bool {
+    for literal in clause.lits() {
+        if literal_true(assignment, *literal) {
+            return true;
+        }
+    }
+    false
+}
+
 /// Whether an assignment makes all clauses true.
 fn satisfies(cnf: &Cnf, assignment: &[bool]) -> bool {
     for clause in cnf.clauses.as_slice() {
-        let mut one = false;
-        for literal in clause.lits() {
-            one |= literal_true(assignment, *literal);
-        }
-        if !one {
+        if !clause_true(assignment, clause) {
             return false;
         }
     }

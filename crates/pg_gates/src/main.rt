@@ -91,7 +91,7 @@ fn large(alloc: Global) -> Option<Counts> {
     let mut x = inputs(alloc, &mut circuit)?;
     let y = inputs(alloc, &mut circuit)?;
     let before = circuit.len();
-    for _ in 0..64 {
+    for _ in 0..MANY {
         if circuit.len() >= MANY {
             break;
         }

@@ -1,5 +1,5 @@
 -- What a circuit that grows keeps, and what an and and an exclusive or make.
-use Rattle.std.proofs.Common.{◌≡◌, ◌+◌, ◌<◌, ◌≤◌, Bool, true, false, ◌&&◌, List, [], ◌∷◌, ◌++◌, length, take, get_or, sym, ap, ◌∙◌, subst, arith, Option, Some, None, Result, Ok, Err}
+use Rattle.std.proofs.Common.{◌≡◌, ℕ, ◌+◌, ◌*◌, ◌<◌, ◌≤◌, Bool, true, false, ◌&&◌, List, [], ◌∷◌, ◌++◌, length, take, get_or, refl, sym, ap, ◌∙◌, subst, add-one, arith, Option, Some, None, Result, Ok, Err}
 use Rattle.std.proofs.lemmas.List.{take-take, take_all, length-take, get_or-take, length_push}
 use Rattle.std.proofs.lemmas.List.Elements.{All-weaker}
 use Rattle.pg_circuit.specs.declared.node.Gate.{Gate}
@@ -8,12 +8,15 @@ use Rattle.pg_circuit.specs.declared.node.Node.TheVariants.{And, Xor}
 use Rattle.pg_circuit.specs.Nodes.{has_node, IsCircuit}
 use Rattle.pg_circuit.specs.Values.{differ, gate_value, values_of, IsThere}
 use Rattle.pg_circuit.specs.Made.{constant_gate, and_simplified, xor_simplified, with_node, made, and_made, xor_made}
-use Rattle.pg_circuit.specs.declared.circuit.Circuit.{Circuit}
-use Rattle.std.specs.declared.alloc.AllocError.{AllocError}
 use Rattle.std.specs.Prelude.{if◌then◌else◌, IfOk, OnErr}
 use Rattle.pg_circuit.specs.Grown.{IsFront}
 use Rattle.pg_vec.specs.There.{AreThere, AreValues}
 use Rattle.pg_vec.specs.Makes.{MakesGate}
+use Rattle.pg_vec.specs.Adds.{Adds}
+use Rattle.std.proofs.Math.Nat.{suc-mul}
+use Rattle.std.proofs.lemmas.Nat.{mul-le}
+use Rattle.pg_circuit.specs.declared.circuit.Circuit.{Circuit}
+use Rattle.std.specs.declared.alloc.AllocError.{AllocError}
 use Rattle.pg_circuit.proofs.MadeLemmas.{values_of-front, constant_value, and_made-there, and_made-inputs, and_made-value, xor_made-there, xor_made-inputs, xor_made-value}
 
 -- ---- a circuit that grows
@@ -39,6 +42,37 @@ there_later before after g h t =
 pub all_there_later : (before after : List Node) (gs : List Gate) → IsFront before after → AreThere (length before) gs → AreThere (length after) gs
 all_there_later before after gs h t =
     All-weaker (IsThere (length before)) (IsThere (length after)) (λ g k. there_later before after g h k) gs t
+
+-- ---- what is added
+
+pub adds_none : (nodes : List Node) → Adds nodes nodes 0
+adds_none nodes = record { front = front_same nodes; few = omega arith; inputs = refl }
+
+pub adds_then : (a b c : List Node) (m n : ℕ) → Adds a b m → Adds b c n → Adds a c (m + n)
+adds_then a b c m n h k = record { front = front_then a b c h.front k.front; few = let p = h.few in let q = k.few in omega arith; inputs = k.inputs ∙ h.inputs }
+
+pub adds_more : (old new : List Node) (m n : ℕ) → Adds old new m → m ≤ n → Adds old new n
+adds_more old new m n h l = record { front = h.front; few = let p = h.few in omega arith; inputs = h.inputs }
+
+-- one more round
+pub adds_next : (old nodes new : List Node) (count each : ℕ) → Adds old nodes (count * each) → Adds nodes new each → Adds old new ((count + 1) * each)
+adds_next old nodes new count each h k =
+    let e : (count + 1) * each ≡ count * each + each = ap (λ n. n * each) (add-one count) ∙ suc-mul count each in
+    subst (λ n. Adds old new n) (sym e) (adds_then old nodes new (count * each) each h k)
+
+-- some rounds, and a part of one that was cut off
+pub adds_cut : (old nodes new : List Node) (count all each part : ℕ) → Adds old nodes (count * each) → Adds nodes new part → part ≤ each → count < all → Adds old new (all * each)
+adds_cut old nodes new count all each part h k l m =
+    adds_more old new ((count + 1) * each) (all * each)
+    (adds_next old nodes new count each h (adds_more nodes new part each k l)) (mul-le (count + 1) each all each (omega arith) (omega arith))
+
+-- all rounds
+pub adds_rounds : (old new : List Node) (count all each : ℕ) → Adds old new (count * each) → count ≤ all → Adds old new (all * each)
+adds_rounds old new count all each h l = adds_more old new (count * each) (all * each) h (mul-le count each all each l (omega arith))
+
+-- at most six rounds
+pub adds_six : (old new : List Node) (count each : ℕ) → Adds old new (count * each) → count ≤ 6 → Adds old new (6 * each)
+adds_six old new count each h l = adds_rounds old new count 6 each h l
 
 -- ---- values
 
@@ -118,24 +152,18 @@ xor-makes nodes x y h tx ty =
           ∙ ap (λ b. differ (gate_value values x) b) (sym (value-kept inputs values nodes y u ty));
     }
 
--- ---- what the circuit's calls leave
+-- ---- what the circuit's calls add
 
-pub and_there : (r : Result Gate AllocError) (old new : List Node) (x y : Gate) → IsCircuit old → IsThere (length old) x → IsThere (length old) y →
-    IfOk r (λ g. (g, new) ≡ and_made old x y) → IfOk r (λ g. g.number < length new)
-and_there (Ok g) old new x y h tx ty e = subst (λ (m : Gate × List Node). m.0.number < length m.1) (sym e) (and_made-there old h x y tx ty).there
-and_there (Err e') old new x y h tx ty e = e
+pub and_adds : (r : Result Gate AllocError) (old new : Circuit) (x y : Gate) → IsThere (length old.nodes) x → IsThere (length old.nodes) y →
+    IfOk r (λ g. (g, new.nodes) ≡ and_made old.nodes x y) → OnErr r (new ≡ old) → Adds old.nodes new.nodes 1
+and_adds (Ok g) old new x y tx ty e f =
+    let m = and-makes old.nodes x y old.circuit tx ty in
+    subst (λ (k : Gate × List Node). Adds old.nodes k.1 1) (sym e) (record { front = m.grown; few = m.few; inputs = m.inputs })
+and_adds (Err e') old new x y tx ty e f = subst (λ (m : Circuit). Adds old.nodes m.nodes 1) (sym f) (adds_more _ _ 0 1 (adds_none old.nodes) (omega arith))
 
-pub xor_there : (r : Result Gate AllocError) (old new : List Node) (x y : Gate) → IsCircuit old → IsThere (length old) x → IsThere (length old) y →
-    IfOk r (λ g. (g, new) ≡ xor_made old x y) → IfOk r (λ g. g.number < length new)
-xor_there (Ok g) old new x y h tx ty e = subst (λ (m : Gate × List Node). m.0.number < length m.1) (sym e) (xor_made-there old h x y tx ty).there
-xor_there (Err e') old new x y h tx ty e = e
-
-pub and_kept : (r : Result Gate AllocError) (old new : Circuit) (x y : Gate) → IsCircuit old.nodes → IsThere (length old.nodes) x → IsThere (length old.nodes) y →
-    IfOk r (λ g. (g, new.nodes) ≡ and_made old.nodes x y) → OnErr r (new ≡ old) → IsFront old.nodes new.nodes
-and_kept (Ok g) old new x y h tx ty e f = subst (λ (m : Gate × List Node). IsFront old.nodes m.1) (sym e) (and_made-there old.nodes h x y tx ty).front
-and_kept (Err e') old new x y h tx ty e f = subst (λ (m : Circuit). IsFront old.nodes m.nodes) (sym f) (front_same old.nodes)
-
-pub xor_kept : (r : Result Gate AllocError) (old new : Circuit) (x y : Gate) → IsCircuit old.nodes → IsThere (length old.nodes) x → IsThere (length old.nodes) y →
-    IfOk r (λ g. (g, new.nodes) ≡ xor_made old.nodes x y) → OnErr r (new ≡ old) → IsFront old.nodes new.nodes
-xor_kept (Ok g) old new x y h tx ty e f = subst (λ (m : Gate × List Node). IsFront old.nodes m.1) (sym e) (xor_made-there old.nodes h x y tx ty).front
-xor_kept (Err e') old new x y h tx ty e f = subst (λ (m : Circuit). IsFront old.nodes m.nodes) (sym f) (front_same old.nodes)
+pub xor_adds : (r : Result Gate AllocError) (old new : Circuit) (x y : Gate) → IsThere (length old.nodes) x → IsThere (length old.nodes) y →
+    IfOk r (λ g. (g, new.nodes) ≡ xor_made old.nodes x y) → OnErr r (new ≡ old) → Adds old.nodes new.nodes 1
+xor_adds (Ok g) old new x y tx ty e f =
+    let m = xor-makes old.nodes x y old.circuit tx ty in
+    subst (λ (k : Gate × List Node). Adds old.nodes k.1 1) (sym e) (record { front = m.grown; few = m.few; inputs = m.inputs })
+xor_adds (Err e') old new x y tx ty e f = subst (λ (m : Circuit). Adds old.nodes m.nodes 1) (sym f) (adds_more _ _ 0 1 (adds_none old.nodes) (omega arith))

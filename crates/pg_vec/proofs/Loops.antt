@@ -1,6 +1,7 @@
 -- What loops over bits keep.
 use Rattle.std.proofs.Common.{◌≡◌, ℕ, ◌+◌, ◌*◌, ◌<◌, ◌≤◌, false, List, [], ◌∷◌, ◌++◌, length, take, drop, get_or, refl, sym, ap, ◌∙◌, subst, append_assoc}
 use Rattle.std.proofs.lemmas.List.{drop_more, drop_all, append-nil, length_push, length-replicate}
+use Rattle.std.proofs.Math.Nat.{zero-mul}
 use Rattle.std.proofs.lemmas.List.Elements.{All-nil, All-push, All-get_or}
 use Rattle.pg_circuit.specs.declared.node.Gate.{Gate}
 use Rattle.pg_circuit.specs.declared.node.Node.{Node}
@@ -17,7 +18,8 @@ use Rattle.pg_vec.specs.declared.shift.Direction.TheVariants.{Up, Down}
 use Rattle.pg_vec.specs.Direction.{move_of}
 use Rattle.pg_vec.proofs.Strings.{length-moved_up, length-moved_down, moved_up-there, moved_down-there, zeros-there}
 use Rattle.pg_vec.specs.Strings.{zeros, shift_made, moved_up, carry_into_made, each_made, sum_made, add_made, carry_out_made, same_made, any_made, mux_made, stages_made, row_made, rows_made, mul_made}
-use Rattle.pg_vec.proofs.Kept.{front_same, front_then, there_later, all_there_later}
+use Rattle.pg_vec.specs.Adds.{Adds}
+use Rattle.pg_vec.proofs.Kept.{adds_none, adds_next, there_later, all_there_later}
 
 -- a bit of a string
 abbrev pub bit_at : List Gate → ℕ → Gate
@@ -37,34 +39,38 @@ ready_later old new (Choose choice) f h = there_later old new choice f h
 pub rest_of : (xs : List Gate) (i : ℕ) → i < length xs → drop i xs ≡ bit_at xs i ∷ drop (i + 1) xs
 rest_of xs i l = drop_more xs i (constant_gate false) l
 
+-- before the first round
+pub no_round : (nodes : List Node) (each : ℕ) → Adds nodes nodes (0 * each)
+no_round nodes each = subst (λ n. Adds nodes nodes n) (sym (zero-mul each)) (adds_none nodes)
+
 -- ---- strings that grow bit by bit
 
 abbrev pub with_front : List Gate → List Gate × List Node → List Gate × List Node
 with_front front made = (front ++ made.0, made.1)
 
 -- so many bits were made, and with what is made of the rest they are what is due
-pub record Built (old : List Node) (due : List Gate × List Node) (count : ℕ) (bits : List Gate) (nodes : List Node) (rest : List Gate × List Node) : Type 0 where
+pub record Built (old : List Node) (due : List Gate × List Node) (each count : ℕ) (bits : List Gate) (nodes : List Node) (rest : List Gate × List Node) : Type 0 where
   pub made : with_front bits rest ≡ due
-  pub kept : IsFront old nodes
+  pub kept : Adds old nodes (count * each)
   pub there : AreThere (length nodes) bits
   pub wide : length bits ≡ count
 
-pub built_none : (old : List Node) (due : List Gate × List Node) → Built old due 0 [] old due
-built_none old due = record { made = refl; kept = front_same old; there = All-nil (IsThere (length old)); wide = refl }
+pub built_none : (old : List Node) (due : List Gate × List Node) (each : ℕ) → Built old due each 0 [] old due
+built_none old due each = record { made = refl; kept = no_round old each; there = All-nil (IsThere (length old)); wide = refl }
 
-pub built_next : (old : List Node) (due : List Gate × List Node) (count : ℕ) (bits : List Gate) (nodes : List Node) (rest : List Gate × List Node) (bit : Gate) (new : List Node) (left : List Gate × List Node) →
-    Built old due count bits nodes rest → IsFront nodes new → bit.number < length new → with_front (bit ∷ []) left ≡ rest →
-    Built old due (count + 1) (bits ++ bit ∷ []) new left
-built_next old due count bits nodes rest bit new left b f t e = record {
+pub built_next : (old : List Node) (due : List Gate × List Node) (each count : ℕ) (bits : List Gate) (nodes : List Node) (rest : List Gate × List Node) (bit : Gate) (new : List Node) (left : List Gate × List Node) →
+    Built old due each count bits nodes rest → Adds nodes new each → bit.number < length new → with_front (bit ∷ []) left ≡ rest →
+    Built old due each (count + 1) (bits ++ bit ∷ []) new left
+built_next old due each count bits nodes rest bit new left b f t e = record {
   made = ap (λ gs. (gs, left.1)) (append_assoc bits (bit ∷ []) left.0) ∙ ap (with_front bits) e ∙ b.made;
-  kept = front_then old nodes new b.kept f;
-  there = All-push (IsThere (length new)) bits bit (all_there_later nodes new bits f b.there) t;
+  kept = adds_next old nodes new count each b.kept f;
+  there = All-push (IsThere (length new)) bits bit (all_there_later nodes new bits f.front b.there) t;
   wide = length_push bits bit ∙ ap (λ n. n + 1) b.wide;
 }
 
-pub built_all : (old : List Node) (due : List Gate × List Node) (count : ℕ) (bits : List Gate) (nodes : List Node) (rest : List Gate × List Node) →
-    Built old due count bits nodes rest → rest ≡ ([], nodes) → (bits, nodes) ≡ due
-built_all old due count bits nodes rest b e = sym (ap (with_front bits) e ∙ ap (λ gs. (gs, nodes)) (append-nil bits)) ∙ b.made
+pub built_all : (old : List Node) (due : List Gate × List Node) (each count : ℕ) (bits : List Gate) (nodes : List Node) (rest : List Gate × List Node) →
+    Built old due each count bits nodes rest → rest ≡ ([], nodes) → (bits, nodes) ≡ due
+built_all old due each count bits nodes rest b e = sym (ap (with_front bits) e ∙ ap (λ gs. (gs, nodes)) (append-nil bits)) ∙ b.made
 
 -- bit by bit
 pub each_none : (make : List Node → Gate → Gate → Gate × List Node) (nodes : List Node) (xs ys : List Gate) (i : ℕ) → length xs ≤ i → each_made make nodes (drop i xs) (drop i ys) ≡ ([], nodes)
@@ -106,17 +112,17 @@ sum_next nodes carry xs ys i half bit next n m new lx ly e1 e2 e3 =
 -- ---- gates that gather bits
 
 -- a gate was made, and with what is made of the rest it is what is due
-pub record Folded (old : List Node) (due : Gate × List Node) (gate : Gate) (nodes : List Node) (rest : Gate × List Node) : Type 0 where
+pub record Folded (old : List Node) (due : Gate × List Node) (each count : ℕ) (gate : Gate) (nodes : List Node) (rest : Gate × List Node) : Type 0 where
   pub made : rest ≡ due
-  pub kept : IsFront old nodes
+  pub kept : Adds old nodes (count * each)
   pub there : gate.number < length nodes
 
-pub folded_next : (old : List Node) (due : Gate × List Node) (gate : Gate) (nodes : List Node) (rest : Gate × List Node) (next : Gate) (new : List Node) (left : Gate × List Node) →
-    Folded old due gate nodes rest → IsFront nodes new → next.number < length new → left ≡ rest → Folded old due next new left
-folded_next old due gate nodes rest next new left b f t e = record { made = e ∙ b.made; kept = front_then old nodes new b.kept f; there = t }
+pub folded_next : (old : List Node) (due : Gate × List Node) (each count : ℕ) (gate : Gate) (nodes : List Node) (rest : Gate × List Node) (next : Gate) (new : List Node) (left : Gate × List Node) →
+    Folded old due each count gate nodes rest → Adds nodes new each → next.number < length new → left ≡ rest → Folded old due each (count + 1) next new left
+folded_next old due each count gate nodes rest next new left b f t e = record { made = e ∙ b.made; kept = adds_next old nodes new count each b.kept f; there = t }
 
-pub folded_all : (old : List Node) (due : Gate × List Node) (gate : Gate) (nodes : List Node) (rest : Gate × List Node) → Folded old due gate nodes rest → rest ≡ (gate, nodes) → (gate, nodes) ≡ due
-folded_all old due gate nodes rest b e = sym e ∙ b.made
+pub folded_all : (old : List Node) (due : Gate × List Node) (each count : ℕ) (gate : Gate) (nodes : List Node) (rest : Gate × List Node) → Folded old due each count gate nodes rest → rest ≡ (gate, nodes) → (gate, nodes) ≡ due
+folded_all old due each count gate nodes rest b e = sym e ∙ b.made
 
 -- the carry out
 pub carry_out_none : (nodes : List Node) (carry : Gate) (xs ys : List Gate) (i : ℕ) → length xs ≤ i → carry_out_made nodes carry (drop i xs) (drop i ys) ≡ (carry, nodes)
@@ -172,18 +178,18 @@ any_next nodes so_far xs i next new l e =
 -- ---- strings that are made anew in stages
 
 -- a string was made, and with what is made of the rest it is what is due
-pub record Staged (old : List Node) (due : List Gate × List Node) (width : ℕ) (bits : List Gate) (nodes : List Node) (rest : List Gate × List Node) : Type 0 where
+pub record Staged (old : List Node) (due : List Gate × List Node) (each count width : ℕ) (bits : List Gate) (nodes : List Node) (rest : List Gate × List Node) : Type 0 where
   pub made : rest ≡ due
-  pub kept : IsFront old nodes
+  pub kept : Adds old nodes (count * each)
   pub there : AreThere (length nodes) bits
   pub wide : length bits ≡ width
 
-pub staged_next : (old : List Node) (due : List Gate × List Node) (width : ℕ) (bits : List Gate) (nodes : List Node) (rest : List Gate × List Node) (next : List Gate) (new : List Node) (left : List Gate × List Node) →
-    Staged old due width bits nodes rest → IsFront nodes new → AreThere (length new) next → length next ≡ width → left ≡ rest → Staged old due width next new left
-staged_next old due width bits nodes rest next new left b f t w e = record { made = e ∙ b.made; kept = front_then old nodes new b.kept f; there = t; wide = w }
+pub staged_next : (old : List Node) (due : List Gate × List Node) (each count width : ℕ) (bits : List Gate) (nodes : List Node) (rest : List Gate × List Node) (next : List Gate) (new : List Node) (left : List Gate × List Node) →
+    Staged old due each count width bits nodes rest → Adds nodes new each → AreThere (length new) next → length next ≡ width → left ≡ rest → Staged old due each (count + 1) width next new left
+staged_next old due each count width bits nodes rest next new left b f t w e = record { made = e ∙ b.made; kept = adds_next old nodes new count each b.kept f; there = t; wide = w }
 
-pub staged_all : (old : List Node) (due : List Gate × List Node) (width : ℕ) (bits : List Gate) (nodes : List Node) (rest : List Gate × List Node) → Staged old due width bits nodes rest → rest ≡ (bits, nodes) → (bits, nodes) ≡ due
-staged_all old due width bits nodes rest b e = sym e ∙ b.made
+pub staged_all : (old : List Node) (due : List Gate × List Node) (each count width : ℕ) (bits : List Gate) (nodes : List Node) (rest : List Gate × List Node) → Staged old due each count width bits nodes rest → rest ≡ (bits, nodes) → (bits, nodes) ≡ due
+staged_all old due each count width bits nodes rest b e = sym e ∙ b.made
 
 -- shifts
 pub stages_none : (move : ℕ → List Gate → List Gate) (nodes : List Node) (step : ℕ) (xs ys : List Gate) (i : ℕ) → length ys ≤ i → stages_made move nodes step xs (drop i ys) ≡ (xs, nodes)
@@ -210,12 +216,12 @@ unfolding row_made
 row_next nodes y xs i bit new l e =
     ap (λ (k : Gate × List Node). with_front (k.0 ∷ []) (row_made k.1 y (drop (i + 1) xs))) e ∙ ap (λ zs. row_made nodes y zs) (sym (rest_of xs i l))
 
-pub rows_begin : (nodes : List Node) (xs ys sum moved : List Gate) → 0 < length nodes → sum ≡ zeros (length xs) → moved ≡ xs →
-    Staged nodes (mul_made nodes xs ys) (length xs) sum nodes (rows_made nodes sum moved ys)
+pub rows_begin : (nodes : List Node) (each : ℕ) (xs ys sum moved : List Gate) → 0 < length nodes → sum ≡ zeros (length xs) → moved ≡ xs →
+    Staged nodes (mul_made nodes xs ys) each 0 (length xs) sum nodes (rows_made nodes sum moved ys)
 unfolding mul_made
-rows_begin nodes xs ys sum moved h e em = record {
+rows_begin nodes each xs ys sum moved h e em = record {
   made = ap (λ zs. rows_made nodes zs moved ys) e ∙ ap (λ zs. rows_made nodes (zeros (length xs)) zs ys) em;
-  kept = front_same nodes;
+  kept = no_round nodes each;
   there = subst (AreThere (length nodes)) (sym e) (zeros-there (length nodes) (length xs) h);
   wide = ap length e ∙ length-replicate (length xs) (constant_gate false);
 }

@@ -1,11 +1,11 @@
 -- What the operations are worth: in each at most 2^15 nodes are added.
-use Rattle.std.proofs.Common.{◌≡◌, ℕ, ◌*◌, ◌^◌, ◌≤◌, Bool, true, false, cond, List, [], ◌∷◌, Result, Ok, Err, length, ap, ◌∙◌, sym, subst, arith, bit_and, bit_or, bit_xor}
+use Rattle.std.proofs.Common.{◌≡◌, ℕ, ◌+◌, ◌-◌, ◌*◌, ◌^◌, ◌<◌, ◌≤◌, Bool, true, false, cond, List, [], ◌∷◌, Result, Ok, Err, length, ap, ◌∙◌, sym, subst, arith, bit_and, bit_or, bit_xor}
 use Rattle.std.proofs.lemmas.Nat.{mul-le}
 use Rattle.pg_circuit.specs.declared.node.Gate.{Gate}
 use Rattle.pg_circuit.specs.declared.node.Node.{Node}
 use Rattle.pg_circuit.specs.Nodes.{IsCircuit}
 use Rattle.pg_circuit.specs.Values.{gate_value, IsThere}
-use Rattle.pg_word.specs.Bits.{IsWidth, sum_of, difference_of, product_of, left_shifted, right_shifted, equal_bit, below_bit}
+use Rattle.pg_word.specs.Bits.{IsWidth, sum_of, difference_of, product_of, complement_of, left_shifted, right_shifted, equal_bit, below_bit, joined, bits_between, sign_extended}
 use Rattle.pg_vec.specs.Number.{number}
 use Rattle.pg_vec.specs.There.{AreThere}
 use Rattle.pg_vec.specs.Makes.{MakesBits}
@@ -13,11 +13,12 @@ use Rattle.pg_vec.specs.Gates.{or_made, choice_made}
 use Rattle.pg_circuit.specs.Made.{constant_gate, not_gate, and_made, xor_made}
 use Rattle.std.specs.Prelude.{IfOk}
 use Rattle.std.specs.declared.alloc.AllocError.{AllocError}
-use Rattle.pg_vec.specs.Strings.{flipped, moved_up, moved_down, each_made, sum_made, carry_out_made, same_made, shift_made, bits_and_made, bits_or_made, bits_xor_made, mux_made, add_made, sub_made, mul_made, lt_made, eq_made, shl_made, shr_made}
+use Rattle.pg_vec.specs.Strings.{flipped, bits_not_made, cat_made, cut_made, ext_made, sext_made, moved_up, moved_down, each_made, sum_made, carry_out_made, same_made, shift_made, bits_and_made, bits_or_made, bits_xor_made, mux_made, add_made, sub_made, mul_made, lt_made, eq_made, shl_made, shr_made}
 use Rattle.pg_vec.proofs.EachLaws.{flipped-there, bits_and-makes, bits_or-makes, bits_xor-makes, mux-makes}
 use Rattle.pg_vec.proofs.CompareLaws.{add-makes, sub-makes, lt-makes, eq-makes}
 use Rattle.pg_vec.proofs.ShiftLaws.{shl-makes, shr-makes}
 use Rattle.pg_vec.proofs.ProductLaws.{mul-makes}
+use Rattle.pg_vec.proofs.StringLaws.{not-makes, cat-makes, cut-makes, ext-makes, sext-makes}
 
 -- what was made is what is due, and a bound may be wider
 made_of : (nodes : List Node) (made due : List Gate × List Node) (width most more : ℕ) (worth : List Bool → ℕ) → made ≡ due → most ≤ more → MakesBits nodes due width most worth → MakesBits nodes made width more worth
@@ -76,6 +77,28 @@ shr_worth nodes made xs ys h txs tys w u m = made_of nodes made _ _ _ (2 ^ 15) _
 pub mux_worth : (nodes : List Node) (made : List Gate × List Node) (choice : Gate) (xs ys : List Gate) → IsCircuit nodes → IsThere (length nodes) choice → AreThere (length nodes) xs → AreThere (length nodes) ys → length xs ≡ length ys → IsWidth (length xs) →
     made ≡ mux_made nodes choice xs ys → MakesBits nodes made (length xs) (2 ^ 15) (λ v. cond (gate_value v choice) (number v xs) (number v ys))
 mux_worth nodes made choice xs ys h tc txs tys e w m = made_of nodes made _ _ _ (2 ^ 15) _ m (let p = w.most in omega arith) (mux-makes nodes choice xs ys h tc txs tys e)
+
+-- ---- those that need no node
+
+pub not_worth : (nodes : List Node) (made : List Gate × List Node) (xs : List Gate) → IsCircuit nodes → AreThere (length nodes) xs →
+    made ≡ bits_not_made nodes xs → MakesBits nodes made (length xs) 0 (λ v. complement_of (length xs) (number v xs))
+not_worth nodes made xs h txs m = made_of nodes made _ _ _ 0 _ m (omega arith) (not-makes nodes xs h txs)
+
+pub cat_worth : (nodes : List Node) (made : List Gate × List Node) (xs ys : List Gate) → IsCircuit nodes → AreThere (length nodes) xs → AreThere (length nodes) ys →
+    made ≡ cat_made nodes xs ys → MakesBits nodes made (length xs + length ys) 0 (λ v. joined (number v xs) (length ys) (number v ys))
+cat_worth nodes made xs ys h txs tys m = made_of nodes made _ _ _ 0 _ m (omega arith) (cat-makes nodes xs ys h txs tys)
+
+pub cut_worth : (nodes : List Node) (made : List Gate × List Node) (xs : List Gate) (h k : ℕ) → IsCircuit nodes → AreThere (length nodes) xs → k ≤ h → h < length xs →
+    made ≡ cut_made nodes xs h k → MakesBits nodes made (h - k + 1) 0 (λ v. bits_between (number v xs) h k)
+cut_worth nodes made xs h k c txs order within m = made_of nodes made _ _ _ 0 _ m (omega arith) (cut-makes nodes xs h k c txs order within)
+
+pub ext_worth : (nodes : List Node) (made : List Gate × List Node) (xs : List Gate) (to : ℕ) → IsCircuit nodes → AreThere (length nodes) xs → length xs ≤ to →
+    made ≡ ext_made nodes xs to → MakesBits nodes made to 0 (λ v. number v xs)
+ext_worth nodes made xs to h txs wider m = made_of nodes made _ _ _ 0 _ m (omega arith) (ext-makes nodes xs to h txs wider)
+
+pub sext_worth : (nodes : List Node) (made : List Gate × List Node) (xs : List Gate) (to : ℕ) → IsCircuit nodes → AreThere (length nodes) xs → 1 ≤ length xs → length xs ≤ to →
+    made ≡ sext_made nodes xs to → MakesBits nodes made to 0 (λ v. sign_extended (number v xs) (length xs) to)
+sext_worth nodes made xs to h txs least wider m = made_of nodes made _ _ _ 0 _ m (omega arith) (sext-makes nodes xs to h txs least wider)
 
 -- ---- the operations' steps
 

@@ -8,8 +8,8 @@ use Rattle.pg_vec.specs.Number.{number}
 use Rattle.pg_circuit.specs.Grown.{IsFront}
 use Rattle.pg_vec.specs.There.{AreThere, AreValues}
 
--- The nodes stay, at most so many are added, no input among them, and a gate is there which is worth this, from the values of all nodes, in every
--- circuit that begins with the nodes that there are then.
+-- The nodes stay, at most so many are added, no input among them, and a gate is there which is worth this, from the values
+-- of all nodes, in every circuit that begins with the nodes that there are then.
 pub record MakesGate (nodes : List Node) (made : Gate × List Node) (most : ℕ) (worth : List Bool → Bool) : Type 0 where
   pub circuit : IsCircuit made.1
   pub grown : IsFront nodes made.1

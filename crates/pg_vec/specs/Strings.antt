@@ -41,6 +41,23 @@ top_of xs = slice_index_or xs (length xs - 1) (constant_gate false)
 abbrev pub sign_widened : List Gate → ℕ → List Gate
 sign_widened xs to = xs ++ replicate (to - length xs) (top_of xs)
 
+-- ---- what needs no node, as it is made
+
+abbrev pub bits_not_made : List Node → List Gate → List Gate × List Node
+bits_not_made nodes xs = (flipped xs, nodes)
+
+abbrev pub cat_made : List Node → List Gate → List Gate → List Gate × List Node
+cat_made nodes xs ys = (joined_bits xs ys, nodes)
+
+abbrev pub cut_made : List Node → List Gate → ℕ → ℕ → List Gate × List Node
+cut_made nodes xs h k = (cut_bits xs h k, nodes)
+
+abbrev pub ext_made : List Node → List Gate → ℕ → List Gate × List Node
+ext_made nodes xs to = (widened xs to, nodes)
+
+abbrev pub sext_made : List Node → List Gate → ℕ → List Gate × List Node
+sext_made nodes xs to = (sign_widened xs to, nodes)
+
 -- ---- bit by bit
 
 -- a gate for each two bits

@@ -29,7 +29,7 @@ impl Model for Bits {
 }
 
 impl Bits {
-    /// The string of these gates. The error is want of memory.
+    /// The string of these gates, bit 0 first: 1 to 64 of them, of any circuit. The error is want of memory.
     pub fn from_slice(alloc: Global, gates: &[Gate]) -> Result<Bits, AllocError>
         requires { IsWidth (length gates.now) }
         ensures { IfOk result (λ bits. bits ≡ gates.now) }
@@ -39,12 +39,20 @@ impl Bits {
         })
     }
 
-    /// The string of these gates.
-    pub(crate) fn of(gates: Vec<Gate>) -> Bits
+    /// The string of these gates, bit 0 first: 1 to 64 of them, of any circuit. It takes the vector over, and no memory.
+    pub fn from_vec(gates: Vec<Gate>) -> Bits
         requires { IsWidth (length gates.items) }
         ensures { result ≡ gates.items }
     {
         Bits { gates }
+    }
+
+    /// The vector of the gates, bit 0 first, which takes no memory.
+    pub fn into_vec(self) -> Vec<Gate>
+        ensures gates { result.items ≡ self }
+        ensures width { IsWidth (length self) }
+    {
+        self.gates
     }
 
     /// The string of one gate. The error is want of memory.
@@ -64,7 +72,7 @@ impl Bits {
         self.gates.as_slice()
     }
 
-    /// How many bits there are.
+    /// How many bits there are, 1 to 64.
     pub fn width(&self) -> u32
         ensures width { result ≡ length self.now }
         ensures bounds { IsWidth (length self.now) }

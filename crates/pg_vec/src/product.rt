@@ -4,9 +4,9 @@
 //! after another. The string is moved first and taken bit by bit then, so that the bits that are moved past the top cost
 //! nothing. At 64 bits that is at most 64 rows of 64 ands and 64 adders of at most 320 nodes.
 
-ghost use Rattle.std.specs.Prelude.{◌≡◌, ◌<◌, length, IfOk};
-ghost use Rattle.pg_circuit.specs.Grown.{IsFront};
+ghost use Rattle.std.specs.Prelude.{◌≡◌, ◌*◌, ◌<◌, length, IfOk};
 ghost use Rattle.pg_vec.specs.There.{AreThere};
+ghost use Rattle.pg_vec.specs.Adds.{Adds};
 ghost use Rattle.pg_vec.specs.Strings.{row_made, mul_made};
 
 use crate::gate::and;
@@ -22,7 +22,7 @@ fn row(alloc: Global, circuit: &mut Circuit, y: Gate, x: &[Gate]) -> Result<Vec<
     ensures made { IfOk result (λ bits. (bits.items, circuit.new.nodes) ≡ row_made circuit.old.nodes y x.now) }
     ensures there { IfOk result (λ bits. AreThere (length circuit.new.nodes) bits.items) }
     ensures width { IfOk result (λ bits. length bits.items ≡ length x.now) }
-    ensures kept { IsFront circuit.old.nodes circuit.new.nodes }
+    ensures kept { Adds circuit.old.nodes circuit.new.nodes (length x.now) }
 {
     let mut bits = Vec::with_capacity(alloc, x.len())?;
     for bit in x {
@@ -44,7 +44,7 @@ pub fn product(
     ensures made { IfOk result (λ bits. (bits.items, circuit.new.nodes) ≡ mul_made circuit.old.nodes x.now y.now) }
     ensures there { IfOk result (λ bits. AreThere (length circuit.new.nodes) bits.items) }
     ensures width { IfOk result (λ bits. length bits.items ≡ length x.now) }
-    ensures kept { IsFront circuit.old.nodes circuit.new.nodes }
+    ensures kept { Adds circuit.old.nodes circuit.new.nodes (length y.now * (length x.now * 6)) }
 {
     let zero = circuit.constant(false);
     let mut total = vec![in alloc; zero; x.len()]?;

@@ -1,14 +1,18 @@
-//! Shifts, in stages.
+//! Shifts, in stages: a barrel shifter.
 //!
-//! A shift by a number that is not known yet is a row of choices: stage k moves the string by `2^k` places where bit k of the
-//! number is true. Six stages move it by up to 63 places, and a string has at most 64, so where any higher bit is true the
-//! result is zeros, by one more choice. A stage that moves a string by its width or more leaves zeros by itself, and stages one
-//! after another add up, so that no number has to be compared with the width.
+//! A shift by a number that is not known yet is a row of choices: stage k moves the string by `2^k` places where bit k of
+//! the number is true. Six stages move it by up to 63 places, and a string has at most 64, so where any higher bit is
+//! true the result is zeros, by one more choice. A stage that moves a string by its width or more leaves zeros by itself,
+//! and stages one after another add up, so that no number has to be compared with the width.
+//!
+//! `shift` serves `shl` and `shr` of `ops`, which differ in the way that a stage moves the string: a `Direction`. To move a
+//! string by a known number of places needs no node, and `moved_up` by one place is also the step from row to row of
+//! a product.
 
-ghost use Rattle.std.specs.Prelude.{◌≡◌, ◌<◌, ◌≤◌, ◌^◌, length, take, IfOk, false};
-ghost use Rattle.pg_circuit.specs.Grown.{IsFront};
+ghost use Rattle.std.specs.Prelude.{◌≡◌, ◌*◌, ◌+◌, ◌<◌, ◌≤◌, ◌^◌, length, take, IfOk, false};
 ghost use Rattle.pg_circuit.specs.Made.{constant_gate};
 ghost use Rattle.pg_vec.specs.There.{AreThere};
+ghost use Rattle.pg_vec.specs.Adds.{Adds};
 ghost use Rattle.pg_vec.specs.Direction.{move_of};
 ghost use Rattle.pg_vec.specs.Strings.{moved_up, moved_down, any_made, stages_made, shift_made};
 
@@ -79,7 +83,7 @@ fn stages(
     ensures made { IfOk result (λ bits. (bits.items, circuit.new.nodes) ≡ stages_made (move_of way) circuit.old.nodes 1 x.now by.now) }
     ensures there { IfOk result (λ bits. AreThere (length circuit.new.nodes) bits.items) }
     ensures width { IfOk result (λ bits. length bits.items ≡ length x.now) }
-    ensures kept { IsFront circuit.old.nodes circuit.new.nodes }
+    ensures kept { Adds circuit.old.nodes circuit.new.nodes (length by.now * (length x.now * 3)) }
 {
     let mut bits = Vec::from_slice(alloc, x)?;
     let mut step = 1;
@@ -97,7 +101,7 @@ fn any(circuit: &mut Circuit, x: &[Gate]) -> Result<Gate, AllocError>
     requires { AreThere (length circuit.old.nodes) x.now }
     ensures made { IfOk result (λ gate. (gate, circuit.new.nodes) ≡ any_made circuit.old.nodes (constant_gate false) x.now) }
     ensures there { IfOk result (λ gate. gate.number < length circuit.new.nodes) }
-    ensures kept { IsFront circuit.old.nodes circuit.new.nodes }
+    ensures kept { Adds circuit.old.nodes circuit.new.nodes (length x.now) }
 {
     let mut so_far = circuit.constant(false);
     for bit in x {
@@ -120,7 +124,7 @@ pub fn shift(
     ensures made { IfOk result (λ bits. (bits.items, circuit.new.nodes) ≡ shift_made (move_of way) circuit.old.nodes x.now by.now) }
     ensures there { IfOk result (λ bits. AreThere (length circuit.new.nodes) bits.items) }
     ensures width { IfOk result (λ bits. length bits.items ≡ length x.now) }
-    ensures kept { IsFront circuit.old.nodes circuit.new.nodes }
+    ensures kept { Adds circuit.old.nodes circuit.new.nodes (length x.now * 21 + length by.now) }
 {
     let (low, high) = by.split_at(by.len().min(6));
     let near = stages(alloc, circuit, way, x, low)?;

@@ -1,10 +1,10 @@
 //! The operations on a table of operands, at six widths, against the machine's own arithmetic.
 
-ghost use Rattle.std.specs.Prelude.{◌≡◌, IsTrue, length};
+ghost use Rattle.std.specs.Prelude.{◌≡◌, ◌<◌, IsTrue, length};
 ghost use Rattle.pg_vec.specs.There.{AreThere};
 
 use crate::{Bits, ops};
-use pg_circuit::Circuit;
+use pg_circuit::{Circuit, Gate};
 use std::alloc::Global;
 use std::process::Abort;
 use std::test::Fail;
@@ -26,15 +26,17 @@ const OPERANDS: [u64; 12] = [
     u64::MAX,
 ];
 
-/// An operation of two strings.
+/// An operation of two strings of one width; `Not` takes the first alone, and `Mux` a choice of them.
 #[derive(Clone, Copy, Debug, PartialEq, Eq)]
 enum Op {
     Add,
     Sub,
     Mul,
+    Not,
     And,
     Or,
     Xor,
+    Mux,
     Eq,
     Lt,
     Shl,
@@ -47,14 +49,17 @@ fn mask(width: u32) -> u64 {
 }
 
 /// What the machine computes.
-fn expected(op: Op, width: u32, x: u64, y: u64) -> u64 {
+fn expected(op: Op, width: u32, x: u64, y: u64, choice: bool) -> u64 {
     match op {
         Op::Add => x.wrapping_add(y) & mask(width),
         Op::Sub => x.wrapping_sub(y) & mask(width),
         Op::Mul => x.wrapping_mul(y) & mask(width),
+        Op::Not => !x & mask(width),
         Op::And => x & y,
         Op::Or => x | y,
         Op::Xor => x ^ y,
+        Op::Mux if choice => x,
+        Op::Mux => y,
         Op::Eq => u64::from(x == y),
         Op::Lt => u64::from(x < y),
         Op::Shl if y < u64::from(width) => x.wrapping_shl(y as u32) & mask(width),
@@ -73,15 +78,20 @@ fn is_there(circuit: &Circuit, bits: &Bits) -> bool
         .all(|gate| (gate.number as usize) < size)
 }
 
+/// The string of 1 to 64 gates.
+fn string(rt: &impl Abort, gates: Vec<Gate>) -> Bits {
+    assert!(rt; !gates.is_empty());
+    assert!(rt; gates.len() <= 64);
+    Bits::from_vec(gates)
+}
+
 /// A string of inputs.
 fn inputs(rt: &impl Abort, alloc: Global, circuit: &mut Circuit, width: u32) -> Result<Bits, Fail> {
     let mut gates = Vec::new(alloc);
     for _ in 0..width {
         gates.push(circuit.input()?)?;
     }
-    assert!(rt; !gates.is_empty());
-    assert!(rt; gates.len() <= 64);
-    Ok(Bits::from_slice(alloc, gates.as_slice())?)
+    Ok(string(rt, gates))
 }
 
 /// The bits of a number, after those that there are.
@@ -92,19 +102,20 @@ fn push_bits(values: &mut Vec<bool>, width: u32, number: u64) -> Result<(), Fail
     Ok(())
 }
 
+/// A circuit and a string over it.
+#[derive(Drop)]
+struct Built {
+    circuit: Circuit,
+    bits: Bits,
+}
+
 /// The number that a string is worth, where the inputs have values.
-fn number(
-    rt: &impl Abort,
-    alloc: Global,
-    circuit: &Circuit,
-    inputs: &[bool],
-    bits: &Bits,
-) -> Result<u64, Fail> {
-    let mut values = vec![in alloc; false; circuit.len()]?;
-    assert_eq!(rt; inputs.len(), circuit.inputs());
-    circuit.eval(inputs, values.as_mut_slice());
+fn number(rt: &impl Abort, alloc: Global, built: &Built, inputs: &[bool]) -> Result<u64, Fail> {
+    let mut values = vec![in alloc; false; built.circuit.len()]?;
+    assert_eq!(rt; inputs.len(), built.circuit.inputs());
+    built.circuit.eval(inputs, values.as_mut_slice());
     let mut number = 0;
-    for gate in bits.as_slice().iter().rev() {
+    for gate in built.bits.as_slice().iter().rev() {
         let value = *values.get(gate.number as usize).ok_or("no such gate")?;
         number = (number << 1) | u64::from(value != gate.negated);
     }
@@ -112,7 +123,15 @@ fn number(
 }
 
 /// The string of an operation, on strings that are there and of one width.
-fn made(alloc: Global, circuit: &mut Circuit, op: Op, x: &Bits, y: &Bits) -> Result<Bits, Fail>
+fn made(
+    alloc: Global,
+    circuit: &mut Circuit,
+    op: Op,
+    choice: Gate,
+    x: &Bits,
+    y: &Bits,
+) -> Result<Bits, Fail>
+    requires choice { choice.number < length circuit.old.nodes }
     requires left { AreThere (length circuit.old.nodes) x.now }
     requires right { AreThere (length circuit.old.nodes) y.now }
     requires same_width { length x.now ≡ length y.now }
@@ -121,9 +140,11 @@ fn made(alloc: Global, circuit: &mut Circuit, op: Op, x: &Bits, y: &Bits) -> Res
         Op::Add => ops::add(alloc, circuit, x, y)?,
         Op::Sub => ops::sub(alloc, circuit, x, y)?,
         Op::Mul => ops::mul(alloc, circuit, x, y)?,
+        Op::Not => ops::not(alloc, circuit, x)?,
         Op::And => ops::and(alloc, circuit, x, y)?,
         Op::Or => ops::or(alloc, circuit, x, y)?,
         Op::Xor => ops::xor(alloc, circuit, x, y)?,
+        Op::Mux => ops::mux(alloc, circuit, choice, x, y)?,
         Op::Eq => ops::eq(alloc, circuit, x, y)?,
         Op::Lt => ops::lt(alloc, circuit, x, y)?,
         Op::Shl => ops::shl(alloc, circuit, x, y)?,
@@ -131,28 +152,79 @@ fn made(alloc: Global, circuit: &mut Circuit, op: Op, x: &Bits, y: &Bits) -> Res
     })
 }
 
-/// An operation on all pairs of operands of a width.
-fn agrees(rt: &impl Abort, alloc: Global, op: Op, width: u32) -> Result<(), Fail> {
+/// An operation on two strings of inputs, and one more input for the choice.
+fn on_inputs(rt: &impl Abort, alloc: Global, op: Op, width: u32) -> Result<Built, Fail> {
     let mut circuit = Circuit::new(alloc)?;
     let x = inputs(rt, alloc, &mut circuit, width)?;
     let y = inputs(rt, alloc, &mut circuit, width)?;
+    let choice = circuit.input()?;
     assert!(rt; is_there(&circuit, &x));
     assert!(rt; is_there(&circuit, &y));
     assert_eq!(rt; x.width(), y.width());
-    let bits = made(alloc, &mut circuit, op, &x, &y)?;
+    let bits = made(alloc, &mut circuit, op, choice, &x, &y)?;
+    Ok(Built { circuit, bits })
+}
+
+/// What an operation at a width is tried on: two numbers, and a choice.
+#[derive(Clone, Copy, Debug, PartialEq, Eq)]
+struct Row {
+    op: Op,
+    width: u32,
+    left: u64,
+    right: u64,
+    choice: bool,
+}
+
+/// An operation on one row.
+fn agrees_at(rt: &impl Abort, alloc: Global, built: &Built, row: Row) -> Result<(), Fail> {
+    let mut values = Vec::new(alloc);
+    push_bits(&mut values, row.width, row.left)?;
+    push_bits(&mut values, row.width, row.right)?;
+    values.push(row.choice)?;
+    assert_eq!(rt;
+        number(rt, alloc, built, values.as_slice())?,
+        expected(row.op, row.width, row.left, row.right, row.choice),
+        "{row:?}"
+    );
+    Ok(())
+}
+
+/// An operation on a left operand and all right ones.
+fn agrees_on(
+    rt: &impl Abort,
+    alloc: Global,
+    built: &Built,
+    op: Op,
+    width: u32,
+    left: u64,
+) -> Result<(), Fail> {
+    for right in OPERANDS {
+        let row = Row {
+            op,
+            width,
+            left: left & mask(width),
+            right: right & mask(width),
+            choice: false,
+        };
+        agrees_at(rt, alloc, built, row)?;
+        agrees_at(
+            rt,
+            alloc,
+            built,
+            Row {
+                choice: true,
+                ..row
+            },
+        )?;
+    }
+    Ok(())
+}
+
+/// An operation on all pairs of operands of a width.
+fn agrees(rt: &impl Abort, alloc: Global, op: Op, width: u32) -> Result<(), Fail> {
+    let built = on_inputs(rt, alloc, op, width)?;
     for left in OPERANDS {
-        for right in OPERANDS {
-            let left = left & mask(width);
-            let right = right & mask(width);
-            let mut values = Vec::new(alloc);
-            push_bits(&mut values, width, left)?;
-            push_bits(&mut values, width, right)?;
-            assert_eq!(rt;
-                number(rt, alloc, &circuit, values.as_slice(), &bits)?,
-                expected(op, width, left, right),
-                "{op:?} of {left} and {right} at {width}"
-            );
-        }
+        agrees_on(rt, alloc, &built, op, width, left)?;
     }
     Ok(())
 }
@@ -178,9 +250,15 @@ fn products(rt: HostRuntime) -> Result<(), Fail> {
 
 #[test]
 fn bit_by_bit(rt: HostRuntime) -> Result<(), Fail> {
+    agrees_at_all_widths(&rt, rt.alloc(), Op::Not)?;
     agrees_at_all_widths(&rt, rt.alloc(), Op::And)?;
     agrees_at_all_widths(&rt, rt.alloc(), Op::Or)?;
     agrees_at_all_widths(&rt, rt.alloc(), Op::Xor)
+}
+
+#[test]
+fn one_of_two_strings(rt: HostRuntime) -> Result<(), Fail> {
+    agrees_at_all_widths(&rt, rt.alloc(), Op::Mux)
 }
 
 #[test]
@@ -195,6 +273,194 @@ fn shifts(rt: HostRuntime) -> Result<(), Fail> {
     agrees_at_all_widths(&rt, rt.alloc(), Op::Shr)
 }
 
+/// A string cut, or widened to a width.
+#[derive(Clone, Copy, Debug, PartialEq, Eq)]
+enum Part {
+    Cut(u32, u32),
+    Ext(u32),
+    Sext(u32),
+}
+
+/// What the machine computes, of a number of so many bits.
+fn expected_part(part: Part, width: u32, x: u64) -> u64 {
+    let above = 64u32.wrapping_sub(width);
+    let high = x.wrapping_shl(above);
+    match part {
+        Part::Cut(h, k) => x
+            .wrapping_shl(63u32.wrapping_sub(h))
+            .wrapping_shr(63u32.wrapping_sub(h).wrapping_add(k)),
+        Part::Ext(_) => high.wrapping_shr(above),
+        Part::Sext(to) => high.cast_signed().wrapping_shr(above).cast_unsigned() & mask(to),
+    }
+}
+
+/// The part of a string.
+fn part_of(
+    rt: &impl Abort,
+    alloc: Global,
+    circuit: &mut Circuit,
+    part: Part,
+    x: &Bits,
+) -> Result<Bits, Fail> {
+    assert!(rt; is_there(circuit, x));
+    Ok(match part {
+        Part::Cut(h, k) => {
+            assert!(rt; k <= h);
+            assert!(rt; h < x.width());
+            ops::cut(alloc, circuit, x, h, k)?
+        }
+        Part::Ext(to) => {
+            assert!(rt; x.width() <= to);
+            assert!(rt; to <= 64);
+            ops::ext(alloc, circuit, x, to)?
+        }
+        Part::Sext(to) => {
+            assert!(rt; x.width() <= to);
+            assert!(rt; to <= 64);
+            ops::sext(alloc, circuit, x, to)?
+        }
+    })
+}
+
+/// A part of a string of inputs, on all operands.
+fn part_agrees(rt: &impl Abort, alloc: Global, part: Part, width: u32) -> Result<(), Fail> {
+    let mut circuit = Circuit::new(alloc)?;
+    let x = inputs(rt, alloc, &mut circuit, width)?;
+    let bits = part_of(rt, alloc, &mut circuit, part, &x)?;
+    let built = Built { circuit, bits };
+    for operand in OPERANDS {
+        let x = operand & mask(width);
+        let mut values = Vec::new(alloc);
+        push_bits(&mut values, width, x)?;
+        assert_eq!(rt;
+            number(rt, alloc, &built, values.as_slice())?,
+            expected_part(part, width, x),
+            "{part:?} of {x} at {width}"
+        );
+    }
+    Ok(())
+}
+
+#[test]
+fn whole_strings_and_pieces(rt: HostRuntime) -> Result<(), Fail> {
+    let alloc = rt.alloc();
+    for width in WIDTHS {
+        let top = width.wrapping_sub(1);
+        part_agrees(&rt, alloc, Part::Cut(top, 0), width)?;
+        part_agrees(&rt, alloc, Part::Cut(top / 2, top / 4), width)?;
+        part_agrees(&rt, alloc, Part::Cut(top, top), width)?;
+    }
+    Ok(())
+}
+
+#[test]
+fn strings_widened(rt: HostRuntime) -> Result<(), Fail> {
+    let alloc = rt.alloc();
+    for width in WIDTHS {
+        let more = width.wrapping_add(1).min(64);
+        part_agrees(&rt, alloc, Part::Ext(width), width)?;
+        part_agrees(&rt, alloc, Part::Ext(more), width)?;
+        part_agrees(&rt, alloc, Part::Ext(64), width)?;
+        part_agrees(&rt, alloc, Part::Sext(width), width)?;
+        part_agrees(&rt, alloc, Part::Sext(more), width)?;
+        part_agrees(&rt, alloc, Part::Sext(64), width)?;
+    }
+    Ok(())
+}
+
+/// A string of so many inputs above one of so many others.
+fn joined(rt: &impl Abort, alloc: Global, high: u32, low: u32) -> Result<Built, Fail> {
+    let mut circuit = Circuit::new(alloc)?;
+    let x = inputs(rt, alloc, &mut circuit, high)?;
+    let y = inputs(rt, alloc, &mut circuit, low)?;
+    assert!(rt; is_there(&circuit, &x));
+    assert!(rt; is_there(&circuit, &y));
+    assert!(rt; x.width() + y.width() <= 64);
+    let bits = ops::cat(alloc, &mut circuit, &x, &y)?;
+    Ok(Built { circuit, bits })
+}
+
+/// Strings of two widths joined, on all operands: the lower one is flipped.
+fn join_agrees(rt: &impl Abort, alloc: Global, high: u32, low: u32) -> Result<(), Fail> {
+    let built = joined(rt, alloc, high, low)?;
+    for operand in OPERANDS {
+        let x = operand & mask(high);
+        let y = !operand & mask(low);
+        let mut values = Vec::new(alloc);
+        push_bits(&mut values, high, x)?;
+        push_bits(&mut values, low, y)?;
+        assert_eq!(rt;
+            number(rt, alloc, &built, values.as_slice())?,
+            x.wrapping_shl(low) | y,
+            "{x} above {y}, of {high} and {low} bits"
+        );
+    }
+    Ok(())
+}
+
+#[test]
+fn strings_joined(rt: HostRuntime) -> Result<(), Fail> {
+    let alloc = rt.alloc();
+    for width in [1, 2, 31, 32, 63] {
+        join_agrees(&rt, alloc, width, 64u32.wrapping_sub(width))?;
+        join_agrees(&rt, alloc, width, 1)?;
+        join_agrees(&rt, alloc, 1, width)?;
+    }
+    Ok(())
+}
+
+/// A string of 8 inputs, shifted by one of so many others.
+fn shifted(rt: &impl Abort, alloc: Global, op: Op, width: u32) -> Result<Built, Fail> {
+    let mut circuit = Circuit::new(alloc)?;
+    let x = inputs(rt, alloc, &mut circuit, 8)?;
+    let y = inputs(rt, alloc, &mut circuit, width)?;
+    assert!(rt; is_there(&circuit, &x));
+    assert!(rt; is_there(&circuit, &y));
+    let bits = if op == Op::Shl {
+        ops::shl(alloc, &mut circuit, &x, &y)?
+    } else {
+        ops::shr(alloc, &mut circuit, &x, &y)?
+    };
+    Ok(Built { circuit, bits })
+}
+
+/// Numbers of 8 bits, shifted by a number of another width.
+fn shift_agrees(rt: &impl Abort, alloc: Global, op: Op, width: u32, by: u64) -> Result<(), Fail> {
+    let built = shifted(rt, alloc, op, width)?;
+    for left in [0, 1, 0b1001_0110, 0b1000_0001, 255] {
+        let mut values = Vec::new(alloc);
+        push_bits(&mut values, 8, left)?;
+        push_bits(&mut values, width, by)?;
+        assert_eq!(rt;
+            number(rt, alloc, &built, values.as_slice())?,
+            expected(op, 8, left, by, false),
+            "{op:?} of {left} by {by}"
+        );
+    }
+    Ok(())
+}
+
+#[test]
+fn shifts_by_64_bits(rt: HostRuntime) -> Result<(), Fail> {
+    let alloc = rt.alloc();
+    let high = 0x8000_0000_0000_0000;
+    for by in [0, 1, 7, 8, 63, 64, 0x1_0000_0001, high, u64::MAX] {
+        shift_agrees(&rt, alloc, Op::Shl, 64, by)?;
+        shift_agrees(&rt, alloc, Op::Shr, 64, by)?;
+    }
+    Ok(())
+}
+
+#[test]
+fn shifts_by_one_bit(rt: HostRuntime) -> Result<(), Fail> {
+    let alloc = rt.alloc();
+    for by in [0, 1] {
+        shift_agrees(&rt, alloc, Op::Shl, 1, by)?;
+        shift_agrees(&rt, alloc, Op::Shr, 1, by)?;
+    }
+    Ok(())
+}
+
 /// A string of constants.
 fn constant(
     rt: &impl Abort,
@@ -207,9 +473,7 @@ fn constant(
     for i in 0..width {
         gates.push(circuit.constant(number.wrapping_shr(i) & 1 == 1))?;
     }
-    assert!(rt; !gates.is_empty());
-    assert!(rt; gates.len() <= 64);
-    Ok(Bits::from_slice(alloc, gates.as_slice())?)
+    Ok(string(rt, gates))
 }
 
 /// What an operation makes of two numbers of 8 bits, which needs no node.
@@ -223,12 +487,14 @@ fn of_constants(
     let mut circuit = Circuit::new(alloc)?;
     let x = constant(rt, alloc, &circuit, 8, left)?;
     let y = constant(rt, alloc, &circuit, 8, right)?;
+    let choice = circuit.constant(false);
     assert!(rt; is_there(&circuit, &x));
     assert!(rt; is_there(&circuit, &y));
     assert_eq!(rt; x.width(), y.width());
-    let bits = made(alloc, &mut circuit, op, &x, &y)?;
+    assert!(rt; (choice.number as usize) < circuit.len());
+    let bits = made(alloc, &mut circuit, op, choice, &x, &y)?;
     assert_eq!(rt; circuit.len(), 1, "{op:?} of {left} and {right}");
-    number(rt, alloc, &circuit, &[], &bits)
+    number(rt, alloc, &Built { circuit, bits }, &[])
 }
 
 #[test]
@@ -258,101 +524,34 @@ fn constants_of_eight_bits(rt: HostRuntime) -> Result<(), Fail> {
 }
 
 #[test]
-fn strings_that_need_no_node(rt: HostRuntime) -> Result<(), Fail> {
-    let alloc = rt.alloc();
-    let mut circuit = Circuit::new(alloc)?;
-    let x = inputs(&rt, alloc, &mut circuit, 4)?;
-    assert_eq!(rt; x.width(), 4);
-    let flipped = ops::not(alloc, &circuit, &x)?;
-    let both = ops::cat(alloc, &x, &flipped)?;
-    let middle = ops::cut(alloc, &x, 2, 1)?;
-    let wide = ops::ext(alloc, &x, 8)?;
-    let copied = ops::sext(alloc, &x, 8)?;
-    let same = ops::sext(alloc, &x, 4)?;
-    for (value, wants) in [
-        (12, [3, 0xc3, 2, 12, 252, 12]),
-        (5, [10, 0x5a, 2, 5, 5, 5]),
-        (0, [15, 0x0f, 0, 0, 0, 0]),
-    ] {
-        let mut values = Vec::new(alloc);
-        push_bits(&mut values, 4, value)?;
-        let made = [&flipped, &both, &middle, &wide, &copied, &same];
-        for (bits, want) in made.into_iter().zip(wants) {
-            assert_eq!(rt;
-                number(&rt, alloc, &circuit, values.as_slice(), bits)?,
-                want,
-                "of {value}"
-            );
-        }
-    }
-    Ok(())
-}
-
-#[test]
-fn one_of_two_strings(rt: HostRuntime) -> Result<(), Fail> {
-    let alloc = rt.alloc();
-    let mut circuit = Circuit::new(alloc)?;
-    let x = inputs(&rt, alloc, &mut circuit, 2)?;
-    let y = inputs(&rt, alloc, &mut circuit, 2)?;
-    let choice = circuit.input()?;
-    assert!(rt; is_there(&circuit, &x));
-    assert!(rt; is_there(&circuit, &y));
-    assert_eq!(rt; x.width(), y.width());
-    assert!(rt; (choice.number as usize) < circuit.len());
-    let bits = ops::mux(alloc, &mut circuit, choice, &x, &y)?;
+fn a_vector_taken_over_and_given_back(rt: HostRuntime) -> Result<(), Fail> {
+    let gates = vec![in rt.alloc();
+        Gate {
+            number: 3,
+            negated: true
+        },
+        Gate {
+            number: 0,
+            negated: false
+        },
+    ]?;
+    let bits = string(&rt, gates);
+    assert_eq!(rt; bits.width(), 2);
+    let back = bits.into_vec();
+    assert_eq!(rt; back.len(), 2);
     assert_eq!(rt;
-        number(
-            &rt,
-            alloc,
-            &circuit,
-            &[true, false, false, true, true],
-            &bits
-        )?,
-        1
+        back.first().copied(),
+        Some(Gate {
+            number: 3,
+            negated: true
+        })
     );
     assert_eq!(rt;
-        number(
-            &rt,
-            alloc,
-            &circuit,
-            &[true, false, false, true, false],
-            &bits
-        )?,
-        2
+        back.last().copied(),
+        Some(Gate {
+            number: 0,
+            negated: false
+        })
     );
-    Ok(())
-}
-
-#[test]
-fn shifts_by_a_number_of_another_width(rt: HostRuntime) -> Result<(), Fail> {
-    let alloc = rt.alloc();
-    let mut circuit = Circuit::new(alloc)?;
-    let x = inputs(&rt, alloc, &mut circuit, 8)?;
-    let y = inputs(&rt, alloc, &mut circuit, 3)?;
-    assert!(rt; is_there(&circuit, &x));
-    assert!(rt; is_there(&circuit, &y));
-    let up = ops::shl(alloc, &mut circuit, &x, &y)?;
-    assert!(rt; is_there(&circuit, &x));
-    assert!(rt; is_there(&circuit, &y));
-    let down = ops::shr(alloc, &mut circuit, &x, &y)?;
-    for (left, by, want_up, want_down) in [
-        (0b1001_0110, 0, 0b1001_0110, 0b1001_0110),
-        (0b1001_0110, 3, 0b1011_0000, 0b0001_0010),
-        (0b1001_0110, 7, 0, 1),
-    ] {
-        let mut values = Vec::new(alloc);
-        push_bits(&mut values, 8, left)?;
-        push_bits(&mut values, 3, by)?;
-        assert_eq!(rt;
-            number(&rt, alloc, &circuit, values.as_slice(), &up)?,
-            want_up,
-            "by {by}"
-        );
-        assert_eq!(rt;
-            number(&rt, alloc, &circuit, values.as_slice(), &down)?,
-            want_down,
-            "by {by}"
-        );
-    }
     Ok(())
 }

@@ -5,8 +5,8 @@ use Rattle.pg_cnf.proofs.encoding.encode.Given as goal
 
 abbrev pub invariant-loop-number : goal.invariant-loop-number
 invariant-loop-number l = record {
-  clauses : l.cnf.clauses.items ++ clauses_from l.number (drop l.number l.nodes) ≡ clauses_from 0 l.nodes;
-  few : length l.cnf.clauses.items ≤ 4 * l.number;
+  clauses : l.cnf.clauses ++ clauses_from l.number (drop l.number l.nodes) ≡ clauses_from 0 l.nodes;
+  few : length l.cnf.clauses ≤ 4 * l.number;
   variables : l.cnf.variables ≡ length l.nodes;
   in_order : IsAfter (take l.number l.nodes) (drop l.number l.nodes);
 }

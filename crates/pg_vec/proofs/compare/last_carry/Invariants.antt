@@ -5,4 +5,4 @@ use Rattle.pg_vec.proofs.compare.last_carry.Given as goal
 
 abbrev pub invariant-loop-i : goal.invariant-loop-i
 invariant-loop-i l =
-    Folded l.fn.circuit.nodes (carry_out_made l.fn.circuit.nodes l.fn.carry_in l.x l.y) l.carry l.circuit.nodes (carry_out_made l.circuit.nodes l.carry (drop l.i l.x) (drop l.i l.y))
+    Folded l.fn.circuit.nodes (carry_out_made l.fn.circuit.nodes l.fn.carry_in l.x l.y) 4 l.i l.carry l.circuit.nodes (carry_out_made l.circuit.nodes l.carry (drop l.i l.x) (drop l.i l.y))

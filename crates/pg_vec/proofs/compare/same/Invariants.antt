@@ -6,4 +6,4 @@ use Rattle.pg_vec.proofs.compare.same.Given as goal
 
 abbrev pub invariant-loop-i : goal.invariant-loop-i
 invariant-loop-i l =
-    Folded l.fn.circuit.nodes (same_made l.fn.circuit.nodes (constant_gate true) l.x l.y) l.so_far l.circuit.nodes (same_made l.circuit.nodes l.so_far (drop l.i l.x) (drop l.i l.y))
+    Folded l.fn.circuit.nodes (same_made l.fn.circuit.nodes (constant_gate true) l.x l.y) 2 l.i l.so_far l.circuit.nodes (same_made l.circuit.nodes l.so_far (drop l.i l.x) (drop l.i l.y))

@@ -3,7 +3,7 @@ use Rattle.pg_vec.proofs.OpLaws.{and_step, and_worth}
 use Rattle.pg_vec.proofs.ops.and.Goals as goal
 
 pub returns-clause-made : goal.returns-clause-made
-returns-clause-made c = and_step _ c.as_slice.result.now c.args.x.now c.as_slice-2.result.now c.args.y.now c.in_ok-bits.bits.items c.of.result _ c.as_slice.ensures.gates c.as_slice-2.ensures.gates c.in_ok-bits.ensures.made c.of.ensures
+returns-clause-made c = and_step _ c.as_slice.result.now c.args.x.now c.as_slice-2.result.now c.args.y.now c.in_ok-bits.bits.items c.from_vec.result _ c.as_slice.ensures.gates c.as_slice-2.ensures.gates c.in_ok-bits.ensures.made c.from_vec.ensures
 
 pub returns-clause-worth : goal.returns-clause-worth
 returns-clause-worth c = and_worth _ _ c.args.x.now c.args.y.now c.args.circuit.now.circuit c.requires.left c.requires.right c.requires.same_width c.as_slice.ensures.width c.as_slice-2.ensures.width (returns-clause-made c)

@@ -6,10 +6,10 @@ use Rattle.pg_vec.proofs.pairwise.pairwise.Goals as goal
 
 pub loop-i-preserved : goal.loop-i-preserved
 loop-i-preserved c =
-    let next = built_next _ _ _ _ _ _ c.in_ok-bit.bit _ _ c.loop-i.invariant c.pair.ensures.kept c.in_ok-bit.ensures.there
+    let next = built_next _ _ 3 _ _ _ _ c.in_ok-bit.bit _ _ c.loop-i.invariant c.pair.ensures.kept c.in_ok-bit.ensures.there
     (each_next (pair_made c.args.make) _ c.args.x.now c.args.y.now c.loop-i.i c.in_ok-bit.bit _ (omega arith) (omega arith) c.in_ok-bit.ensures.made) in
     rw c.in_ok-push.ensures.items next
 
 pub returns-clause-made : goal.returns-clause-made
 returns-clause-made c =
-    built_all _ _ _ _ _ _ c.loop-i.invariant (each_none (pair_made c.args.make) c.loop-i.circuit.nodes c.args.x.now c.args.y.now c.loop-i.i (omega arith))
+    built_all _ _ 3 _ _ _ _ c.loop-i.invariant (each_none (pair_made c.args.make) c.loop-i.circuit.nodes c.args.x.now c.args.y.now c.loop-i.i (omega arith))

@@ -6,5 +6,5 @@ use Rattle.pg_vec.proofs.pairwise.pairwise.Given as goal
 
 abbrev pub invariant-loop-i : goal.invariant-loop-i
 invariant-loop-i l =
-    Built l.fn.circuit.nodes (each_made (pair_made l.make) l.fn.circuit.nodes l.x l.y) l.i l.bits.items l.circuit.nodes
+    Built l.fn.circuit.nodes (each_made (pair_made l.make) l.fn.circuit.nodes l.x l.y) 3 l.i l.bits.items l.circuit.nodes
     (each_made (pair_made l.make) l.circuit.nodes (drop l.i l.x) (drop l.i l.y))

@@ -5,10 +5,10 @@ use Rattle.pg_vec.proofs.product.row.Goals as goal
 
 pub loop-bit-preserved : goal.loop-bit-preserved
 loop-bit-preserved c =
-    let next = built_next _ _ _ _ _ _ c.in_ok-both.both _ _ c.loop-bit.invariant c.and.ensures.kept c.in_ok-both.ensures.there
+    let next = built_next _ _ 1 _ _ _ _ c.in_ok-both.both _ _ c.loop-bit.invariant c.and.ensures.kept c.in_ok-both.ensures.there
     (row_next _ c.args.y c.args.x.now c.loop-bit.bit-index c.in_ok-both.both _ (omega arith) c.in_ok-both.ensures.made) in
     rw c.in_ok-push.ensures.items next
 
 pub returns-clause-made : goal.returns-clause-made
 returns-clause-made c =
-    built_all _ _ _ _ _ _ c.loop-bit.invariant (row_none c.loop-bit.circuit.nodes c.args.y c.args.x.now c.loop-bit.bit-index (omega arith))
+    built_all _ _ 1 _ _ _ _ c.loop-bit.invariant (row_none c.loop-bit.circuit.nodes c.args.y c.args.x.now c.loop-bit.bit-index (omega arith))

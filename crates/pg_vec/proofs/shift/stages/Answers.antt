@@ -1,7 +1,8 @@
 -- One more stage, and at the end all of them.
-use Rattle.std.proofs.Common.{◌*◌, length, arith, sym, ap, ◌∙◌}
+use Rattle.std.proofs.Common.{◌*◌, length, arith, subst, sym, ap, ◌∙◌}
 use Rattle.std.proofs.lemmas.Nat.{pow-add}
 use Rattle.pg_vec.specs.Direction.{move_of}
+use Rattle.pg_vec.specs.Adds.{Adds}
 use Rattle.pg_vec.proofs.Loops.{staged_next, staged_all, stages_none, stages_next, moved_wide}
 use Rattle.pg_vec.proofs.shift.stages.Goals as goal
 
@@ -10,8 +11,10 @@ loop-choice-preserved c =
     let bits = c.loop-choice.bits.items in
     let step = c.loop-choice.step in
     let moved = c.in_ok-far.ensures ∙ ap (move_of c.args.way step) c.as_slice.ensures.value in
-    let wide = c.in_ok-bits-2.ensures.width ∙ ap length c.as_slice-in-loop-choice.ensures.value ∙ ap length moved ∙ moved_wide c.args.way step bits ∙ c.loop-choice.invariant.0.wide in (
-      staged_next _ _ _ _ _ _ c.in_ok-bits-2.bits.items _ _ c.loop-choice.invariant.0 c.pairwise.ensures.kept c.in_ok-bits-2.ensures.there wide
+    let far = ap length c.as_slice-in-loop-choice.ensures.value ∙ ap length moved ∙ moved_wide c.args.way step bits ∙ c.loop-choice.invariant.0.wide in
+    let wide = c.in_ok-bits-2.ensures.width ∙ far in
+    let kept = subst (λ n. Adds c.loop-choice.circuit.nodes c.pairwise.new.circuit.nodes (n * 3)) far c.pairwise.ensures.kept in (
+      staged_next _ _ (length c.args.x.now * 3) _ _ _ _ _ c.in_ok-bits-2.bits.items _ _ c.loop-choice.invariant.0 kept c.in_ok-bits-2.ensures.there wide
           (stages_next (move_of c.args.way) _ step bits c.args.by.now c.loop-choice.choice-index c.in_ok-far.far.items c.as_slice-in-loop-choice.result.now c.as_slice-in-loop-choice-2.result.now
           c.in_ok-bits-2.bits.items _ (omega arith) moved c.as_slice-in-loop-choice.ensures.value c.as_slice-in-loop-choice-2.ensures.value c.in_ok-bits-2.ensures.made),
       ap (λ k. k * 2) c.loop-choice.invariant.1 ∙ sym (pow-add 2 c.loop-choice.choice-index 1),
@@ -19,4 +22,4 @@ loop-choice-preserved c =
 
 pub returns-clause-made : goal.returns-clause-made
 returns-clause-made c =
-    staged_all _ _ _ _ _ _ c.loop-choice.invariant.0 (stages_none (move_of c.args.way) c.loop-choice.circuit.nodes c.loop-choice.step c.loop-choice.bits.items c.args.by.now c.loop-choice.choice-index (omega arith))
+    staged_all _ _ (length c.args.x.now * 3) _ _ _ _ _ c.loop-choice.invariant.0 (stages_none (move_of c.args.way) c.loop-choice.circuit.nodes c.loop-choice.step c.loop-choice.bits.items c.args.by.now c.loop-choice.choice-index (omega arith))

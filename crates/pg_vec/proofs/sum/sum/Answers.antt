@@ -2,17 +2,17 @@
 use Rattle.std.proofs.Common.{◌+◌, arith}
 use Rattle.std.proofs.lemmas.List.{take_rest}
 use Rattle.pg_vec.proofs.Loops.{built_next, built_all, sum_none, sum_next}
-use Rattle.pg_vec.proofs.Kept.{front_then, there_later}
+use Rattle.pg_vec.proofs.Kept.{adds_then, there_later}
 use Rattle.pg_vec.proofs.sum.sum.Goals as goal
 
 pub loop-i-preserved : goal.loop-i-preserved
 loop-i-preserved c =
-    let kept = front_then _ _ _ (front_then _ _ _ c.xor.ensures.kept c.xor-in-loop-i.ensures.kept) c.carry_into.ensures.kept in
-    let next = built_next _ _ _ _ _ _ c.in_ok-bit.bit _ _ c.loop-i.invariant.0 kept (there_later _ _ c.in_ok-bit.bit c.carry_into.ensures.kept c.in_ok-bit.ensures.there)
+    let kept = adds_then _ _ _ 2 3 (adds_then _ _ _ 1 1 c.xor.ensures.kept c.xor-in-loop-i.ensures.kept) c.carry_into.ensures.kept in
+    let next = built_next _ _ 5 _ _ _ _ c.in_ok-bit.bit _ _ c.loop-i.invariant.0 kept (there_later _ _ c.in_ok-bit.bit c.carry_into.ensures.kept.front c.in_ok-bit.ensures.there)
     (sum_next _ c.loop-i.carry c.args.x.now c.args.y.now c.loop-i.i c.in_ok-half.half c.in_ok-bit.bit c.in_ok-carry.carry _ _ _ (omega arith) (omega arith)
     c.in_ok-half.ensures.made c.in_ok-bit.ensures.made (rw (take_rest c.args.x.now (c.loop-i.i + 1)) at c.in_ok-carry.ensures.made)) in
     (rw c.in_ok-push.ensures.items next, c.in_ok-carry.ensures.there)
 
 pub returns-clause-made : goal.returns-clause-made
 returns-clause-made c =
-    built_all _ _ _ _ _ _ c.loop-i.invariant.0 (sum_none c.loop-i.circuit.nodes c.loop-i.carry c.args.x.now c.args.y.now c.loop-i.i (omega arith))
+    built_all _ _ 5 _ _ _ _ c.loop-i.invariant.0 (sum_none c.loop-i.circuit.nodes c.loop-i.carry c.args.x.now c.args.y.now c.loop-i.i (omega arith))

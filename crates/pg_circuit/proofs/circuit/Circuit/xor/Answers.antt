@@ -2,7 +2,7 @@ use Rattle.std.proofs.Common.{length, [], refl, ap, sym, ◌∙◌}
 use Rattle.pg_circuit.specs.declared.node.Node.TheVariants.{Xor}
 use Rattle.pg_circuit.specs.Made.{node_made, xor_made, made}
 use Rattle.pg_circuit.proofs.CircuitLemmas.{xor_operands, placed-kept, has_of_same}
-use Rattle.pg_circuit.proofs.MadeLemmas.{xor_simplified-there, node_made-there, made-there, made-grown}
+use Rattle.pg_circuit.proofs.MadeLemmas.{xor_simplified-there, node_made-there, made-there, made-kept}
 use Rattle.pg_circuit.proofs.circuit.Circuit.xor.Goals as goal
 
 pub invariant_of-self : goal.invariant_of-self
@@ -39,10 +39,10 @@ returns-in-None-clause-there c =
     (xor_operands c.args.x c.args.y _ (sym c.in-None.ensures) c.requires.left c.requires.right) refl)
     c.place.ensures.made
 
-pub returns-in-None-clause-grown : goal.returns-in-None-clause-grown
-returns-in-None-clause-grown c =
+pub returns-in-None-clause-kept : goal.returns-in-None-clause-kept
+returns-in-None-clause-kept c =
     let old = c.args.self.now in
-    made-grown c.place.result old.nodes c.place.new.self (node_made old.nodes (Xor c.args.x c.args.y))
+    made-kept c.place.result old.nodes c.place.new.self (node_made old.nodes (Xor c.args.x c.args.y))
     (node_made-there [] old.nodes (Xor c.args.x c.args.y) old.circuit
     (xor_operands c.args.x c.args.y _ (sym c.in-None.ensures) c.requires.left c.requires.right) refl)
     c.place.ensures.made c.place.ensures.err
