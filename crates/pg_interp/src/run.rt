@@ -38,6 +38,7 @@ pub enum Course {
 }
 
 /// The number of an expression of a body under way, which sees the stores so far.
+#[inline(always)]
 pub fn number<C: Cells>(at: &Entry<'_>, cells: &C, run: &Run<'_>, expr: &Expr) -> Option<Number>
     requires ready { IsReady (entry_as at.now) run.now.lets (written run.now.writes.items (C.window cells.now)) }
     requires typed { IsTyped (entry_as at.now) run.now.lets expr.now }
