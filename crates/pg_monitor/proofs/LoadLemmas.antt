@@ -1,5 +1,5 @@
 -- A guest that is loaded.
-use Rattle.std.proofs.Common.{◌≡◌, ℕ, ◌+◌, ◌-◌, ◌*◌, ◌<◌, ◌≤◌, ◌^◌, Bool, true, false, pow_mono, List, [], ◌∷◌, ◌++◌, length, take, drop, replicate, All, Option, None, Some, IsSomeAnd, slice_set, slice_index, slice_get, refl, sym, ◌∙◌, ap, subst, arith, append_assoc, length-append}
+use Rattle.std.proofs.Common.{◌≡◌, ℕ, ◌+◌, ◌-◌, ◌*◌, ◌<◌, ◌≤◌, ◌^◌, Bool, true, false, pow_mono, List, [], ◌∷◌, ◌++◌, length, take, drop, replicate, All, Option, None, Some, IsSomeAnd, IsSome, is_some, Result, Ok, Err, IfErr, slice_set, slice_index, slice_get, refl, sym, ◌∙◌, ap, subst, arith, append_assoc, length-append}
 use Rattle.std.proofs.lemmas.List.{append-nil, take-append-drop, length-take-le, set-append_right, drop_more, take_all, length-set, get_or-set_same}
 use Rattle.std.proofs.lemmas.Option.{slice_get-get_or}
 use Rattle.std.proofs.lemmas.List.Elements.{All-nil, All-cons, All-set}
@@ -24,7 +24,9 @@ use Rattle.pg_routine.specs.Composing.{composed}
 use Rattle.pg_monitor.specs.declared.guest.Guest.{Guest}
 use Rattle.pg_monitor.specs.Guests.{virtual, virtuals, IsGrant, AreApart}
 use Rattle.pg_monitor.specs.Standing.{control_psw, IsUnder, Stands}
-use Rattle.pg_monitor.specs.Loading.{Loaded}
+use Rattle.pg_monitor.specs.Turns.{grants_of}
+use Rattle.pg_monitor.specs.Loading.{free_base, Loaded}
+use Rattle.pg_monitor.proofs.FitLemmas.{free_base-first, free_base-full}
 use Rattle.pg_monitor.proofs.CellLemmas.{with_grant-length, with_grant-before, cell_of}
 use Rattle.pg_monitor.proofs.RunLemmas.{virtual-own}
 use Rattle.pg_monitor.proofs.WentLemmas.{granted-state}
@@ -176,6 +178,30 @@ virtuals-loaded old now gs gs' image none is some guests =
     ap (virtuals now.cells) (guests ∙ ap (λ l. l ++ first_guest image ∷ []) none)
     ∙ ap (λ x. x ∷ []) (virtual-loaded old now image is some)
     ∙ sym (ap (λ l. virtuals old.cells l ++ power_on image (length image) ∷ []) none)
+
+-- ---- where it is placed
+
+-- of no guest the first grant is placed at 2
+pub base-first : (q : ℕ) (gs : List Guest) (size : ℕ) → gs ≡ [] → 2 + size ≤ q → free_base q (grants_of gs) size ≡ Some 2
+base-first q gs size none room = ap (λ l. free_base q (grants_of l) size) none ∙ free_base-first q size room
+
+pub base-some : (q : ℕ) (gs : List Guest) (size : ℕ) → gs ≡ [] → 2 + size ≤ q → IsSome (free_base q (grants_of gs) size)
+base-some q gs size none room = ap is_some (base-first q gs size none room)
+
+pub base-none : (q : ℕ) (gs : List Guest) (size : ℕ) → q < 2 + size → free_base q (grants_of gs) size ≡ None
+base-none q gs size full = free_base-full q (grants_of gs) size full
+
+pub base-known : (q : ℕ) (gs : List Guest) (size : ℕ) (P : ℕ → Type 0) → gs ≡ [] → 2 + size ≤ q → P 2 → IsSomeAnd (free_base q (grants_of gs) size) P
+base-known q gs size P none room p = subst (λ o. IsSomeAnd o P) (sym (base-first q gs size none room)) p
+
+-- what is said of the base is said of 2
+pub known-base : (q : ℕ) (gs : List Guest) (size : ℕ) (P : ℕ → Type 0) → gs ≡ [] → 2 + size ≤ q → IsSomeAnd (free_base q (grants_of gs) size) P → P 2
+known-base q gs size P none room known = subst (λ o. IsSomeAnd o P) (base-first q gs size none room) known
+
+-- what holds of every error holds of the one that is answered
+pub if-any : {T E : Type 0} (r : Result T E) (P : E → Type 0) → ((e : E) → P e) → IfErr r P
+if-any (Ok x) P every = tt
+if-any (Err e) P every = every e
 
 -- ---- the shape of the machine
 

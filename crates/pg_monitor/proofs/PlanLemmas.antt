@@ -1,12 +1,15 @@
 -- Turns by a plan, one pair after another.
-use Rattle.std.proofs.Common.{◌≡◌, ℕ, zero, suc, ◌+◌, ◌-◌, ◌<◌, ◌≤◌, ◌⊎◌, inl, inr, List, [], ◌∷◌, ◌++◌, length, take, drop, All, Option, None, Some, slice_set, slice_index, slice_get, get_or, refl, sym, ◌∙◌, ap, subst, arith}
-use Rattle.std.proofs.lemmas.List.{length-take-le, length-append, length-set, length-map, drop_more, drop_all, get_or-set_other, get_or_append_left, get_or-append_right, get_or-take, get_or-drop}
+use Rattle.std.proofs.Common.{◌≡◌, ℕ, zero, suc, ◌+◌, ◌-◌, ◌<◌, ◌≤◌, ◌⊎◌, inl, inr, Bool, true, false, ◌==◌, if◌then◌else◌, List, [], ◌∷◌, ◌++◌, length, take, drop, All, Option, None, Some, slice_set, slice_index, slice_get, get_or, refl, sym, ◌∙◌, ap, subst, arith}
+use Rattle.std.specs.Option.{option_map}
+use Rattle.std.proofs.lemmas.Bool.{eqb-true, eqb-false}
+use Rattle.std.proofs.lemmas.List.{length-take-le, length-append, length-set, length-map, drop_more, drop_all, get_or-set_same, get_or-set_other, get_or_append_left, get_or-append_right, get_or-take, get_or-drop}
 use Rattle.std.proofs.lemmas.List.Elements.{All-nil, All-cons, All-head, All-tail}
 use Rattle.std.proofs.lemmas.Option.{slice_get-get_or, slice_get_past, slice_get_cases}
 use Rattle.pg_ast.specs.declared.tree.Desc.{Desc}
 use Rattle.pg_type.specs.States.{State, IsState}
 use Rattle.pg_type.specs.Steps.{steps}
 use Rattle.pg_type.specs.Valid.{IsValid}
+use Rattle.pg_type.proofs.StepLaws.{steps-add}
 use Rattle.pg_type.proofs.StepSound.{steps-state}
 use Rattle.pg_hw.specs.declared.counts.Counts.{Counts}
 use Rattle.pg_hw.specs.Tallies.{Bottom}
@@ -17,7 +20,7 @@ use Rattle.pg_monitor.specs.Guests.{virtual, virtuals}
 use Rattle.pg_monitor.specs.Direct.{direct_among}
 use Rattle.pg_monitor.specs.Standing.{Stands}
 use Rattle.pg_monitor.specs.Turns.{moved, trap_cell, grants_of, changes_in, CountsTurns, BottomTurns, Turned}
-use Rattle.pg_monitor.specs.Plans.{after_plan, turns_of, direct_turns, direct_of, current_of, changes_of, Followed}
+use Rattle.pg_monitor.specs.Plans.{after_plan, turns_of, turns_for, direct_turns, direct_of, cell_turns, cell_behind, current_of, changes_of, Followed}
 use Rattle.pg_monitor.proofs.CellLemmas.{with_grant-length}
 use Rattle.pg_monitor.proofs.DirectLemmas.{Holds-within, Holds-length, step-length}
 use Rattle.pg_monitor.proofs.WentLemmas.{CountsTurns-add, BottomTurns-add, direct_among-most}
@@ -107,6 +110,71 @@ direct_of-most d gs [] ss = omega arith
 direct_of-most d gs (turn ∷ plan) ss =
     omega (arith, direct_turns-most d (slice_get gs turn.0) (slice_get ss turn.0) turn.1, direct_of-most d gs plan (moved d turn.0 turn.1 ss))
 
+-- ---- cell 0
+
+cell-base : (d : Desc) (g h : Guest) (s : Option State) (n held : ℕ) → h.base ≡ g.base → cell_turns d (Some h) s n held ≡ cell_turns d (Some g) s n held
+cell-base d g h None n held e = refl
+cell-base d g h (Some s) n held e = ap (λ b. trap_cell d b n s held) e
+
+cell_turns-grants : (d : Desc) (gs hs : List Guest) (k : ℕ) (s : Option State) (n held : ℕ) → grants_of hs ≡ grants_of gs →
+    cell_turns d (slice_get hs k) s n held ≡ cell_turns d (slice_get gs k) s n held
+cell_turns-grants d [] [] k s n held e = refl
+cell_turns-grants d [] (h ∷ hs) k s n held e = absurd (let wrong : ⊥ = cc in wrong)
+cell_turns-grants d (g ∷ gs) [] k s n held e = absurd (let wrong : ⊥ = cc in wrong)
+cell_turns-grants d (g ∷ gs) (h ∷ hs) zero s n held e =
+    let first : (h.base, h.size) ≡ (g.base, g.size) = cc in cell-base d g h s n held (ap (λ (p : ℕ × ℕ). p.0) first)
+cell_turns-grants d (g ∷ gs) (h ∷ hs) (suc k) s n held e =
+    let rest : grants_of hs ≡ grants_of gs = cc in cell_turns-grants d gs hs k s n held rest
+
+cell_behind-grants : (d : Desc) (gs hs : List Guest) (plan : List (ℕ × ℕ)) (ss : List State) (held : ℕ) → grants_of hs ≡ grants_of gs →
+    cell_behind d hs plan ss held ≡ cell_behind d gs plan ss held
+cell_behind-grants d gs hs [] ss held e = refl
+cell_behind-grants d gs hs (turn ∷ plan) ss held e =
+    ap (cell_behind d hs plan (moved d turn.0 turn.1 ss)) (cell_turns-grants d gs hs turn.0 (slice_get ss turn.0) turn.1 held e)
+    ∙ cell_behind-grants d gs hs plan (moved d turn.0 turn.1 ss) (cell_turns d (slice_get gs turn.0) (slice_get ss turn.0) turn.1 held) e
+
+-- ---- the turns of one guest
+
+moved-own : (d : Desc) (j n : ℕ) (ss : List State) → slice_get (moved d j n ss) j ≡ option_map (steps d n) (slice_get ss j)
+moved-own d j n [] = refl
+moved-own d zero n (s ∷ ss) = refl
+moved-own d (suc j) n (s ∷ ss) = moved-own d j n ss
+
+moved-other : (d : Desc) (k n j : ℕ) (ss : List State) → (k ≡ j → ⊥) → slice_get (moved d k n ss) j ≡ slice_get ss j
+moved-other d k n j [] other = refl
+moved-other d zero n zero (s ∷ ss) other = absurd (other refl)
+moved-other d zero n (suc j) (s ∷ ss) other = refl
+moved-other d (suc k) n zero (s ∷ ss) other = refl
+moved-other d (suc k) n (suc j) (s ∷ ss) other = moved-other d k n j ss (λ same. other (ap suc same))
+
+on-none : (d : Desc) (o : Option State) → option_map (steps d 0) o ≡ o
+unfolding steps
+on-none d None = refl
+on-none d (Some s) = refl
+
+on-more : (d : Desc) (m n : ℕ) (o : Option State) → option_map (steps d n) (option_map (steps d m) o) ≡ option_map (steps d (m + n)) o
+on-more d m n None = refl
+on-more d m n (Some s) = ap Some (steps-add d m n s)
+
+-- the state of each guest is moved by the turns of its own
+moved-at : (d : Desc) (k n j : ℕ) (ss : List State) (b : Bool) → (k == j) ≡ b →
+    slice_get (moved d k n ss) j ≡ option_map (steps d (if b then n else 0)) (slice_get ss j)
+moved-at d k n j ss true e = ap (λ i. slice_get (moved d i n ss) j) (eqb-true k j e) ∙ moved-own d j n ss
+moved-at d k n j ss false e = moved-other d k n j ss (eqb-false k j e) ∙ sym (on-none d (slice_get ss j))
+
+-- each guest stands behind a plan at the state of its own number of turns
+pub after_plan-at : (d : Desc) (plan : List (ℕ × ℕ)) (ss : List State) (j : ℕ) → slice_get (after_plan d plan ss) j ≡ option_map (steps d (turns_for j plan)) (slice_get ss j)
+after_plan-at d [] ss j = sym (on-none d (slice_get ss j))
+after_plan-at d (turn ∷ plan) ss j =
+    after_plan-at d plan (moved d turn.0 turn.1 ss) j
+    ∙ ap (option_map (steps d (turns_for j plan))) (moved-at d turn.0 turn.1 j ss (turn.0 == j) refl)
+    ∙ on-more d (if turn.0 == j then turn.1 else 0) (turns_for j plan) (slice_get ss j)
+
+pub Followed-own : (d : Desc) (plan : List (ℕ × ℕ)) (old new : State) (gs hs : List Guest) (c c' : Option ℕ) (t t' : Counts) (b b' : Bottom) → Followed d plan old new gs hs c c' t t' b b' →
+    (j : ℕ) → slice_get (virtuals new.cells hs) j ≡ option_map (steps d (turns_for j plan)) (slice_get (virtuals old.cells gs) j)
+Followed-own d plan old new gs hs c c' t t' b b' followed j =
+    ap (λ ss. slice_get ss j) followed.states ∙ after_plan-at d plan (virtuals old.cells gs) j
+
 -- ---- plans
 
 pub Followed-none : (d : Desc) (s : State) (gs : List Guest) (current : Option ℕ) (t : Counts) (b : Bottom) → Followed d [] s s gs gs current current t t b b
@@ -115,6 +183,7 @@ Followed-none d s gs current t b = record {
   grants = refl;
   current = refl;
   outside = λ at some out. refl;
+  cell_0 = refl;
   tally = record { steps = sym (raised_by-zero t.steps); untrapped = sym (raised_by-zero t.untrapped); loads = sym (raised_by-zero t.loads); pokes = RisesWithin-none t.pokes };
   bottom = record { steps = sym (raised_by-zero b.steps); untrapped = sym (raised_by-zero b.untrapped) };
 }
@@ -131,6 +200,13 @@ Followed-next d turn plan old mid now gs hs ks c c' c'' t t' t'' b b' b'' valid 
     let held = Holds-of d old gs c k g stands one.is_guest in
     let v = virtual old.cells g in
     let len : length (steps d n v).cells ≡ g.size = steps-length d n v valid held.virtual_state ∙ Holds-length d old g held in
+    let within : g.base + length (steps d n v).cells ≤ length old.cells = omega (arith, Holds-within d old g held, len) in
+    let w = trap_cell d g.base n v (slice_index old.cells 0) in
+    let cell : slice_index mid.cells 0 ≡ w = ap (λ xs. slice_index xs 0) one.storage
+    ∙ get_or-set_same (with_grant old.cells g.base (steps d n v).cells) 0 w 0 (omega (arith, with_grant-length old.cells (steps d n v).cells g.base within, held.real_state.size_least)) in
+    let turned : cell_turns d (slice_get gs k) (slice_get ss k) n (slice_index old.cells 0) ≡ w =
+    ap (λ o. cell_turns d o (slice_get ss k) n (slice_index old.cells 0)) one.is_guest
+    ∙ ap (λ o. cell_turns d (Some g) o n (slice_index old.cells 0)) (virtuals-at old.cells gs k g one.is_guest) in
     let first : direct_turns d (slice_get gs k) (slice_get ss k) n ≡ direct_among d g.base n v =
     ap (λ o. direct_turns d o (slice_get ss k) n) one.is_guest ∙ ap (λ o. direct_turns d (Some g) o n) (virtuals-at old.cells gs k g one.is_guest) in
     let others : direct_of d hs plan (virtuals mid.cells hs) ≡ direct_of d gs plan (moved d k n ss) =
@@ -146,8 +222,12 @@ Followed-next d turn plan old mid now gs hs ks c c' c'' t t' t'' b b' b'' valid 
           rest.outside at some (record { outside = grants-outside at gs hs one.grants out.outside })
           ∙ ap (λ xs. slice_get xs at) one.storage
           ∙ first_outside (with_grant old.cells g.base (steps d n v).cells) at (trap_cell d g.base n v (slice_index old.cells 0)) some
-          ∙ granted-outside old.cells (steps d n v).cells g.base at (omega (arith, Holds-within d old g held, len))
+          ∙ granted-outside old.cells (steps d n v).cells g.base at within
           (subst (λ x. (at < g.base) ⊎ (g.base + x ≤ at)) (sym len) (All-at (outside_of at) gs k g out.outside one.is_guest));
+      cell_0 = rest.cell_0
+          ∙ ap (λ xs. cell_behind d hs plan xs (slice_index mid.cells 0)) one.states
+          ∙ cell_behind-grants d gs hs plan (moved d k n ss) (slice_index mid.cells 0) one.grants
+          ∙ ap (cell_behind d gs plan (moved d k n ss)) (cell ∙ sym turned);
       tally = subst (λ x. CountsTurns (turns_of (turn ∷ plan)) (direct_of d gs (turn ∷ plan) ss) x t t'') (sym changes)
           (subst (λ x. CountsTurns (n + turns_of plan) x (changes_in k n c + changes_of plan c') t t'') (sym all)
           (CountsTurns-add n (turns_of plan) (direct_among d g.base n v) (direct_of d hs plan (virtuals mid.cells hs)) (changes_in k n c) (changes_of plan c') t t' t''

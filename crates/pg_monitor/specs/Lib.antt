@@ -5,4 +5,5 @@ pub mod Turns
 pub mod Plans
 pub mod Current
 pub mod Loading
+pub mod WorkedBases
 pub mod Monitors

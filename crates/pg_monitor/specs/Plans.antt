@@ -1,5 +1,5 @@
 -- Turns by a plan: which guest is to have how many turns, in order.
-use Rattle.std.specs.Prelude.{◌≡◌, ℕ, ◌+◌, ◌<◌, ◌≤◌, ◌⊎◌, List, [], ◌∷◌, All, Option, None, Some, slice_get}
+use Rattle.std.specs.Prelude.{◌≡◌, ℕ, ◌+◌, ◌<◌, ◌≤◌, ◌⊎◌, ◌==◌, if◌then◌else◌, List, [], ◌∷◌, All, Option, None, Some, slice_get, slice_index}
 use Rattle.pg_ast.specs.declared.tree.Desc.{Desc}
 use Rattle.pg_type.specs.States.{State}
 use Rattle.pg_hw.specs.declared.counts.Counts.{Counts}
@@ -7,7 +7,7 @@ use Rattle.pg_hw.specs.Tallies.{Bottom}
 use Rattle.pg_monitor.specs.declared.guest.Guest.{Guest}
 use Rattle.pg_monitor.specs.Guests.{virtuals}
 use Rattle.pg_monitor.specs.Direct.{direct_among}
-use Rattle.pg_monitor.specs.Turns.{moved, current_after, changes_in, CountsTurns, BottomTurns, grants_of}
+use Rattle.pg_monitor.specs.Turns.{moved, trap_cell, current_after, changes_in, CountsTurns, BottomTurns, grants_of}
 
 -- the states after a plan: each pair moves the state of its guest
 abbrev pub after_plan : Desc → List (ℕ × ℕ) → List State → List State
@@ -18,6 +18,11 @@ after_plan d (turn ∷ plan) ss = after_plan d plan (moved d turn.0 turn.1 ss)
 abbrev pub turns_of : List (ℕ × ℕ) → ℕ
 turns_of [] = 0
 turns_of (turn ∷ plan) = turn.1 + turns_of plan
+
+-- the turns that a plan gives to guest j
+abbrev pub turns_for : ℕ → List (ℕ × ℕ) → ℕ
+turns_for j [] = 0
+turns_for j (turn ∷ plan) = (if turn.0 == j then turn.1 else 0) + turns_for j plan
 
 -- the direct ones among n turns of a guest that may be missing
 abbrev pub direct_turns : Desc → Option Guest → Option State → ℕ → ℕ
@@ -30,6 +35,18 @@ abbrev pub direct_of : Desc → List Guest → List (ℕ × ℕ) → List State 
 direct_of d gs [] ss = 0
 direct_of d gs (turn ∷ plan) ss =
     direct_turns d (slice_get gs turn.0) (slice_get ss turn.0) turn.1 + direct_of d gs plan (moved d turn.0 turn.1 ss)
+
+-- what cell 0 holds after n turns of a guest that may be missing
+abbrev pub cell_turns : Desc → Option Guest → Option State → ℕ → ℕ → ℕ
+cell_turns d None s n held = held
+cell_turns d (Some g) None n held = held
+cell_turns d (Some g) (Some s) n held = trap_cell d g.base n s held
+
+-- what it holds behind a plan, of guests at these states: the word of the last trap of all its turns, or else what it held
+abbrev pub cell_behind : Desc → List Guest → List (ℕ × ℕ) → List State → ℕ → ℕ
+cell_behind d gs [] ss held = held
+cell_behind d gs (turn ∷ plan) ss held =
+    cell_behind d gs plan (moved d turn.0 turn.1 ss) (cell_turns d (slice_get gs turn.0) (slice_get ss turn.0) turn.1 held)
 
 -- the guest that is current behind a plan
 abbrev pub current_of : List (ℕ × ℕ) → Option ℕ → Option ℕ
@@ -52,5 +69,6 @@ pub record Followed (d : Desc) (plan : List (ℕ × ℕ)) (old new : State) (old
   pub current : new_current ≡ current_of plan old_current
   -- no cell outside the grants and cell 0 changes
   pub outside : (at : ℕ) → 1 ≤ at → IsOutside old_guests at → slice_get new.cells at ≡ slice_get old.cells at
+  pub cell_0 : slice_index new.cells 0 ≡ cell_behind d old_guests plan (virtuals old.cells old_guests) (slice_index old.cells 0)
   pub tally : CountsTurns (turns_of plan) (direct_of d old_guests plan (virtuals old.cells old_guests)) (changes_of plan old_current) old_tally new_tally
   pub bottom : BottomTurns (turns_of plan) (direct_of d old_guests plan (virtuals old.cells old_guests)) old_bottom new_bottom

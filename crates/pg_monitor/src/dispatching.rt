@@ -3,18 +3,19 @@
 //! A guest that is not the current one is entered first, which is a *change of guest* and one load. Its turns are then
 //! those of `turning`. No call here takes memory or refuses anything.
 
-ghost use Rattle.std.specs.Prelude.{◌≡◌, ◌<◌, length, All, Some, slice_get, true};
-ghost use Rattle.pg_type.specs.Steps.{step};
+ghost use Rattle.std.specs.Prelude.{◌≡◌, ℕ, ◌<◌, length, All, Some, slice_get, true};
+ghost use Rattle.std.specs.Option.{option_map};
+ghost use Rattle.pg_type.specs.Steps.{step, steps};
 ghost use Rattle.pg_hw.specs.Bursts.{traps};
 ghost use Rattle.pg_hw.specs.Serving.{SameServed};
 ghost use Rattle.pg_hw.specs.Tallies.{raised_by};
 ghost use Rattle.pg_monitor.specs.declared.guest.Guest.{Guest as Guests};
-ghost use Rattle.pg_monitor.specs.Guests.{virtual};
+ghost use Rattle.pg_monitor.specs.Guests.{virtual, virtuals};
 ghost use Rattle.pg_monitor.specs.Direct.{is_direct};
 ghost use Rattle.pg_monitor.specs.Monitors.{desc_of};
 ghost use Rattle.pg_monitor.specs.Standing.{Stands};
 ghost use Rattle.pg_monitor.specs.Turns.{change_to, Turned};
-ghost use Rattle.pg_monitor.specs.Plans.{Followed};
+ghost use Rattle.pg_monitor.specs.Plans.{turns_for, Followed};
 ghost use Rattle.pg_monitor.specs.Current.{Runs, is_current};
 
 use crate::guest::Guest;
@@ -101,6 +102,9 @@ impl<'m> Monitor<'m> {
         requires stands { Stands (desc_of self.old) (H.state hw.old) self.old.guests self.old.current }
         requires known { All (λ t. t.0 < length self.old.guests) plan.now }
         ensures stands { Stands (desc_of self.old) (H.state hw.new) self.new.guests self.new.current }
+        // Each guest stands at the state of its own number of turns, whatever the others did.
+        ensures own { (j : ℕ) → slice_get (virtuals (H.state hw.new).cells self.new.guests) j
+            ≡ option_map (steps (desc_of self.old) (turns_for j plan.now)) (slice_get (virtuals (H.state hw.old).cells self.old.guests) j) }
         ensures followed { Followed (desc_of self.old) plan.now (H.state hw.old) (H.state hw.new) self.old.guests self.new.guests
             self.old.current self.new.current (H.tally hw.old) (H.tally hw.new) (H.bottom hw.old) (H.bottom hw.new) }
         ensures machine { self.new.accepted.machine.now ≡ self.old.accepted.machine.now }

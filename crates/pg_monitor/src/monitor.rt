@@ -1,6 +1,6 @@
 //! The monitor.
 
-ghost use Rattle.std.specs.Prelude.{◌≡◌, ℕ, ◌+◌, ◌<◌, ◌≤◌, ◌^◌, [], ◌∷◌, ◌++◌, length, All, None, Some, OnOk, OnErr, IfOk, IfErr, slice_get, slice_set, true};
+ghost use Rattle.std.specs.Prelude.{◌≡◌, ℕ, ◌+◌, ◌<◌, ◌≤◌, ◌^◌, [], ◌∷◌, ◌++◌, length, All, None, Some, IsSomeAnd, IsSome, OnOk, OnErr, IfOk, IfErr, slice_get, slice_set, true};
 ghost use Rattle.pg_word.specs.Psw.{packed};
 ghost use Rattle.pg_type.specs.States.{State, IsState};
 ghost use Rattle.pg_type.specs.Steps.{power_on, step};
@@ -11,7 +11,7 @@ ghost use Rattle.pg_routine.specs.Granting.{with_grant};
 ghost use Rattle.pg_monitor.specs.declared.guest.Guest.{Guest as Guests};
 ghost use Rattle.pg_monitor.specs.Guests.{virtual, virtuals};
 ghost use Rattle.pg_monitor.specs.Direct.{is_direct};
-ghost use Rattle.pg_monitor.specs.Monitors.{desc_of};
+ghost use Rattle.pg_monitor.specs.Monitors.{desc_of, base_for};
 ghost use Rattle.pg_monitor.specs.Standing.{control_psw, Stands};
 ghost use Rattle.pg_monitor.specs.Turns.{change_to, Turned};
 ghost use Rattle.pg_monitor.specs.Current.{Holds, Runs};
@@ -82,7 +82,8 @@ impl<'m> Monitor<'m> {
 
     /// Loads an image as a new guest, whose grant is as large, and which is switched on with it. The number of the guest.
     ///
-    /// `NoRoom` comes exactly where the storage has no room for the grant. Memory is taken before the hardware is touched.
+    /// The grant is placed at the least base that is free. `NoRoom` comes exactly where none is. Memory is taken before the
+    /// hardware is touched.
     pub fn load<H: Hardware>(&mut self, hw: &mut H, image: &Image) -> Result<usize, LoadFault>
         requires none { self.old.guests ≡ [] }
         requires least { 2 ≤ length image.now }
@@ -91,17 +92,17 @@ impl<'m> Monitor<'m> {
         requires stands { Stands (desc_of self.old) (H.state hw.old) self.old.guests self.old.current }
         ensures number { IfOk result (λ k. k ≡ length self.old.guests) }
         ensures guests { let size = length image.now in
-            OnOk result (self.new.guests ≡ self.old.guests ++ record { base = 2; size = size; psw = record { mode = Mode.S; p = 2; l = 0; b = size } } ∷ []) }
+            OnOk result (IsSomeAnd (base_for self.old size) (λ base. self.new.guests ≡ self.old.guests ++ record { base = base; size = size; psw = record { mode = Mode.S; p = 2; l = 0; b = size } } ∷ [])) }
         ensures current { self.new.current ≡ self.old.current }
         ensures machine { self.new.accepted.machine.now ≡ self.old.accepted.machine.now }
         ensures stands { Stands (desc_of self.old) (H.state hw.new) self.new.guests self.new.current }
         ensures states { OnOk result (virtuals (H.state hw.new).cells self.new.guests
             ≡ virtuals (H.state hw.old).cells self.old.guests ++ power_on image.now (length image.now) ∷ []) }
-        ensures state { OnOk result (H.state hw.new ≡ record (H.state hw.old) { cells = with_grant (H.state hw.old).cells 2 image.now }) }
+        ensures state { OnOk result (IsSomeAnd (base_for self.old (length image.now)) (λ base. H.state hw.new ≡ record (H.state hw.old) { cells = with_grant (H.state hw.old).cells base image.now })) }
         ensures tally { OnOk result (H.tally hw.new ≡ after_pokes (H.tally hw.old) (length image.now)) }
-        ensures room_where_loaded { OnOk result (2 + length image.now ≤ (desc_of self.old).size) }
-        ensures no_room { IfErr result (λ e. e ≡ LoadFault.NoRoom → (desc_of self.old).size < 2 + length image.now) }
-        ensures memory { IfErr result (λ e. e ≡ LoadFault.Memory → 2 + length image.now ≤ (desc_of self.old).size) }
+        ensures room_where_loaded { OnOk result (IsSome (base_for self.old (length image.now))) }
+        ensures no_room { IfErr result (λ e. e ≡ LoadFault.NoRoom → base_for self.old (length image.now) ≡ None) }
+        ensures memory { IfErr result (λ e. e ≡ LoadFault.Memory → IsSome (base_for self.old (length image.now))) }
         ensures refused_guests { OnErr result (self.new.guests ≡ self.old.guests) }
         ensures refused_state { OnErr result (H.state hw.new ≡ H.state hw.old) }
         ensures refused_tally { OnErr result (H.tally hw.new ≡ H.tally hw.old) }

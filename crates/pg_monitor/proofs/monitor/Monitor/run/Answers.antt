@@ -2,7 +2,7 @@ use Rattle.std.proofs.Common.{ap, ◌∙◌, subst, arith}
 use Rattle.pg_type.specs.declared.machine.Machine.{Machine}
 use Rattle.pg_hw.proofs.ServingLaws.{SameServed-then}
 use Rattle.pg_monitor.specs.Standing.{Stands}
-use Rattle.pg_monitor.proofs.PlanLemmas.{Followed-on, Followed-end, Turned-machine, grants-length}
+use Rattle.pg_monitor.proofs.PlanLemmas.{Followed-own, Followed-on, Followed-end, Turned-machine, grants-length}
 use Rattle.pg_monitor.proofs.monitor.Monitor.run.Goals as goal
 
 pub loop-turn-preserved : goal.loop-turn-preserved
@@ -25,3 +25,9 @@ pub returns-clause-followed : goal.returns-clause-followed
 returns-clause-followed g c =
     c.loop-turn.invariant.goes _ _ _ _ _
     (Followed-end c.args.self.now.accepted.machine.now.desc c.args.plan.now c.loop-turn.turn-index _ _ _ _ _ (omega (arith, c.loop-turn-test.false)))
+
+pub returns-clause-own : goal.returns-clause-own
+returns-clause-own g c =
+    Followed-own c.args.self.now.accepted.machine.now.desc c.args.plan.now _ _ _ _ _ _ _ _ _ _
+    (c.loop-turn.invariant.goes _ _ _ _ _
+    (Followed-end c.args.self.now.accepted.machine.now.desc c.args.plan.now c.loop-turn.turn-index _ _ _ _ _ (omega (arith, c.loop-turn-test.false))))

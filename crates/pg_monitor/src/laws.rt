@@ -1,0 +1,29 @@
+//! What follows from the definitions alone, for those who read them: none of it does anything when it runs.
+
+ghost use Rattle.std.specs.Prelude.{◌≡◌, ℕ, ◌+◌, ◌<◌, ◌≤◌, List, [], None, Some, IsSomeAnd};
+ghost use Rattle.pg_monitor.specs.Loading.{free_base, IsFree};
+ghost use Rattle.pg_monitor.specs.WorkedBases.{FirstGrant, WholeStorage, OneCellTooMany, SecondGrant, FullStorage, BeforeAnother, GapBetween, GapTooSmall};
+
+/// A grant is placed at the least base at which its cells are free, where they are free at some.
+pub fn first_fit()
+    ensures free { (q size base : ℕ) (grants : List (ℕ × ℕ)) → free_base q grants size ≡ Some base → IsFree q grants size base }
+    ensures least { (q size base : ℕ) (grants : List (ℕ × ℕ)) → IsFree q grants size base → IsSomeAnd (free_base q grants size) (λ found. found ≤ base) }
+{}
+
+/// The first grant lies behind the two cells of traps, where so many cells lie there.
+pub fn first_grant()
+    ensures placed { (q size : ℕ) → 2 + size ≤ q → free_base q [] size ≡ Some 2 }
+    ensures refused { (q size : ℕ) → q < 2 + size → free_base q [] size ≡ None }
+{}
+
+/// Grants in a storage of 64 cells.
+pub fn worked_bases()
+    ensures first_grant { FirstGrant }
+    ensures whole_storage { WholeStorage }
+    ensures one_cell_too_many { OneCellTooMany }
+    ensures second_grant { SecondGrant }
+    ensures full_storage { FullStorage }
+    ensures before_another { BeforeAnother }
+    ensures gap_between { GapBetween }
+    ensures gap_too_small { GapTooSmall }
+{}
