@@ -8,8 +8,8 @@ use Rattle.clap.specs.Kinds.{IsAmong, Kinds}
 use Rattle.clap.specs.Faults.{fault_of}
 use Rattle.clap.specs.declared.error.kind.ErrorKind.{ErrorKind}
 use Rattle.clap.specs.declared.error.kind.ErrorKind.TheVariants.{OutOfMemory}
-use Rattle.pg_command.specs.Asked.{Asked, AskedBare, AskedPrint, AskedRun, AsksBare, AsksPrint, AsksRun, asked_of, bare_of, named_as, print_of, request_of, run_of, unless_fault, with_number}
-use Rattle.pg_command.specs.Reads.{HoldsBare, HoldsCommand, HoldsOne, HoldsPrint, HoldsRun}
+use Rattle.pg_command.specs.Asked.{Asked, AskedPrint, AskedRun, AsksBare, AsksPrint, AsksRun, asked_of, named_as, print_of, request_of, run_of, unless_fault, with_number}
+use Rattle.pg_command.specs.Reads.{HoldsCommand, HoldsOne, HoldsPrint, HoldsRun}
 use Rattle.pg_command.proofs.LineLaws.{line_holds}
 use Rattle.pg_command.specs.Line.{line}
 use Rattle.pg_command.specs.declared.ask.Request.{Request}
@@ -30,18 +30,7 @@ pub asks_nothing : (words : List Text) → fault_of line words ≢ [] → reques
 unfolding request_of
 asks_nothing words some = hidden (fault_of line words) (named_as (subcommand_of line words)) some
 
--- what the arguments of `bare` hold is something to ask for
-bare_asks : (rows : List Row) → HoldsBare rows → is_some (bare_of rows) ≡ true
-bare_asks rows h = go (first_of (codes "DESC") rows) (first_of (codes "IMAGE") rows) h.desc h.image
-  where
-    go : (desc image : Option Text) → is_some desc ≡ true → is_some image ≡ true
-        → is_some {T = AskedBare} (option_and_then (λ (d : Text). option_and_then (λ (i : Text). with_number (codes "grant") rows (λ g. with_number (codes "steps") rows (λ n.
-        Some (record { desc = d; image = i; grant = g; steps = n })))) image) desc) ≡ true
-    go None image d i = d
-    go (Some x) None d i = i
-    go (Some x) (Some y) d i = rw (h.grant.is_value, h.steps.is_value) refl
-
--- what the arguments of `run` hold is something to ask for
+-- what the arguments of a command that runs an image hold is something to ask for
 run_asks : (rows : List Row) → HoldsRun rows → is_some (run_of rows) ≡ true
 run_asks rows h = go (first_of (codes "DESC") rows) (first_of (codes "IMAGE") rows) h.desc h.image
   where
@@ -71,7 +60,7 @@ holds_request named held =
     ap (λ (o : Option (Text × List Row)). is_some (named_as o)) held.is_named ∙ one held.name held.rows held.holds
   where
     one : (name : Text) (rows : List Row) → HoldsOne name rows → is_some (asked_of name rows) ≡ true
-    one name rows (inl h) = ap (λ (word : Text). is_some (asked_of word rows)) h.0 ∙ request_made AsksBare (bare_of rows) (bare_asks rows h.1)
+    one name rows (inl h) = ap (λ (word : Text). is_some (asked_of word rows)) h.0 ∙ request_made AsksBare (run_of rows) (run_asks rows h.1)
     one name rows (inr (inl h)) = ap (λ (word : Text). is_some (asked_of word rows)) h.0 ∙ request_made AsksRun (run_of rows) (run_asks rows h.1)
     one name rows (inr (inr h)) = ap (λ (word : Text). is_some (asked_of word rows)) h.0 ∙ request_made AsksPrint (print_of rows) (print_asks rows h.1)
 

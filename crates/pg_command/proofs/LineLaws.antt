@@ -10,7 +10,7 @@ use Rattle.clap.proofs.ValueTestLemmas.{accepts-Accepts}
 use Rattle.clap.specs.declared.builder.value_parser.ValueParser.TheVariants as parser
 use Rattle.pg_command.specs.Line as line_spec
 use Rattle.pg_command.specs.Line.{line}
-use Rattle.pg_command.specs.Reads.{HasText, HoldsBare, HoldsCommand, HoldsOne, HoldsPrint, HoldsRun}
+use Rattle.pg_command.specs.Reads.{HasText, HoldsCommand, HoldsOne, HoldsPrint, HoldsRun}
 use Rattle.pg_command.proofs.RowLaws.{AreSingle}
 use Rattle.pg_command.proofs.LeafLaws.{IsGiven, command_met, leaf_given}
 use Rattle.pg_command.proofs.NumberLaws.{signed_number, unsigned_number}
@@ -24,11 +24,11 @@ pub line_plain : is_simple line ≡ true
 unfolding clap_on_literals
 line_plain = refl
 
--- ---- bare
+-- ---- a command that runs an image
 
 -- the command as it is built
-abbrev built_bare : Shape
-built_bare = built_leaf (inherited line_spec.program line_spec.bare)
+abbrev built_running : Text → Shape
+built_running name = built_leaf (inherited line_spec.program (line_spec.running name))
 
 abbrev desc : Rule
 desc = with_index 1 (filled (line_spec.place (codes "DESC")))
@@ -42,8 +42,8 @@ grant = filled line_spec.grant
 abbrev steps : Rule
 steps = filled line_spec.steps
 
-bare_single : AreSingle built_bare.rules built_bare.rules
-bare_single = (
+running_single : (name : Text) → AreSingle (built_running name).rules (built_running name).rules
+running_single name = (
   record { own = refl; action = refl; range = refl; defaults = refl },
   (
     record { own = refl; action = refl; range = refl; defaults = refl },
@@ -57,40 +57,11 @@ bare_single = (
 has_text : (a : Rule) (rows : List Row) → IsGiven a rows → HasText a.id rows
 has_text a rows g = ap is_some g.is_first
 
-bare_holds : (words : List Text) → level_fault built_bare [] nothing_held words false [] ≡ [] → HoldsBare (rows_after built_bare.rules [] words)
-bare_holds words none =
-    let given = leaf_given built_bare words bare_single none in
-    let rows = rows_after built_bare.rules [] words in
-    let cells = given grant refl refl in
-    let most = given steps refl refl in
-    record {
-      desc = has_text desc rows (given desc refl refl);
-      image = has_text image rows (given image refl refl);
-      grant = signed_number (codes "grant") 2 1048575 rows cells.text (omega arith) cells.is_one (accepts-Accepts false (parser.Signed (pos 2) (pos 1048575)) cells.text cells.passes);
-      steps = unsigned_number (codes "steps") 0 1000000 rows most.text most.is_one (accepts-Accepts false (parser.Unsigned 0 1000000) most.text most.passes);
-    }
-
--- ---- run
-
-abbrev built_run : Shape
-built_run = built_leaf (inherited line_spec.program line_spec.run)
-
-run_single : AreSingle built_run.rules built_run.rules
-run_single = (
-  record { own = refl; action = refl; range = refl; defaults = refl },
-  (
-    record { own = refl; action = refl; range = refl; defaults = refl },
-    (
-      record { own = refl; action = refl; range = refl; defaults = refl },
-      (record { own = refl; action = refl; range = refl; defaults = refl }, tt),
-    ),
-  ),
-)
-
-run_holds : (words : List Text) → level_fault built_run [] nothing_held words false [] ≡ [] → HoldsRun (rows_after built_run.rules [] words)
-run_holds words none =
-    let given = leaf_given built_run words run_single none in
-    let rows = rows_after built_run.rules [] words in
+running_holds : (name : Text) (words : List Text) → level_fault (built_running name) [] nothing_held words false [] ≡ []
+    → HoldsRun (rows_after (built_running name).rules [] words)
+running_holds name words none =
+    let given = leaf_given (built_running name) words (running_single name) none in
+    let rows = rows_after (built_running name).rules [] words in
     let cells = given grant refl refl in
     let most = given steps refl refl in
     record {
@@ -122,8 +93,8 @@ EachHolds (s ∷ more) =
 
 all_hold : EachHolds (built line).subs
 all_hold = (
-  (λ words none. inl (refl, bare_holds words none)),
-  ((λ words none. inr (inl (refl, run_holds words none))), ((λ words none. inr (inr (refl, print_holds words none))), tt)),
+  (λ words none. inl (refl, running_holds (codes "bare") words none)),
+  ((λ words none. inr (inl (refl, running_holds (codes "run") words none))), ((λ words none. inr (inr (refl, print_holds words none))), tt)),
 )
 
 -- the command that a test finds

@@ -7,20 +7,12 @@ use Rattle.clap.specs.Simple.{subcommand_of}
 use Rattle.clap.specs.Faults.{fault_of}
 use Rattle.clap.specs.Kinds.{Kinds}
 use Rattle.pg_command.specs.Line.{line}
-use Rattle.pg_command.specs.declared.ask.Bare.{Bare}
-use Rattle.pg_command.specs.declared.ask.Run.{Run}
-use Rattle.pg_command.specs.declared.ask.Print.{Print}
+use Rattle.pg_command.specs.declared.ask.RunWords.{RunWords}
+use Rattle.pg_command.specs.declared.ask.PrintWords.{PrintWords}
 use Rattle.pg_command.specs.declared.ask.Request.{Request}
 use Rattle.pg_command.specs.declared.ask.Request.TheVariants as request
 
 -- a description and an image by their files' names, a grant of cells, and a number of steps
-pub record AskedBare : Type 0 where
-  pub desc : Text
-  pub image : Text
-  pub grant : ℕ
-  pub steps : ℕ
-
--- the same of a guest under a monitor
 pub record AskedRun : Type 0 where
   pub desc : Text
   pub image : Text
@@ -31,23 +23,15 @@ pub record AskedRun : Type 0 where
 pub record AskedPrint : Type 0 where
   pub desc : Text
 
--- what was asked for
+-- what was asked for: a run on a bare machine, a run as a guest under a monitor, or a printed description
 pub data Asked : Type 0 where
-  AsksBare : AskedBare → Asked
+  AsksBare : AskedRun → Asked
   AsksRun : AskedRun → Asked
   AsksPrint : AskedPrint → Asked
 
 -- ---- what the code answers, as plain data
 
-abbrev pub bare_as : Bare → AskedBare
-bare_as b = record {
-  desc = string_bytes b.desc;
-  image = string_bytes b.image;
-  grant = b.grant;
-  steps = b.steps;
-}
-
-abbrev pub run_as : Run → AskedRun
+abbrev pub run_as : RunWords → AskedRun
 run_as r = record {
   desc = string_bytes r.desc;
   image = string_bytes r.image;
@@ -55,11 +39,11 @@ run_as r = record {
   steps = r.steps;
 }
 
-abbrev pub print_as : Print → AskedPrint
+abbrev pub print_as : PrintWords → AskedPrint
 print_as p = record { desc = string_bytes p.desc }
 
 abbrev pub asked_as : Request → Asked
-asked_as (request.Bare b) = AsksBare (bare_as b)
+asked_as (request.Bare r) = AsksBare (run_as r)
 asked_as (request.Run r) = AsksRun (run_as r)
 asked_as (request.Print p) = AsksPrint (print_as p)
 
@@ -76,15 +60,6 @@ with_text id rows make = option_and_then make (first_of id rows)
 abbrev pub with_number : {X : Type 0} → Text → List Row → (ℕ → Option X) → Option X
 with_number id rows make = option_and_then (λ text. make (number_of text)) (one_of id rows)
 
-abbrev pub bare_of : List Row → Option AskedBare
-bare_of rows = with_text (codes "DESC") rows (λ desc. with_text (codes "IMAGE") rows (λ image.
-    with_number (codes "grant") rows (λ grant. with_number (codes "steps") rows (λ steps. Some (record {
-      desc = desc;
-      image = image;
-      grant = grant;
-      steps = steps;
-    })))))
-
 abbrev pub run_of : List Row → Option AskedRun
 run_of rows = with_text (codes "DESC") rows (λ desc. with_text (codes "IMAGE") rows (λ image.
     with_number (codes "grant") rows (λ grant. with_number (codes "steps") rows (λ steps. Some (record {
@@ -99,7 +74,7 @@ print_of rows = with_text (codes "DESC") rows (λ desc. Some (record { desc = de
 
 -- by the command's name and the values of its arguments
 abbrev pub asked_of : Text → List Row → Option Asked
-asked_of name rows = cond (bytes_eq name (codes "bare")) (option_and_then (λ b. Some (AsksBare b)) (bare_of rows))
+asked_of name rows = cond (bytes_eq name (codes "bare")) (option_and_then (λ r. Some (AsksBare r)) (run_of rows))
     (cond (bytes_eq name (codes "run")) (option_and_then (λ r. Some (AsksRun r)) (run_of rows))
     (cond (bytes_eq name (codes "print")) (option_and_then (λ p. Some (AsksPrint p)) (print_of rows)) None))
 
@@ -118,14 +93,11 @@ request_of words = unless_fault (fault_of line words) (named_as (subcommand_of l
 
 -- ---- bounds
 
-abbrev pub IsBoundedBare : AskedBare → Type 0
-IsBoundedBare b = (2 ≤ b.grant) × (b.grant ≤ 1048575) × (b.steps ≤ 1000000)
-
 abbrev pub IsBoundedRun : AskedRun → Type 0
 IsBoundedRun r = (2 ≤ r.grant) × (r.grant ≤ 1048575) × (r.steps ≤ 1000000)
 
 -- each number is one that the line takes
 abbrev pub IsBounded : Asked → Type 0
-IsBounded (AsksBare b) = IsBoundedBare b
+IsBounded (AsksBare r) = IsBoundedRun r
 IsBounded (AsksRun r) = IsBoundedRun r
 IsBounded (AsksPrint p) = Unit {0}

@@ -13,23 +13,17 @@ place name = record (new_rule name) { required = true }
 abbrev pub number : Text → ValueParser → Rule
 number name numbers = record (new_rule name) { long = Some name; parser = Some numbers; required = true }
 
--- how many cells a machine, or a guest, is granted: 2 to 1,048,575
+-- how many cells are granted, to a machine or to a guest: 2 to 1,048,575
 abbrev pub grant : Rule
 grant = number (codes "grant") (parser.Signed (pos 2) (pos 1048575))
 
--- how many steps it runs at most: 0 to 1,000,000
+-- how many steps are done, exactly: 0 to 1,000,000
 abbrev pub steps : Rule
 steps = number (codes "steps") (parser.Unsigned 0 1000000)
 
--- `bare DESC IMAGE --grant G --steps N`
-abbrev pub bare : Shape
-bare = record (new_shape (codes "bare")) {
-  rules = place (codes "DESC") ∷ place (codes "IMAGE") ∷ grant ∷ steps ∷ [];
-}
-
--- `run DESC IMAGE --grant G --steps N`
-abbrev pub run : Shape
-run = record (new_shape (codes "run")) {
+-- `NAME DESC IMAGE --grant G --steps N`, a command that runs an image
+abbrev pub running : Text → Shape
+running name = record (new_shape name) {
   rules = place (codes "DESC") ∷ place (codes "IMAGE") ∷ grant ∷ steps ∷ [];
 }
 
@@ -37,9 +31,9 @@ run = record (new_shape (codes "run")) {
 abbrev pub print : Shape
 print = record (new_shape (codes "print")) { rules = place (codes "DESC") ∷ [] }
 
--- the commands
+-- the commands: `bare` runs on a bare machine, `run` as a guest under a monitor
 abbrev pub commands : List Shape
-commands = bare ∷ run ∷ print ∷ []
+commands = running (codes "bare") ∷ running (codes "run") ∷ print ∷ []
 
 -- the program: a command has to be named, and there is no word for help or the version
 abbrev pub program : Shape

@@ -16,14 +16,7 @@ pub record HasNumber (id : Text) (least most : ℕ) (rows : List Row) : Type 0 w
   pub is_least : least ≤ number_of text
   pub is_most : number_of text ≤ most
 
--- the arguments of `bare`
-pub record HoldsBare (rows : List Row) : Type 0 where
-  pub desc : HasText (codes "DESC") rows
-  pub image : HasText (codes "IMAGE") rows
-  pub grant : HasNumber (codes "grant") 2 1048575 rows
-  pub steps : HasNumber (codes "steps") 0 1000000 rows
-
--- the arguments of `run`
+-- the arguments of a command that runs an image
 pub record HoldsRun (rows : List Row) : Type 0 where
   pub desc : HasText (codes "DESC") rows
   pub image : HasText (codes "IMAGE") rows
@@ -37,7 +30,7 @@ pub record HoldsPrint (rows : List Row) : Type 0 where
 -- the arguments of the command of this name
 abbrev pub HoldsOne : Text → List Row → Type 0
 HoldsOne name rows =
-    ((name ≡ codes "bare") × HoldsBare rows) ⊎ ((name ≡ codes "run") × HoldsRun rows) ⊎ ((name ≡ codes "print") × HoldsPrint rows)
+    ((name ≡ codes "bare") × HoldsRun rows) ⊎ ((name ≡ codes "run") × HoldsRun rows) ⊎ ((name ≡ codes "print") × HoldsPrint rows)
 
 -- a command was named, and its arguments hold what it wants
 pub record HoldsCommand (named : Option (Text × List Row)) : Type 0 where

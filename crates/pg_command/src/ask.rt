@@ -6,42 +6,29 @@
 #[derive(Drop)]
 pub enum Request {
     /// `bare`: run an image on a bare machine.
-    Bare(Bare),
+    Bare(RunWords),
     /// `run`: run an image as a guest under a monitor.
-    Run(Run),
+    Run(RunWords),
     /// `print`: print a description.
-    Print(Print),
+    Print(PrintWords),
 }
 
-/// The words of `bare`.
+/// The words of a command that runs an image, `bare` or `run`.
 #[derive(Drop)]
-pub struct Bare {
+pub struct RunWords {
     /// The name of the file with the machine's description.
     pub desc: String,
     /// The name of the file with the image.
     pub image: String,
-    /// How many cells the machine is granted.
+    /// How many cells are granted, to the machine or to the guest: 2 to 1,048,575.
     pub grant: u32,
-    /// How many steps it runs at most.
-    pub steps: u64,
-}
-
-/// The words of `run`.
-#[derive(Drop)]
-pub struct Run {
-    /// The name of the file with the machine's description.
-    pub desc: String,
-    /// The name of the file with the image.
-    pub image: String,
-    /// How many cells the guest is granted.
-    pub grant: u32,
-    /// How many steps the guest runs at most.
+    /// How many steps are done, exactly: 0 to 1,000,000.
     pub steps: u64,
 }
 
 /// The words of `print`.
 #[derive(Drop)]
-pub struct Print {
+pub struct PrintWords {
     /// The name of the file with the description to print.
     pub desc: String,
 }

@@ -10,7 +10,7 @@
 //! line which was taken has each of its arguments, and numbers within their bounds, is proved of `clap`'s
 //! rules and not tested again, so the only other answer is that there was no memory.
 //!
-//! A command is added by its description beside `bare` in the definitions, what its arguments hold, and what
+//! A command is added by its description beside the others in the definitions, what its arguments hold, and what
 //! they ask for, and in the code by a variant, a builder and a reader.
 #![tactic(auto)]
 
@@ -27,7 +27,7 @@ mod read;
 #[cfg(test)]
 mod tests;
 
-pub use ask::{Bare, Fault, Print, Request, Run};
+pub use ask::{Fault, PrintWords, Request, RunWords};
 use clap::error::ErrorKind;
 use line::command_line;
 use read::asked;

@@ -19,31 +19,25 @@ pub(crate) fn command_line<'a>(alloc: Global) -> Result<Command<'a>, AllocError>
         .disable_help_subcommand(true)
         .disable_version_flag(true)
         .subcommand_required(true);
-    with_print(alloc, with_run(alloc, with_bare(alloc, program)?)?)
+    let with_bare = with_running(alloc, "bare", program)?;
+    let with_run = with_running(alloc, "run", with_bare)?;
+    with_print(alloc, with_run)
 }
 
-/// The program with the command `bare DESC IMAGE --grant G --steps N`.
-fn with_bare<'a>(alloc: Global, program: Command<'a>) -> Result<Command<'a>, AllocError>
-    ensures { IfOk result (λ c. app_of c ≡ with_subcommand (app_of program.entry) spec.bare) }
+/// The program with the command `NAME DESC IMAGE --grant G --steps N`, which runs an image.
+fn with_running<'a>(
+    alloc: Global,
+    name: &'a str,
+    program: Command<'a>,
+) -> Result<Command<'a>, AllocError>
+    ensures { IfOk result (λ c. app_of c ≡ with_subcommand (app_of program.entry) (spec.running name.entry.now)) }
 {
-    let bare = Command::new(alloc, "bare")
+    let running = Command::new(alloc, name)
         .arg(place(alloc, "DESC"))?
         .arg(place(alloc, "IMAGE"))?
         .arg(grant(alloc))?
         .arg(steps(alloc))?;
-    program.subcommand(bare)
-}
-
-/// The program with the command `run DESC IMAGE --grant G --steps N`.
-fn with_run<'a>(alloc: Global, program: Command<'a>) -> Result<Command<'a>, AllocError>
-    ensures { IfOk result (λ c. app_of c ≡ with_subcommand (app_of program.entry) spec.run) }
-{
-    let run = Command::new(alloc, "run")
-        .arg(place(alloc, "DESC"))?
-        .arg(place(alloc, "IMAGE"))?
-        .arg(grant(alloc))?
-        .arg(steps(alloc))?;
-    program.subcommand(run)
+    program.subcommand(running)
 }
 
 /// The program with the command `print DESC`.
@@ -73,7 +67,7 @@ fn number<'a>(alloc: Global, name: &'a str, numbers: ValueParser<'a>) -> Arg<'a>
         .value_parser(numbers)
 }
 
-/// How many cells a machine, or a guest, is granted.
+/// How many cells are granted, to a machine or to a guest: 2 to 1,048,575.
 fn grant<'a>(alloc: Global) -> Arg<'a>
     ensures rule { rule_of result ≡ spec.grant }
     ensures local { result.global ≡ false }
@@ -81,7 +75,7 @@ fn grant<'a>(alloc: Global) -> Arg<'a>
     number(alloc, "grant", value_parser!(u32).range(2..1_048_576))
 }
 
-/// How many steps it runs at most.
+/// How many steps are done, exactly: 0 to 1,000,000.
 fn steps<'a>(alloc: Global) -> Arg<'a>
     ensures rule { rule_of result ≡ spec.steps }
     ensures local { result.global ≡ false }

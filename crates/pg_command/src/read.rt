@@ -4,10 +4,10 @@
 //! The functions here require that of the matches, and take the values without a test.
 ghost use Rattle.std.specs.Prelude.{◌≡◌, ◌≤◌, IfOk, Some, option_map, codes, string_bytes};
 ghost use Rattle.clap.specs.Words.{found_of, rows_of, subcommand_rows_of, first_of, one_of};
-ghost use Rattle.pg_command.specs.Asked.{IsBounded, IsBoundedBare, IsBoundedRun, asked_as, bare_as, bare_of, named_as, number_of, print_as, print_of, run_as, run_of};
-ghost use Rattle.pg_command.specs.Reads.{HasNumber, HasText, HoldsBare, HoldsCommand, HoldsPrint, HoldsRun};
+ghost use Rattle.pg_command.specs.Asked.{IsBounded, IsBoundedRun, asked_as, named_as, number_of, print_as, print_of, run_as, run_of};
+ghost use Rattle.pg_command.specs.Reads.{HasNumber, HasText, HoldsCommand, HoldsPrint, HoldsRun};
 
-use crate::ask::{Bare, Print, Request, Run};
+use crate::ask::{PrintWords, Request, RunWords};
 use clap::ArgMatches;
 use std::alloc::{AllocError, Global};
 
@@ -18,10 +18,10 @@ pub(crate) fn asked(alloc: Global, matches: &ArgMatches<'_>) -> Result<Request, 
     ensures bounds { IfOk result (λ r. IsBounded (asked_as r)) }
 {
     if let Some(found) = matches.subcommand_matches("bare") {
-        return Ok(Request::Bare(bare(alloc, found)?));
+        return Ok(Request::Bare(running(alloc, found)?));
     }
     if let Some(found) = matches.subcommand_matches("run") {
-        return Ok(Request::Run(run(alloc, found)?));
+        return Ok(Request::Run(running(alloc, found)?));
     }
     if let Some(found) = matches.subcommand_matches("print") {
         return Ok(Request::Print(print(alloc, found)?));
@@ -29,17 +29,17 @@ pub(crate) fn asked(alloc: Global, matches: &ArgMatches<'_>) -> Result<Request, 
     unreachable!()
 }
 
-/// The words of `bare`.
-fn bare(alloc: Global, matches: &ArgMatches<'_>) -> Result<Bare, AllocError>
-    requires { HoldsBare (rows_of (found_of matches.now)) }
-    ensures value { IfOk result (λ b. bare_of (rows_of (found_of matches.now)) ≡ Some (bare_as b)) }
-    ensures bounds { IfOk result (λ b. IsBoundedBare (bare_as b)) }
+/// The words of a command that runs an image.
+fn running(alloc: Global, matches: &ArgMatches<'_>) -> Result<RunWords, AllocError>
+    requires { HoldsRun (rows_of (found_of matches.now)) }
+    ensures value { IfOk result (λ r. run_of (rows_of (found_of matches.now)) ≡ Some (run_as r)) }
+    ensures bounds { IfOk result (λ r. IsBoundedRun (run_as r)) }
 {
     let grant = grant(matches);
     let steps = steps(matches);
     let desc = text(alloc, matches, "DESC")?;
     let image = text(alloc, matches, "IMAGE")?;
-    Ok(Bare {
+    Ok(RunWords {
         desc,
         image,
         grant,
@@ -47,26 +47,12 @@ fn bare(alloc: Global, matches: &ArgMatches<'_>) -> Result<Bare, AllocError>
     })
 }
 
-/// The words of `run`.
-fn run(alloc: Global, matches: &ArgMatches<'_>) -> Result<Run, AllocError>
-    requires { HoldsRun (rows_of (found_of matches.now)) }
-    ensures value { IfOk result (λ r. run_of (rows_of (found_of matches.now)) ≡ Some (run_as r)) }
-    ensures bounds { IfOk result (λ r. IsBoundedRun (run_as r)) }
-{
-    Ok(Run {
-        desc: text(alloc, matches, "DESC")?,
-        image: text(alloc, matches, "IMAGE")?,
-        grant: grant(matches),
-        steps: steps(matches),
-    })
-}
-
 /// The words of `print`.
-fn print(alloc: Global, matches: &ArgMatches<'_>) -> Result<Print, AllocError>
+fn print(alloc: Global, matches: &ArgMatches<'_>) -> Result<PrintWords, AllocError>
     requires { HoldsPrint (rows_of (found_of matches.now)) }
     ensures { IfOk result (λ p. print_of (rows_of (found_of matches.now)) ≡ Some (print_as p)) }
 {
-    Ok(Print {
+    Ok(PrintWords {
         desc: text(alloc, matches, "DESC")?,
     })
 }
@@ -79,7 +65,7 @@ fn text(alloc: Global, matches: &ArgMatches<'_>, id: &str) -> Result<String, All
     String::from_str(alloc, matches.get_str(id).unwrap())
 }
 
-/// How many cells a machine, or a guest, is granted.
+/// How many cells are granted, to a machine or to a guest.
 fn grant(matches: &ArgMatches<'_>) -> u32
     requires { HasNumber (codes "grant") 2 1048575 (rows_of (found_of matches.now)) }
     ensures value { option_map number_of (one_of (codes "grant") (rows_of (found_of matches.now))) ≡ Some result }
@@ -89,7 +75,7 @@ fn grant(matches: &ArgMatches<'_>) -> u32
     matches.get_one::<u32>("grant").unwrap()
 }
 
-/// How many steps it runs at most.
+/// How many steps are done, exactly.
 fn steps(matches: &ArgMatches<'_>) -> u64
     requires { HasNumber (codes "steps") 0 1000000 (rows_of (found_of matches.now)) }
     ensures value { option_map number_of (one_of (codes "steps") (rows_of (found_of matches.now))) ≡ Some result }

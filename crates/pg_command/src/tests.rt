@@ -1,6 +1,6 @@
 //! Lines as a user types them, with what they ask for.
 
-use crate::{Fault, Request, request};
+use crate::{Fault, Request, RunWords, request};
 use std::alloc::{AllocError, Global};
 use std::process::Abort;
 use std::test::Fail;
@@ -14,6 +14,14 @@ fn words(alloc: Global, texts: &[&str]) -> Result<Vec<String>, AllocError> {
     Ok(words)
 }
 
+/// The words name the description `d`, the image `i` and these numbers.
+fn names(rt: &impl Abort, words: &RunWords, grant: u32, steps: u64) {
+    assert_eq!(rt; words.desc.as_str(), "d");
+    assert_eq!(rt; words.image.as_str(), "i");
+    assert_eq!(rt; words.grant, grant);
+    assert_eq!(rt; words.steps, steps);
+}
+
 /// The line asks for `bare` with the description `d`, the image `i` and these numbers.
 fn asks(
     rt: &impl Abort,
@@ -24,12 +32,7 @@ fn asks(
 ) -> Result<(), Fail> {
     let words = words(alloc, texts)?;
     match request(alloc, &words)? {
-        Request::Bare(bare) => {
-            assert_eq!(rt; bare.desc.as_str(), "d");
-            assert_eq!(rt; bare.image.as_str(), "i");
-            assert_eq!(rt; bare.grant, grant);
-            assert_eq!(rt; bare.steps, steps);
-        }
+        Request::Bare(words) => names(rt, &words, grant, steps),
         Request::Run(_) => assert!(rt; false, "another command"),
         Request::Print(_) => assert!(rt; false, "another command"),
     }
@@ -46,12 +49,7 @@ fn asks_run(
 ) -> Result<(), Fail> {
     let words = words(alloc, texts)?;
     match request(alloc, &words)? {
-        Request::Run(run) => {
-            assert_eq!(rt; run.desc.as_str(), "d");
-            assert_eq!(rt; run.image.as_str(), "i");
-            assert_eq!(rt; run.grant, grant);
-            assert_eq!(rt; run.steps, steps);
-        }
+        Request::Run(words) => names(rt, &words, grant, steps),
         Request::Bare(_) => assert!(rt; false, "another command"),
         Request::Print(_) => assert!(rt; false, "another command"),
     }
@@ -172,7 +170,7 @@ fn the_words_of_run(rt: HostRuntime) -> Result<(), Fail> {
 }
 
 #[test]
-fn numbers_out_of_range(rt: HostRuntime) -> Result<(), Fail> {
+fn grants_out_of_range(rt: HostRuntime) -> Result<(), Fail> {
     let alloc = rt.alloc();
     for grant in ["1", "1048576", "-8", "", "0x8", "8 "] {
         refuses(
@@ -181,6 +179,12 @@ fn numbers_out_of_range(rt: HostRuntime) -> Result<(), Fail> {
             &["pgv", "bare", "d", "i", "--steps=0", "--grant", grant],
         )?;
     }
+    Ok(())
+}
+
+#[test]
+fn steps_out_of_range(rt: HostRuntime) -> Result<(), Fail> {
+    let alloc = rt.alloc();
     for steps in ["--steps=1000001", "--steps=-1", "--steps=1e3", "--steps"] {
         refuses(&rt, alloc, &["pgv", "bare", "d", "i", "--grant=8", steps])?;
     }

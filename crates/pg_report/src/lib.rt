@@ -1,10 +1,9 @@
 //! The texts that the program puts into a sink.
 //!
 //! These go out: the line of a refusal, the lines of usage, the text of a state, the lines around states of guests, and
-//! texts that stand in memory. Each is put line by line, and
-//! each line, in a buffer of fixed length, is one `put`, so that nothing here takes memory and nothing but the sink can
-//! refuse. A call answers as one `put` of its whole text would: where a put fails it answers `Failed`, and nothing more
-//! is put.
+//! texts that stand in memory. Each is put line by line, and each line, in a buffer of fixed length or as it stands in
+//! memory, is one `put`, so that nothing here takes memory and nothing but the sink can refuse. A call answers as one `put`
+//! of its whole text would: where a put fails it answers `Failed`, and nothing more is put.
 //!
 //! - `line`: what a refusal says.
 //! - `push`: bytes, numbers and names at the end of a line.

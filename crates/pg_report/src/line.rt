@@ -1,4 +1,8 @@
 //! Why a command is refused, as it is told.
+//!
+//! `pg_tool` makes these of the faults of the readers and of `check`, and of what it finds itself. They hold what a line
+//! says; how it is written is in `refusal` and in `specs/Texts.antt`. Want of memory has no line, and is no variant here. A
+//! name is owned, since the description that it comes from is gone when the line is put: the one part that takes memory.
 
 use pg_type::Limit;
 use sqlite_items::Items;
@@ -6,30 +10,31 @@ use sqlite_items::Items;
 /// A line that says why a command is refused.
 #[derive(Debug, Drop)]
 pub enum RefusalLine {
-    /// Of the description.
+    /// The description is refused, for this reason.
     Description(DescriptionLine),
-    /// Of the image of this number, counted from 0.
+    /// The image of this number, counted from 0, is refused, for this reason.
     Image(usize, ImageLine),
-    /// So many cells are wanted, and so many are free.
+    /// So many cells are wanted, and so many, which are fewer, are free.
     Room(u64, u64),
-    /// The instruction of this name breaks the plain rule, so that it stays open whether a monitor may run the machine.
+    /// The instruction of this name is the first that breaks the plain rule, so that it stays open whether a monitor may run
+    /// the machine.
     Open(Items<u8>),
 }
 
-/// Why a description is refused. Places are bytes, and instructions are numbered from 0.
+/// Why a description is refused. Places are bytes of its text, and both they and instructions are counted from 0.
 #[derive(Debug, Drop)]
 pub enum DescriptionLine {
     /// It has more bytes than the limit.
     Long,
-    /// No token stands at this place.
+    /// The first byte, number, word or pattern that makes no token stands at this place.
     Token(usize),
-    /// The token at this place is the first that no description goes on with; or its end comes too early, at this length.
+    /// The token at this place is the first that no description goes on with; or the text ends too early, at this length.
     Grammar(usize),
-    /// The token at this place begins an expression, or opens a block, of too many levels.
+    /// The token at this place begins an expression of more than 32 levels, or opens a block of more than 16.
     Deep(usize),
     /// The numbers of the head are those of no machine.
     Shape,
-    /// A limit, and the instruction that breaks it.
+    /// The least limit that an instruction breaks, and that instruction: the first that breaks one.
     Limit(Limit, usize),
     /// A name that is given twice.
     Twice(Items<u8>),
@@ -43,17 +48,17 @@ pub enum DescriptionLine {
     Width(usize, usize),
 }
 
-/// Why an image is refused. Lines are numbered from 1.
+/// Why an image is refused. Places are bytes of its text, counted from 0, and lines are numbered from 1.
 #[derive(Debug, Drop)]
 pub enum ImageLine {
     /// It has more bytes than the limit.
     Long,
-    /// A byte at this place may not stand in an image.
+    /// The byte at this place is the first that may not stand in an image.
     Token(usize),
-    /// A line of another form.
+    /// This line has parts, and is no address with words behind it.
     Grammar(usize),
-    /// A line with a word at or past the size.
+    /// This line has a word that would stand at or past the size.
     Address(usize),
-    /// A line with a cell that an earlier line gave.
+    /// This line gives a cell that an earlier line gave.
     Overlap(usize),
 }

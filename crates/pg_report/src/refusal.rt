@@ -1,4 +1,8 @@
 //! The lines of refusals and of usage.
+//!
+//! `pg_tool` puts one of these where it refuses a command, and then nothing else. A refusal is one line, made whole before
+//! it is put: each function that pushes says how many bytes it may need, 72 for the whole, so that the line fits its buffer.
+//! The texts, byte for byte, are in `specs/Texts.antt`.
 
 ghost use Rattle.std.specs.Prelude.{◌≡◌, ◌+◌, ◌≤◌, ◌++◌};
 ghost use Rattle.arrayvec.specs.ArrayVec.{array_vec_len};

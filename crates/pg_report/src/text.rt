@@ -1,6 +1,9 @@
 //! A text that stands in memory.
+//!
+//! `pg_tool` puts a printed description so. Unlike the other texts it may be of any length, and it is not copied: the bytes
+//! go out as they stand, each line with its LF as one `put`, and what stands behind the last LF as one more.
 
-ghost use Rattle.std.specs.Prelude.{◌≡◌, ◌+◌, ◌<◌, ◌≤◌, ◌++◌, length};
+ghost use Rattle.std.specs.Prelude.{◌≡◌, ◌<◌, ◌++◌, length};
 ghost use Rattle.pg_edge.specs.Sink.{Puts};
 
 use pg_edge::{Failed, Sink};

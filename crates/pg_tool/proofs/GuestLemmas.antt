@@ -1,5 +1,5 @@
 -- Runs of a guest: what its monitor holds, what the hardware counts, and the text of the state that it reaches.
-use Rattle.std.proofs.Common.{◌≡◌, ℕ, zero, suc, ◌+◌, ◌-◌, ◌*◌, ◌≤◌, ◌<◌, ◌^◌, pow_mono, Bool, true, false, not, List, [], ◌∷◌, ◌++◌, length, take, drop, replicate, Option, Some, None, Result, Ok, Err, refl, sym, ◌∙◌, ap, subst, arith}
+use Rattle.std.proofs.Common.{◌≡◌, ℕ, zero, suc, ◌+◌, ◌-◌, ◌≤◌, ◌<◌, ◌^◌, pow_mono, Bool, true, false, not, List, [], ◌∷◌, ◌++◌, length, take, drop, replicate, Option, Some, None, IsSomeAnd, Result, Ok, Err, sym, ◌∙◌, ap, subst, arith}
 use Rattle.std.specs.Prelude.{slice_get}
 use Rattle.std.proofs.lemmas.List.{append-nil, append_assoc}
 use Rattle.std.proofs.lemmas.List.Elements.{All-nil}
@@ -15,14 +15,15 @@ use Rattle.pg_type.proofs.StepSound.{power_on-state}
 use Rattle.pg_hw.specs.Serving.{blank}
 use Rattle.pg_type.specs.Accepting.{IsAccepted}
 use Rattle.pg_hw.specs.declared.counts.Counts.{Counts}
-use Rattle.pg_hw.specs.Tallies.{Bottom, raised_by, after_poke}
+use Rattle.pg_hw.specs.Tallies.{Bottom, after_poke}
 use Rattle.pg_hw.specs.Bursts.{one_if}
 use Rattle.pg_monitor.specs.declared.guest.Guest.{Guest}
 use Rattle.pg_monitor.specs.Guests.{virtual, virtuals}
-use Rattle.pg_monitor.specs.Standing.{Stands}
+use Rattle.pg_monitor.specs.Standing.{control_psw, Stands}
 use Rattle.pg_monitor.specs.Direct.{is_direct, direct_among}
 use Rattle.pg_monitor.specs.Turns.{moved, grants_of, changes_in, CountsTurns, BottomTurns, Turned}
-use Rattle.pg_monitor.specs.Loading.{after_pokes}
+use Rattle.pg_monitor.specs.Loading.{free_base, after_pokes}
+use Rattle.pg_monitor.proofs.LoadLemmas.{base-first, known-base}
 use Rattle.pg_edge.specs.Sink.{Puts}
 use Rattle.pg_edge.proofs.PutsLaws.{Puts-then, Puts-stopped}
 use Rattle.pg_word.specs.declared.psw.Psw.{Psw}
@@ -30,7 +31,6 @@ use Rattle.pg_word.specs.declared.psw.Mode.TheVariants.{S}
 use Rattle.pg_image.specs.Lines.{state_text}
 use Rattle.pg_report.specs.Runs.{guest_line, steps_line, run_text}
 use Rattle.pg_tool.specs.Work.{BareRun, RunsGuest, work_text, reached, first_base, direct_steps}
-use Rattle.pg_tool.specs.Runs.{CanRun}
 use Rattle.pg_tool.specs.Plans.{first_guest}
 use Rattle.pg_tool.specs.Performs.{CanCount}
 use Rattle.pg_tool.specs.Leaves.{Machinery, RanGuest}
@@ -45,10 +45,29 @@ breach-within (i ∷ rest) k e = (position-Some (λ j. not (is_plain j)) (i ∷ 
 
 -- ---- the hardware before the monitor
 
--- what has room beside the monitor has room
-pub can-run : (w q g n : ℕ) (image : List ℕ) → CanRun w (q - 2) g n image → CanRun w q g n image
-can-run w q g n image h =
-    record { least = h.least; most = omega (arith, h.most); small = h.small; whole = h.whole; words = h.words; counted = h.counted }
+-- a guest that is switched on in a grant of so many cells from a base on
+abbrev guest_in : ℕ → ℕ → Guest
+guest_in base size = record { base = base; size = size; psw = control_psw size }
+
+-- the first guest is placed at 2, since there is room beside the monitor
+pub loaded-first : (d e : Desc) (g : ℕ) (image : List ℕ) (gs hs : List Guest) → 2 ≤ g → g ≤ d.size - 2 → length image ≡ g → e ≡ d → gs ≡ [] →
+    IsSomeAnd (free_base e.size (grants_of gs) (length image)) (λ base. hs ≡ gs ++ guest_in base (length image) ∷ []) → hs ≡ first_guest g ∷ []
+loaded-first d e g image gs hs least room whole same none placed =
+    known-base e.size gs (length image) (λ base. hs ≡ gs ++ guest_in base (length image) ∷ []) none
+    (omega (arith, least, room, whole, ap (λ (x : Desc). x.size) same)) placed
+    ∙ ap (λ l. l ++ guest_in 2 (length image) ∷ []) none ∙ ap (λ k. guest_in 2 k ∷ []) whole
+
+pub states-first : (old new : List ℕ) (g : ℕ) (image : List ℕ) (gs hs : List Guest) → hs ≡ first_guest g ∷ [] → gs ≡ [] → length image ≡ g →
+    virtuals new hs ≡ virtuals old gs ++ power_on image (length image) ∷ [] → virtuals new (first_guest g ∷ []) ≡ power_on image g ∷ []
+states-first old new g image gs hs who none whole states =
+    ap (virtuals new) (sym who) ∙ states ∙ ap (λ l. virtuals old l ++ power_on image (length image) ∷ []) none ∙ ap (λ k. power_on image k ∷ []) whole
+
+pub room-first : (d e : Desc) (g : ℕ) (image : List ℕ) (gs : List Guest) → 2 ≤ g → g ≤ d.size - 2 → length image ≡ g → e ≡ d → gs ≡ [] →
+    free_base e.size (grants_of gs) (length image) ≡ None → ⊥
+room-first d e g image gs least room whole same none full =
+    let found : free_base e.size (grants_of gs) (length image) ≡ Some 2 =
+    base-first e.size gs (length image) none (omega (arith, least, room, whole, ap (λ (x : Desc). x.size) same)) in
+    absurd (let wrong : ⊥ = cc in wrong)
 
 -- no machine has more cells than a hardware has room for
 pub size-small : (d : Desc) → IsValid d → d.size ≤ 1048575

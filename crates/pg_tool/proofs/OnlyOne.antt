@@ -1,13 +1,13 @@
 -- A command comes to one thing: what is due for told files is computed by reading them, so that it is no more than one.
 use Rattle.std.specs.Prelude.{option_and_then, slice_get}
-use Rattle.std.proofs.Common.{◌≡◌, ◌≢◌, ℕ, ◌-◌, ◌<◌, ◌≤◌, cond, nat_lt, List, [], length, map, Option, Some, None, IsSome, IsSomeAnd, Result, Ok, Err, inl, inr, refl, sym, ◌∙◌, ap}
+use Rattle.std.proofs.Common.{◌≡◌, ◌≢◌, ℕ, ◌-◌, ◌<◌, ◌≤◌, cond, nat_lt, List, length, Option, Some, None, IsSomeAnd, Result, Ok, Err, inl, inr, sym, ◌∙◌, ap}
 use Rattle.std.proofs.lemmas.Bool.{lt-ltb, le-ltb}
 use Rattle.pg_ast.specs.declared.tree.Desc.{Desc}
 use Rattle.pg_type.specs.declared.fault.TypeFault.{TypeFault}
 use Rattle.pg_type.specs.Valid.{fault_of}
 use Rattle.pg_type.proofs.FaultLemmas.{no_fault}
 use Rattle.pg_edge.specs.Shelf.{Files}
-use Rattle.pg_command.specs.Asked.{Asked, AsksBare, AsksRun, AsksPrint, AskedBare, AskedRun, AskedPrint, request_of}
+use Rattle.pg_command.specs.Asked.{Asked, AsksBare, AsksRun, AsksPrint, AskedRun, AskedPrint, request_of}
 use Rattle.pg_read.specs.declared.fault.DescFault.{DescFault}
 use Rattle.pg_read.specs.declared.fault.DescFault.TheVariants as read_fault
 use Rattle.pg_read.specs.Answer.{IsAnswer}
@@ -233,12 +233,12 @@ only-rule d (Err (Line (Open instr))) h = breach-open (instr_names d.instrs) (fi
 only-run : (d : Desc) (image : List ℕ) (grant steps : ℕ) → Only (RunDue d image grant steps) (Ok (RunsBare (record { desc = d; image = image; grant = grant; steps = steps })))
 only-run d image grant steps due h = sym h
 
-abbrev bare_answer : Files → AskedBare → Result Work Refusal
+abbrev bare_answer : Files → AskedRun → Result Work Refusal
 bare_answer files b =
     bind (desc_answer (files b.desc)) (λ d. bind (room_answer b.grant d.size) (λ cells. bind (image_answer 0 d.word cells (files b.image)) (λ image.
     Ok (RunsBare (record { desc = d; image = image; grant = b.grant; steps = b.steps })))))
 
-only-bare : (files : Files) (b : AskedBare) → Only (BareDue (Some files) b) (bare_answer files b)
+only-bare : (files : Files) (b : AskedRun) → Only (BareDue (Some files) b) (bare_answer files b)
 unfolding BareDue
 only-bare files b =
     only-then (DescDue (Some files) b.desc)

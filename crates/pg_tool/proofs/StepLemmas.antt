@@ -2,8 +2,8 @@
 use Rattle.std.proofs.Common.{◌≡◌, ℕ, ◌-◌, ◌<◌, ◌≤◌, List, Option, Some, None, Result, Ok, Err, inl, inr, refl, subst, arith}
 use Rattle.pg_ast.specs.declared.tree.Desc.{Desc}
 use Rattle.pg_edge.specs.Shelf.{Files}
-use Rattle.pg_command.specs.Asked.{Asked, AskedBare, AskedRun, request_of, AskedPrint}
-use Rattle.pg_report.specs.declared.line.RefusalLine.TheVariants.{Room, Open}
+use Rattle.pg_command.specs.Asked.{Asked, AskedRun, request_of, AskedPrint}
+use Rattle.pg_report.specs.declared.line.RefusalLine.TheVariants.{Room}
 use Rattle.pg_tool.specs.declared.refusal.Refusal.{Refusal}
 use Rattle.pg_tool.specs.declared.refusal.Refusal.TheVariants.{Words, Line}
 use Rattle.pg_tool.specs.declared.refusal.Stop.{Stop}
@@ -42,7 +42,7 @@ comes-behind shows first next x before mid after (Err Memory) h earlier k = tt
 -- ---- `bare`
 
 -- the description stops it
-pub bare-stopped : {T U : Type 0} (view : T → Desc) (shows : U → Work) (told : Option Files) (b : AskedBare) (before after : ℕ) (stop : Stop) →
+pub bare-stopped : {T U : Type 0} (view : T → Desc) (shows : U → Work) (told : Option Files) (b : AskedRun) (before after : ℕ) (stop : Stop) →
     Comes view (DescDue told b.desc) before after (Err stop) → Comes shows (BareDue told b) before after (Err stop)
 unfolding BareDue
 bare-stopped view shows told b before after stop h =
@@ -51,7 +51,7 @@ bare-stopped view shows told b before after stop h =
     before after after stop h (omega arith)
 
 -- the room stops it
-pub bare-no_room : (told : Option Files) (b : AskedBare) (d : Desc) → DescDue told b.desc (Ok d) → d.size < b.grant → BareDue told b (Err (Line (Room b.grant d.size)))
+pub bare-no_room : (told : Option Files) (b : AskedRun) (d : Desc) → DescDue told b.desc (Ok d) → d.size < b.grant → BareDue told b (Err (Line (Room b.grant d.size)))
 unfolding BareDue
 bare-no_room told b d h passes =
     went (DescDue told b.desc)
@@ -61,7 +61,7 @@ bare-no_room told b d h passes =
     (Line (Room b.grant d.size)) (record { passes = passes; wanted = refl; free = refl }))
 
 -- the image stops it
-pub bare-no_image : {T U : Type 0} (view : T → List ℕ) (shows : U → Work) (told : Option Files) (b : AskedBare) (d : Desc) (before mid after : ℕ) (stop : Stop) →
+pub bare-no_image : {T U : Type 0} (view : T → List ℕ) (shows : U → Work) (told : Option Files) (b : AskedRun) (d : Desc) (before mid after : ℕ) (stop : Stop) →
     DescDue told b.desc (Ok d) → b.grant ≤ d.size → before ≤ mid → Comes view (ImageDue told b.image 0 d.word b.grant) mid after (Err stop) →
     Comes shows (BareDue told b) before after (Err stop)
 unfolding BareDue
@@ -74,7 +74,7 @@ bare-no_image view shows told b d before mid after stop h fits earlier k =
     (comes-stopped view shows (ImageDue told b.image 0 d.word b.grant) (λ image. RunDue d image b.grant b.steps) mid after after stop k (omega arith)))
 
 -- nothing stops it
-pub bare-runs : (told : Option Files) (b : AskedBare) (d : Desc) (image : List ℕ) → DescDue told b.desc (Ok d) → b.grant ≤ d.size →
+pub bare-runs : (told : Option Files) (b : AskedRun) (d : Desc) (image : List ℕ) → DescDue told b.desc (Ok d) → b.grant ≤ d.size →
     ImageDue told b.image 0 d.word b.grant (Ok image) → BareDue told b (Ok (RunsBare (record { desc = d; image = image; grant = b.grant; steps = b.steps })))
 unfolding BareDue
 bare-runs told b d image h fits k =

@@ -4,7 +4,7 @@ use Rattle.pg_ast.specs.declared.tree.Desc.{Desc}
 use Rattle.pg_edge.specs.Shelf.{Files, HoldsFile, LacksFile, HoldsLonger}
 use Rattle.pg_type.specs.Twice.{instr_names}
 use Rattle.pg_type.specs.Plain.{first_breach}
-use Rattle.pg_command.specs.Asked.{Asked, AsksBare, AsksRun, AsksPrint, AskedBare, AskedRun, AskedPrint, request_of}
+use Rattle.pg_command.specs.Asked.{Asked, AsksBare, AsksRun, AsksPrint, AskedRun, AskedPrint, request_of}
 use Rattle.pg_report.specs.declared.line.RefusalLine.TheVariants.{Description, Image, Room, Open}
 use Rattle.pg_report.specs.declared.line.DescriptionLine.{DescriptionLine}
 use Rattle.pg_report.specs.declared.line.DescriptionLine.TheVariants as told_line
@@ -114,7 +114,7 @@ abbrev pub RunDue : Desc → List ℕ → ℕ → ℕ → Step Work
 RunDue d image grant steps due = due ≡ Ok (RunsBare (record { desc = d; image = image; grant = grant; steps = steps }))
 
 -- `bare`: the description, the room, the image, and then the run
-unfoldable pub BareDue : Option Files → AskedBare → Step Work
+unfoldable pub BareDue : Option Files → AskedRun → Step Work
 BareDue told b =
     Then (DescDue told b.desc) (λ d. Then (RoomDue b.grant d.size) (λ cells. Then (ImageDue told b.image 0 d.word cells) (λ image.
     RunDue d image b.grant b.steps)))
@@ -123,7 +123,8 @@ BareDue told b =
 abbrev pub GuestDue : Desc → List ℕ → ℕ → ℕ → Step Work
 GuestDue d image grant steps due = due ≡ Ok (RunsGuest (record { desc = d; image = image; grant = grant; steps = steps }))
 
--- `run`: the description, the room beside the two cells that a monitor keeps for traps, the image, the verdict, and then the run
+-- `run`: the description, the room beside the two cells that a monitor keeps for traps, the image, the verdict, and then the
+-- run
 unfoldable pub RunsDue : Option Files → AskedRun → Step Work
 RunsDue told r =
     Then (DescDue told r.desc) (λ d. Then (RoomDue r.grant (d.size - 2)) (λ cells. Then (ImageDue told r.image 0 d.word cells) (λ image.

@@ -26,7 +26,8 @@ pub record Machinery : Type 0 where
   pub bottom : Bottom
   pub room : ℕ
 
--- a hardware on which a bare machine ran: it holds the state that was reached, and the steps, the pokes and the load are counted
+-- a hardware on which a bare machine ran: it holds the state that was reached, and the steps, the pokes and the load are
+-- counted
 pub record RanBare (r : BareRun) (old new : Machinery) : Type 0 where
   pub state : new.state ≡ reached r
   pub steps : new.tally.steps ≡ old.tally.steps + r.steps
@@ -36,8 +37,8 @@ pub record RanBare (r : BareRun) (old new : Machinery) : Type 0 where
   pub bottom : BottomRises r.desc r.steps (power_on r.image r.grant) old.bottom new.bottom
   pub room : new.room ≡ old.room
 
--- a hardware on which the run was done by a guest under a monitor: every sensitive instruction of the machine is privileged; the
--- grant holds the storage that a bare machine reaches; and each direct step was executed by the hardware, untrapped
+-- a hardware on which the run was done by a guest under a monitor: every sensitive instruction of the machine is privileged;
+-- the grant holds the storage that a bare machine reaches; and each direct step was executed by the hardware, untrapped
 pub record RanGuest (r : BareRun) (old new : Machinery) : Type 0 where
   pub accepted : IsAccepted r.desc
   pub size : length new.state.cells ≡ r.desc.size
@@ -45,7 +46,8 @@ pub record RanGuest (r : BareRun) (old new : Machinery) : Type 0 where
   pub grant : take r.grant (drop first_base new.state.cells) ≡ (reached r).cells
   pub steps : new.tally.steps ≡ old.tally.steps + r.steps
   pub untrapped : new.tally.untrapped ≡ old.tally.untrapped + direct_steps r
-  -- one poke for the control program's PSW and one for each cell of the image, and at most eight for a step that is not direct
+  -- one poke for the control program's PSW and one for each cell of the image, and at most eight for a step that is not
+  -- direct
   pub pokes_least : old.tally.pokes + (1 + r.grant) ≤ new.tally.pokes
   pub pokes_most : new.tally.pokes ≤ old.tally.pokes + (1 + r.grant) + 8 * (r.steps - direct_steps r)
   -- one load for the first turn, and one for each step that is not direct
@@ -64,8 +66,8 @@ unfoldable pub Left : Result Work Refusal → Machinery → Machinery → Type 0
 Left (Ok work) old new = Worked work old new
 Left (Err refusal) old new = new ≡ old
 
--- what surrounds a command: the told files, the counts of failed reads and saves, what the sink holds where it tells it, its count
--- of faults, and the hardware
+-- what surrounds a command: the told files, the counts of failed reads and saves, what the sink holds where it tells it, its
+-- count of faults, and the hardware
 pub record World : Type 0 where
   pub files : Option Files
   pub reads : ℕ

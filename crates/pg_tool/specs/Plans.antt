@@ -4,19 +4,15 @@ use Rattle.pg_monitor.specs.declared.guest.Guest.{Guest}
 use Rattle.pg_monitor.specs.Standing.{control_psw}
 use Rattle.pg_tool.specs.Work.{BareRun, Work, RunsBare, RunsGuest, Prints, first_base}
 use Rattle.pg_tool.specs.declared.plan.BarePlan.{BarePlan}
-use Rattle.pg_tool.specs.declared.plan.GuestPlan.{GuestPlan}
 use Rattle.pg_tool.specs.declared.plan.Plan.{Plan}
 use Rattle.pg_tool.specs.declared.plan.Plan.TheVariants as plan
 
 abbrev pub run_as : BarePlan → BareRun
 run_as p = record { desc = p.machine.desc; image = p.image; grant = p.grant; steps = p.steps }
 
-abbrev pub guest_as : GuestPlan → BareRun
-guest_as p = record { desc = p.machine.desc; image = p.image; grant = p.grant; steps = p.steps }
-
 abbrev pub work_as : Plan → Work
 work_as (plan.Bare p) = RunsBare (run_as p)
-work_as (plan.Guest p) = RunsGuest (guest_as p)
+work_as (plan.Guest p) = RunsGuest (run_as p.bare)
 work_as (plan.Print p) = Prints p.machine.desc
 
 -- the guest that a monitor has first: it is switched on in a grant of so many cells

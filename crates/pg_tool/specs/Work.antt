@@ -34,7 +34,8 @@ first_base = 2
 abbrev pub direct_steps : BareRun → ℕ
 direct_steps r = direct_among r.desc first_base r.steps (power_on r.image r.grant)
 
--- what is to be done for a command: a run of a bare machine, the same run as a guest under a monitor, or a printed description
+-- what is to be done for a command: a run of a bare machine, the same run as a guest under a monitor, or a printed
+-- description
 pub data Work : Type 0 where
   RunsBare : BareRun → Work
   RunsGuest : BareRun → Work

@@ -1,4 +1,8 @@
 //! Bytes to machines.
+//!
+//! `load_machine` calls `machine_of` with the bytes of a file. They are read (`pg_read`), and what is read is checked
+//! (`pg_type`); the first fault of either becomes the line that tells of it, each the one of its name. The bytes are known
+//! to keep the reader's limit, so its `Long` never comes. Want of memory is no fault of the text, and has no line.
 
 ghost use Rattle.std.specs.Prelude.{◌≡◌, ◌≤◌, length, IfOk, IfErr, IfSome, Ok, Err};
 ghost use Rattle.pg_tool.specs.Reads.{TextDue, told_of_reading, told_of_type};

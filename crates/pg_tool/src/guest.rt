@@ -1,4 +1,10 @@
 //! A run of a guest under a monitor.
+//!
+//! `perform` calls `run_guest`, and with what it answers `put_run`. `run_guest` gives the hardware the machine's whole size,
+//! makes a monitor on it, loads the image as the one guest and gives that guest all of the turns. The monitor borrows the
+//! plan's machine and is gone when `run_guest` answers; then the guest's cells are read from the hardware, where its grant
+//! lies, and the rest of its state is in `Told`. Memory is taken for the storage, the monitor and the guest, all before the
+//! first turn. Where it is refused no step was done (`IsUnstepped`), but the storage may be there, with cells poked.
 
 ghost use Rattle.std.specs.Prelude.{◌≡◌, ◌∷◌, [], None, ◌≤◌, length, take, drop, IfOk, OnOk, OnErr};
 ghost use Rattle.pg_ast.specs.declared.tree.Desc.{Desc};
@@ -13,7 +19,7 @@ ghost use Rattle.pg_monitor.specs.Loading.{after_pokes};
 ghost use Rattle.pg_tool.specs.Work.{RunsGuest, work_text, reached, first_base, direct_steps};
 ghost use Rattle.pg_tool.specs.Leaves.{RanGuest, IsUnstepped};
 ghost use Rattle.pg_tool.specs.Performs.{CanCount};
-ghost use Rattle.pg_tool.specs.Plans.{guest_as, first_guest};
+ghost use Rattle.pg_tool.specs.Plans.{run_as, first_guest};
 
 use crate::plan::GuestPlan;
 use pg_edge::{Failed, Sink};
@@ -45,9 +51,9 @@ pub(crate) fn run_guest<H: Hardware>(
     requires serves { (d : Desc) → H.serves hw.old d }
     requires room { 1048575 ≤ H.most_cells hw.old }
     requires counts { CanCount (H.tally hw.old) }
-    ensures psw { IfOk result (λ told. told.psw ≡ (reached (guest_as plan.now)).psw) }
-    ensures direct { IfOk result (λ told. told.direct ≡ direct_steps (guest_as plan.now)) }
-    ensures ran { OnOk result (RanGuest (guest_as plan.now)
+    ensures psw { IfOk result (λ told. told.psw ≡ (reached (run_as plan.now.bare)).psw) }
+    ensures direct { IfOk result (λ told. told.direct ≡ direct_steps (run_as plan.now.bare)) }
+    ensures ran { OnOk result (RanGuest (run_as plan.now.bare)
         (record { state = H.state hw.old; tally = H.tally hw.old; bottom = H.bottom hw.old; room = H.most_cells hw.old })
         (record { state = H.state hw.new; tally = H.tally hw.new; bottom = H.bottom hw.new; room = H.most_cells hw.new })) }
     ensures unstepped { OnErr result (IsUnstepped
@@ -55,7 +61,7 @@ pub(crate) fn run_guest<H: Hardware>(
         (record { state = H.state hw.new; tally = H.tally hw.new; bottom = H.bottom hw.new; room = H.most_cells hw.new })) }
     ensures served { SameServed (H.serves hw.old) (H.serves hw.new) }
 {
-    match hw.install(plan.machine.shape().q) {
+    match hw.install(plan.bare.machine.shape().q) {
         Ok(()) => {}
         Err(refused) => return Err(refused),
     }
@@ -64,7 +70,7 @@ pub(crate) fn run_guest<H: Hardware>(
         Ok(monitor) => monitor,
         Err(refused) => return Err(refused),
     };
-    monitor.turns(hw, 0, plan.steps);
+    monitor.turns(hw, 0, plan.bare.steps);
     Ok(Told {
         psw: monitor.guest(0).psw,
         direct: hw.counts().untrapped - before,
@@ -78,24 +84,24 @@ fn start<'m, H: Hardware>(
     hw: &mut H,
 ) -> Result<Monitor<'m>, AllocError>
     requires serves { (d : Desc) → H.serves hw.old d }
-    requires size { length (H.state hw.old).cells ≡ plan.now.machine.desc.size }
-    requires state { IsState plan.now.machine.desc (H.state hw.old) }
-    ensures machine { IfOk result (λ m. m.accepted.machine.now.desc ≡ plan.now.machine.desc) }
-    ensures guests { IfOk result (λ m. m.guests ≡ first_guest plan.now.grant ∷ []) }
+    requires size { length (H.state hw.old).cells ≡ plan.now.bare.machine.desc.size }
+    requires state { IsState plan.now.bare.machine.desc (H.state hw.old) }
+    ensures machine { IfOk result (λ m. m.accepted.machine.now.desc ≡ plan.now.bare.machine.desc) }
+    ensures guests { IfOk result (λ m. m.guests ≡ first_guest plan.now.bare.grant ∷ []) }
     ensures current { IfOk result (λ m. m.current ≡ None) }
-    ensures stands { OnOk result (Stands plan.now.machine.desc (H.state hw.new) (first_guest plan.now.grant ∷ []) None) }
-    ensures states { OnOk result (virtuals (H.state hw.new).cells (first_guest plan.now.grant ∷ []) ≡ power_on plan.now.image plan.now.grant ∷ []) }
-    ensures tally { OnOk result (H.tally hw.new ≡ after_pokes (after_poke (H.tally hw.old)) plan.now.grant) }
+    ensures stands { OnOk result (Stands plan.now.bare.machine.desc (H.state hw.new) (first_guest plan.now.bare.grant ∷ []) None) }
+    ensures states { OnOk result (virtuals (H.state hw.new).cells (first_guest plan.now.bare.grant ∷ []) ≡ power_on plan.now.bare.image plan.now.bare.grant ∷ []) }
+    ensures tally { OnOk result (H.tally hw.new ≡ after_pokes (after_poke (H.tally hw.old)) plan.now.bare.grant) }
     ensures unstepped { IsUnstepped
         (record { state = H.state hw.old; tally = H.tally hw.old; bottom = H.bottom hw.old; room = H.most_cells hw.old })
         (record { state = H.state hw.new; tally = H.tally hw.new; bottom = H.bottom hw.new; room = H.most_cells hw.new }) }
     ensures served { SameServed (H.serves hw.old) (H.serves hw.new) }
 {
-    let mut monitor = match Monitor::new(alloc, Accepted::of(&plan.machine), hw) {
+    let mut monitor = match Monitor::new(alloc, Accepted::of(&plan.bare.machine), hw) {
         Ok(monitor) => monitor,
         Err(refused) => return Err(refused),
     };
-    match monitor.load(hw, &plan.image) {
+    match monitor.load(hw, &plan.bare.image) {
         Ok(_) => Ok(monitor),
         Err(LoadFault::Memory) => Err(AllocError),
         Err(LoadFault::NoRoom) => unreachable!(),
@@ -109,21 +115,21 @@ pub(crate) fn put_run<S: Sink, H: Hardware>(
     hw: &H,
     told: Told,
 ) -> Result<(), Failed>
-    requires psw { told.psw ≡ (reached (guest_as plan.now)).psw }
-    requires direct { told.direct ≡ direct_steps (guest_as plan.now) }
-    requires cells { take plan.now.grant (drop first_base (H.state hw.now).cells) ≡ (reached (guest_as plan.now)).cells }
-    requires size { length (H.state hw.now).cells ≡ plan.now.machine.desc.size }
+    requires psw { told.psw ≡ (reached (run_as plan.now.bare)).psw }
+    requires direct { told.direct ≡ direct_steps (run_as plan.now.bare) }
+    requires cells { take plan.now.bare.grant (drop first_base (H.state hw.now).cells) ≡ (reached (run_as plan.now.bare)).cells }
+    requires size { length (H.state hw.now).cells ≡ plan.now.bare.machine.desc.size }
     ensures { Puts (S.written out.old) (S.written out.new) (S.faults out.old) (S.faults out.new)
-        (work_text (RunsGuest (guest_as plan.now))) result }
+        (work_text (RunsGuest (run_as plan.now.bare))) result }
 {
     put_guest(out, 0)?;
     put_state(
         out,
-        plan.machine.shape(),
+        plan.bare.machine.shape(),
         hw,
         FIRST_BASE,
-        plan.grant,
+        plan.bare.grant,
         told.psw,
     )?;
-    put_steps(out, plan.steps, told.direct)
+    put_steps(out, plan.bare.steps, told.direct)
 }

@@ -2,7 +2,10 @@
 //!
 //! `tool` reads the words, loads the files that they name, does what is to be done on the hardware that it is given, and
 //! puts the text of it into the sink that it is given. It makes no file, stream or hardware itself: what it is given is
-//! seen through the traits `Shelf`, `Sink` and `Hardware` alone.
+//! seen through the traits `Shelf`, `Sink` and `Hardware` alone. The program `pgv` calls it once.
+//!
+//! Each part is lent as little as serves: `prepare` the shelf, `perform` the hardware and the sink, `refuse` the sink. So no
+//! file is read once anything was put, and where a command is refused the hardware is untouched.
 //!
 //! What is due for the words and the told files is a definition (`specs/Due.antt`), in cases, in the order in which a
 //! command goes through its steps; the contract of `tool` says that this is what comes, and what is left of the sink, the
@@ -48,8 +51,10 @@ use std::alloc::Global;
 
 /// Does what the words ask for, of which the first is the program's name.
 ///
-/// The hardware has to serve every machine, with room for 1,048,575 cells, and counts below 2^62. A refused command leaves
-/// it untouched, and so does memory that is refused; a command that saves nothing leaves every file as it was.
+/// The hardware has to serve every machine, with room for 1,048,575 cells, and each of its counts below 2^62. It is
+/// untouched where the command is refused or a file could not be read. Where memory is refused no step was done, and it is
+/// untouched but in one case: where a run of a guest was due, it may have been set up for that run, its storage and program
+/// status word made and cells poked. Every file is left as it was.
 pub fn tool<F: Shelf, S: Sink, H: Hardware>(
     alloc: Global,
     words: &[String],
@@ -80,7 +85,8 @@ pub fn tool<F: Shelf, S: Sink, H: Hardware>(
         })
         result }
 
-    // Where the files are told: whatever is due by the definition, its status comes and its text whole, but for faults and memory.
+    // Where the files are told: whatever is due by the definition, its status comes and its text whole, but for faults and
+    // memory.
     ensures exactly { (files : Files) → F.files shelf.old ≡ Some files → (due : Result Work Refused) → Due (Some files) (map string_bytes words.now) due →
         Exactly due (S.written out.old) (S.written out.new) result }
 

@@ -1,6 +1,11 @@
 //! Files to machines and images.
+//!
+//! `prepare` calls `load_machine` and `load_image` for the files that the words name. The whole of a file is loaded, within
+//! the limit of its kind, and `described` or `imaged` read the bytes, which are given back here: machines and images own
+//! what they hold. That a file is too long is found by the shelf, and told like a fault of its text; one that is not there,
+//! or could not be read, has a status of its own.
 
-ghost use Rattle.std.specs.Prelude.{◌≡◌, ◌≤◌, ◌<◌, ◌^◌, length, All, IfOk, IsErrOf, string_bytes};
+ghost use Rattle.std.specs.Prelude.{◌≡◌, ◌≤◌, ◌<◌, ◌^◌, length, All, IfOk, IsErrOf};
 ghost use Rattle.pg_word.specs.Shape.{IsShape};
 ghost use Rattle.pg_edge.specs.Shelf.{LacksFile, HoldsLonger};
 ghost use Rattle.pg_edge.specs.Count.{Rose};
@@ -24,7 +29,7 @@ const MOST_DESCRIPTION: u64 = 1_048_576;
 /// The most bytes of an image.
 const MOST_IMAGE: u64 = 33_554_432;
 
-/// The machine that a file describes.
+/// The machine that a file describes, or why there is none.
 pub(crate) fn load_machine<F: Shelf>(
     alloc: Global,
     name: &str,
@@ -46,7 +51,8 @@ pub(crate) fn load_machine<F: Shelf>(
     }
 }
 
-/// The image of this number, of a file, for `size` cells.
+/// The image of a file, for `size` cells, or why there is none. `number`, from 0, is that of the image in a line that tells
+/// why.
 pub(crate) fn load_image<F: Shelf>(
     alloc: Global,
     name: &str,
@@ -76,7 +82,7 @@ pub(crate) fn load_image<F: Shelf>(
     }
 }
 
-/// The bytes of a file.
+/// The bytes of a file, if it has at most `limit`.
 fn load_file<F: Shelf>(
     alloc: Global,
     name: &str,

@@ -1,10 +1,14 @@
 //! What is done for a command, and what is told of it.
+//!
+//! `tool` calls `perform` with a plan, or `refuse` with a refusal, and nothing else puts into the sink. All of the work is
+//! done before the first put: where memory is refused nothing was put (`Memory`), and where a put fails the work is done and
+//! a front of its text is there (`WriteFault`); else the status is `Done`. Memory is taken for the storage and the monitor,
+//! and none from the first step on. `refuse` answers the status of the refusal, or `WriteFault`.
 
-ghost use Rattle.std.specs.Prelude.{◌≡◌, ◌<◌, ◌≤◌, ◌^◌, OnOk, OnErr, length};
+ghost use Rattle.std.specs.Prelude.{◌≡◌, ◌≤◌, OnOk, OnErr};
 ghost use Rattle.pg_ast.specs.declared.tree.Desc.{Desc};
 ghost use Rattle.pg_hw.specs.Serving.{SameServed};
-ghost use Rattle.pg_edge.specs.Sink.{Puts};
-ghost use Rattle.pg_tool.specs.Work.{refusal_told, refusal_status};
+ghost use Rattle.pg_tool.specs.Work.{refusal_status};
 ghost use Rattle.pg_tool.specs.Leaves.{Machinery, RanBare};
 ghost use Rattle.pg_tool.specs.Performs.{Performs, Refuses, CanCount};
 ghost use Rattle.pg_tool.specs.Plans.{run_as, work_as};

@@ -1,8 +1,13 @@
-//! The words and the files of a command.
+//! The words and the files of a command, made into a plan.
+//!
+//! `tool` calls `prepare` first, with the shelf alone: whatever may refuse a command is found here, before the hardware is
+//! touched or anything is put. A function for each command goes through its steps in the order of its definition
+//! (`BareDue`, `RunsDue` and `PrintDue` in `specs/Due.antt`); the first step that refuses gives the answer, so the order
+//! says which of several faults is told. Files are read and never saved. After this nothing but memory can be refused.
 
-ghost use Rattle.std.specs.Prelude.{◌≡◌, ◌≤◌, ℕ, None, map, string_bytes, IfOk};
+ghost use Rattle.std.specs.Prelude.{◌≡◌, ℕ, None, map, string_bytes, IfOk};
 ghost use Rattle.pg_type.specs.Plain.{first_breach};
-ghost use Rattle.pg_command.specs.Asked.{asked_as, bare_as, run_as, print_as, IsBounded, IsBoundedBare, IsBoundedRun};
+ghost use Rattle.pg_command.specs.Asked.{asked_as, run_as, print_as, IsBounded, IsBoundedRun};
 ghost use Rattle.pg_tool.specs.Due.{BareDue, RunsDue, PrintDue, CommandDue, RuleDue, Due};
 ghost use Rattle.pg_tool.specs.Loads.{Comes, OnlyReads, stop_of_words};
 ghost use Rattle.pg_tool.specs.Plans.{work_as};
@@ -10,7 +15,7 @@ ghost use Rattle.pg_tool.specs.Plans.{work_as};
 use crate::load::{load_image, load_machine};
 use crate::plan::{BarePlan, GuestPlan, Plan, PrintPlan};
 use crate::refusal::{Refusal, Stop};
-use pg_command::{Bare, Fault, Print, Request, Run, request};
+use pg_command::{Fault, PrintWords, Request, RunWords, request};
 use pg_edge::Shelf;
 use pg_print::print;
 use pg_report::RefusalLine;
@@ -21,7 +26,7 @@ use std::alloc::Global;
 /// The cells that a monitor keeps for the traps of its machine.
 const MONITOR_CELLS: u32 = 2;
 
-/// What is to be done for the words, with the files that they name.
+/// What is to be done for the words, with the files that they name; or why nothing is.
 pub(crate) fn prepare<F: Shelf>(
     alloc: Global,
     words: &[String],
@@ -60,9 +65,9 @@ fn prepare_request<F: Shelf>(alloc: Global, request: &Request, shelf: &mut F) ->
 }
 
 /// What is to be done for `bare`: the description is loaded, the room is tried, and the image is loaded.
-fn prepare_bare<F: Shelf>(alloc: Global, bare: &Bare, shelf: &mut F) -> Result<Plan, Stop>
-    requires { IsBoundedBare (bare_as bare.now) }
-    ensures comes { Comes work_as (BareDue (F.files shelf.old) (bare_as bare.now)) (F.reads shelf.old) (F.reads shelf.new) result }
+fn prepare_bare<F: Shelf>(alloc: Global, bare: &RunWords, shelf: &mut F) -> Result<Plan, Stop>
+    requires { IsBoundedRun (run_as bare.now) }
+    ensures comes { Comes work_as (BareDue (F.files shelf.old) (run_as bare.now)) (F.reads shelf.old) (F.reads shelf.new) result }
     ensures reads { OnlyReads (F.files shelf.old) (F.files shelf.new) (F.saves shelf.old) (F.saves shelf.new) (F.reads shelf.old) (F.reads shelf.new) }
 {
     let machine = match load_machine(alloc, &bare.desc, shelf) {
@@ -86,7 +91,7 @@ fn prepare_bare<F: Shelf>(alloc: Global, bare: &Bare, shelf: &mut F) -> Result<P
 }
 
 /// What is to be done for `run`: the description is loaded, the room is tried, the image is loaded, and the verdict found.
-fn prepare_run<F: Shelf>(alloc: Global, run: &Run, shelf: &mut F) -> Result<Plan, Stop>
+fn prepare_run<F: Shelf>(alloc: Global, run: &RunWords, shelf: &mut F) -> Result<Plan, Stop>
     requires { IsBoundedRun (run_as run.now) }
     ensures comes { Comes work_as (RunsDue (F.files shelf.old) (run_as run.now)) (F.reads shelf.old) (F.reads shelf.new) result }
     ensures reads { OnlyReads (F.files shelf.old) (F.files shelf.new) (F.saves shelf.old) (F.saves shelf.new) (F.reads shelf.old) (F.reads shelf.new) }
@@ -107,12 +112,13 @@ fn prepare_run<F: Shelf>(alloc: Global, run: &Run, shelf: &mut F) -> Result<Plan
         Ok(()) => {}
         Err(stop) => return Err(stop),
     }
-    Ok(Plan::Guest(GuestPlan {
+    let bare = BarePlan {
         machine,
         image,
         grant: run.grant,
         steps: run.steps,
-    }))
+    };
+    Ok(Plan::Guest(GuestPlan { bare }))
 }
 
 /// The verdict: no instruction of a machine breaks the plain rule, so that a monitor may run it.
@@ -130,7 +136,7 @@ fn rule(alloc: Global, machine: &Machine) -> Result<(), Stop>
 }
 
 /// What is to be done for `print`: the description is loaded, and its text made.
-fn prepare_print<F: Shelf>(alloc: Global, words: &Print, shelf: &mut F) -> Result<Plan, Stop>
+fn prepare_print<F: Shelf>(alloc: Global, words: &PrintWords, shelf: &mut F) -> Result<Plan, Stop>
     ensures comes { Comes work_as (PrintDue (F.files shelf.old) (print_as words.now)) (F.reads shelf.old) (F.reads shelf.new) result }
     ensures reads { OnlyReads (F.files shelf.old) (F.files shelf.new) (F.saves shelf.old) (F.saves shelf.new) (F.reads shelf.old) (F.reads shelf.new) }
 {

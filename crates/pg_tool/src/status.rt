@@ -1,4 +1,8 @@
 //! How a command ends.
+//!
+//! `tool` answers a status, and the program ends with its number. What each leaves of the sink, the files and the hardware
+//! is `Leaves` in `specs/Leaves.antt`: nothing was put on `ReadFault`, `Memory` and `Missing`, a front of the text on
+//! `WriteFault`, and the whole text that is due on each other.
 
 ghost use Rattle.std.specs.Prelude.{◌≡◌};
 ghost use Rattle.pg_tool.specs.Codes.{code_of};
@@ -8,21 +12,21 @@ ghost use Rattle.pg_tool.specs.Codes.{code_of};
 pub enum Status {
     /// The text of the command was written whole.
     Done,
-    /// It stays open whether a monitor may run the machine.
+    /// It stays open whether a monitor may run the machine: an instruction breaks the plain rule.
     Unsettled,
     /// The words are none that the program takes.
     Words,
-    /// The description is refused.
+    /// The description is refused: it is not read, or is not valid.
     Description,
     /// An image is refused.
     Image,
-    /// There is not so much room.
+    /// More cells are wanted than the machine has, beside those of the monitor where there is one.
     Room,
     /// A file could not be read.
     ReadFault,
     /// The text could not be written.
     WriteFault,
-    /// Memory was refused.
+    /// Memory was refused. No step was done.
     Memory,
     /// A file that the words name is not there.
     Missing,

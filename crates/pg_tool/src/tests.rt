@@ -2,6 +2,7 @@
 
 mod bursts;
 mod guests;
+mod limits;
 mod refusals;
 mod rows;
 mod setting;

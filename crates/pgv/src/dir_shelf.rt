@@ -1,7 +1,11 @@
 //! The shelf over files of the system.
 //!
-//! A name is a path, from the working directory on. Nobody knows what other programs do to a file between two calls,
-//! so the shelf tells no content. Each call opens its file anew and closes it.
+//! `main` lends one to `tool`. A name is a path, from the working directory on. Nobody knows what other programs do to a
+//! file between two calls, so the shelf tells no content. Each call opens its file anew and closes it. A file to be read
+//! that is not found is `Missing`. Whatever else keeps one from being opened, measured, read or written, as a directory in
+//! its place, is `Failed` and counted, reads apart from saves, up to 2^64 - 1. `Long`, and `Memory` where there is none for
+//! the bytes, are not counted.
+
 ghost use Rattle.std.specs.Prelude.{◌≡◌, ◌≢◌, ◌≤◌, [], length, None, OnOk, OnErr, IsErrOf};
 ghost use Rattle.std.specs.IoError.{error_kind};
 ghost use Rattle.pg_edge.specs.Count.{one_more};

@@ -2,7 +2,9 @@
 //!
 //! All that the program means stands in the crates below, over the traits `Shelf` and `Sink` of `pg_edge`. Here the
 //! two are given their real form: [`dir_shelf`] is files of the system by their paths, [`std_sink`] is a writer of
-//! the system. Both are made of the loops in [`streams`], and are the only code that opens, reads or writes.
+//! the system. Both are made of the loops in [`streams`], and are the only code that opens, reads or writes. Where
+//! there is no memory for the words, `tool` is not called, and the program ends with the same status, 10, as it does where
+//! `tool` has none.
 #![tactic(auto)]
 
 mod dir_shelf;

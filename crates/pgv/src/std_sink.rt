@@ -1,9 +1,11 @@
 //! The sink over a writer of the system, as standard output.
 //!
-//! It keeps nothing back: what a put is given goes to the writer at once. What arrives at the other end is the
+//! `main` lends one over standard output to `tool`. It keeps nothing back: what a put is given goes to the writer at
+//! once, so that no put can fail after it was answered, and no memory is taken. What arrives at the other end is the
 //! system's, so the sink tells no content; a writer that tells its own is seen to get each piece whole, or a front of
-//! the one that failed.
-ghost use Rattle.std.specs.Prelude.{◌≡◌, List, ℕ, None, OnOk, OnErr};
+//! the one that failed. Failed puts are counted, up to 2^64 - 1.
+
+ghost use Rattle.std.specs.Prelude.{◌≡◌, None, OnOk, OnErr};
 ghost use Rattle.std.specs.Io.KnownBytes.{Appends};
 ghost use Rattle.pg_edge.specs.Count.{one_more};
 ghost use Rattle.pg_edge.specs.Sink.{Puts};

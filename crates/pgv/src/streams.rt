@@ -2,7 +2,9 @@
 //!
 //! One read or write moves as many bytes as the system likes, or none where a signal interrupts it. The loops here go
 //! on until all is moved, and say what was moved where something fails on the way: a file that is read may end sooner
-//! than what is wanted of it, and a writer may have taken a front of what it was given.
+//! than what is wanted of it, and a writer may have taken a front of what it was given. An interrupted read or write is
+//! tried again. `dir_shelf` and `std_sink` call these.
+
 ghost use Rattle.std.specs.Prelude.{◌≡◌, ◌<◌, ◌≤◌, [], length, take, OnOk, OnErr, IfOk, IfSome, IsErrOf};
 ghost use Rattle.std.specs.Io.KnownBytes.{Appends, IsAtEnd, Keeps};
 ghost use Rattle.pgv.specs.Streams.{AddsFront, Gains};

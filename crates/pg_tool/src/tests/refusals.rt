@@ -183,12 +183,6 @@ fn thousands_of_levels_take_no_stack(rt: HostRuntime) -> Result<(), Fail> {
 
 #[test]
 fn each_class_of_validity_has_its_line(rt: HostRuntime) -> Result<(), Fail> {
-    refuses(
-        &rt,
-        rt.alloc(),
-        "machine { word 16; address 6; size 8; }",
-        "description: shape\n",
-    )?;
     let cases = [
         (
             "instr h \"0000............\" { } instr h \"0001............\" { }",
@@ -295,19 +289,39 @@ fn padded(alloc: Global, text: &str, length: usize) -> Result<Vec<u8>, Fail> {
     Ok(bytes)
 }
 
+/// The words of a command on two files.
+const WORDS: [&str; 8] = ["pgv", "bare", "d", "i", "--grant", "8", "--steps", "0"];
+
 #[test]
-fn files_have_a_greatest_length(rt: HostRuntime) -> Result<(), Fail> {
-    let words = ["pgv", "bare", "d", "i", "--grant", "8", "--steps", "0"];
+fn a_description_has_at_most_1_048_576_bytes(rt: HostRuntime) -> Result<(), Fail> {
     let desc = padded(rt.alloc(), HEAD, 1_048_576)?;
-    let ran = run_bytes(rt.alloc(), &words, desc, Vec::new(rt.alloc()))?;
+    let ran = run_bytes(rt.alloc(), &WORDS, desc, Vec::new(rt.alloc()))?;
     assert!(rt; ran.status == Status::Done);
     let desc = padded(rt.alloc(), HEAD, 1_048_577)?;
-    let ran = run_bytes(rt.alloc(), &words, desc, Vec::new(rt.alloc()))?;
+    let ran = run_bytes(rt.alloc(), &WORDS, desc, Vec::new(rt.alloc()))?;
     assert_eq!(rt; ran.text.as_str(), "description: long\n");
     assert!(rt; ran.status == Status::Description);
-    let image = padded(rt.alloc(), "", 33_554_433)?;
+    Ok(())
+}
+
+#[test]
+fn an_image_of_33_554_432_bytes_is_read(rt: HostRuntime) -> Result<(), Fail> {
     let desc = padded(rt.alloc(), HEAD, 40)?;
-    let ran = run_bytes(rt.alloc(), &words, desc, image)?;
+    let image = padded(rt.alloc(), "2: 0001", 33_554_432)?;
+    let ran = run_bytes(rt.alloc(), &WORDS, desc, image)?;
+    assert_eq!(rt;
+        ran.text.as_str(),
+        "size 8\npsw s 2 0 8\n0: 0000 0000 0001 0000 0000 0000 0000 0000\n"
+    );
+    assert!(rt; ran.status == Status::Done);
+    Ok(())
+}
+
+#[test]
+fn an_image_of_33_554_433_bytes_is_too_long(rt: HostRuntime) -> Result<(), Fail> {
+    let desc = padded(rt.alloc(), HEAD, 40)?;
+    let image = padded(rt.alloc(), "2: 0001", 33_554_433)?;
+    let ran = run_bytes(rt.alloc(), &WORDS, desc, image)?;
     assert_eq!(rt; ran.text.as_str(), "image 0: long\n");
     assert!(rt; ran.status == Status::Image);
     Ok(())

@@ -1,6 +1,6 @@
 //! Commands that come to their end, with the texts that were worked out by hand.
 
-use super::setting::{M0, bare, is_fresh, run};
+use super::setting::{M0, M0_WITH_CAUSES, bare, is_fresh, run};
 use crate::Status;
 use pg_hw::Hardware;
 use std::test::Fail;
@@ -107,9 +107,7 @@ psw s 4 0 8
 
 #[test]
 fn causes_are_stored_where_they_are_on(rt: HostRuntime) -> Result<(), Fail> {
-    let desc = "machine { word 32; address 8; size 64; causes on; }
-instr svc \"00000011_........................\" { trap; }
-";
+    let desc = M0_WITH_CAUSES;
     let ran = bare(rt.alloc(), desc, "", "8", "1")?;
     assert_eq!(rt;
         ran.text.as_str(),

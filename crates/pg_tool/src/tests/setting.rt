@@ -15,6 +15,14 @@ instr svc \"00000011_........................\" { trap; }
 instr lr \"00000100_........_llllllll_bbbbbbbb\" { if mode { trap; } rel = l; bound = b; }
 ";
 
+/// The same machine, where a trap stores its cause.
+pub(super) const M0_WITH_CAUSES: &str = "machine { word 32; address 8; size 64; causes on; }
+instr add \"00000001_xxxxxxxx_yyyyyyyy_zzzzzzzz\" { mem[x] = (mem[y] + mem[z]); }
+instr jmp \"00000010_................_aaaaaaaa\" { pc = a; }
+instr svc \"00000011_........................\" { trap; }
+instr lr \"00000100_........_llllllll_bbbbbbbb\" { if mode { trap; } rel = l; bound = b; }
+";
+
 /// How a command ended, what was written, and the hardware.
 #[derive(Drop)]
 pub(super) struct Ran {

@@ -1,6 +1,6 @@
 use Rattle.std.proofs.Common.{◌≡◌, ℕ, List, Ok, Err, sym, ap, subst, arith}
 use Rattle.pg_type.specs.declared.machine.Machine.{Machine}
-use Rattle.pg_command.specs.Asked.{bare_as}
+use Rattle.pg_command.specs.Asked.{run_as}
 use Rattle.pg_report.specs.declared.line.RefusalLine.TheVariants.{Room}
 use Rattle.pg_tool.specs.declared.refusal.Refusal.TheVariants.{Line}
 use Rattle.pg_tool.specs.Due.{DescDue, ImageDue, BareDue}
@@ -12,14 +12,14 @@ use Rattle.pg_tool.proofs.prepare.prepare_bare.Goals as goal
 pub returns-in-Err-clause-comes : goal.returns-in-Err-clause-comes
 returns-in-Err-clause-comes g c =
     let told = g.F.Shelf.files c.args.shelf.now in
-    bare-stopped (λ (m : Machine). m.desc) work_as told (bare_as c.args.bare.now) _ _ c.in-Err.stop
+    bare-stopped (λ (m : Machine). m.desc) work_as told (run_as c.args.bare.now) _ _ c.in-Err.stop
     (subst (λ name. Comes (λ (m : Machine). m.desc) (DescDue told name) (g.F.Shelf.reads c.args.shelf.now) (g.F.Shelf.reads c.load_machine.new.shelf) (Err c.in-Err.stop))
     c.deref.ensures c.in-Err.ensures.comes)
 
 pub returns-then-bare-most-clause-comes : goal.returns-then-bare-most-clause-comes
 returns-then-bare-most-clause-comes g c =
     let told = g.F.Shelf.files c.args.shelf.now in
-    let b = bare_as c.args.bare.now in
+    let b = run_as c.args.bare.now in
     let d = c.in-Ok.machine.desc in
     let most : c.shape.result.now.q ≡ d.size = ap (λ s. s.q) c.shape.ensures.numbers in
     let described = subst (λ name. DescDue told name (Ok d)) c.deref.ensures c.in-Ok.ensures.comes in
@@ -29,7 +29,7 @@ returns-then-bare-most-clause-comes g c =
 pub returns-in-Err-load_image-clause-comes : goal.returns-in-Err-load_image-clause-comes
 returns-in-Err-load_image-clause-comes g c =
     let told = g.F.Shelf.files c.args.shelf.now in
-    let b = bare_as c.args.bare.now in
+    let b = run_as c.args.bare.now in
     let d = c.in-Ok.machine.desc in
     let most : c.shape.result.now.q ≡ d.size = ap (λ s. s.q) c.shape.ensures.numbers in
     let described = subst (λ name. DescDue told name (Ok d)) c.deref.ensures c.in-Ok.ensures.comes in
@@ -41,7 +41,7 @@ returns-in-Err-load_image-clause-comes g c =
 pub returns-clause-comes : goal.returns-clause-comes
 returns-clause-comes g c =
     let told = g.F.Shelf.files c.args.shelf.now in
-    let b = bare_as c.args.bare.now in
+    let b = run_as c.args.bare.now in
     let d = c.in-Ok.machine.desc in
     let most : c.shape.result.now.q ≡ d.size = ap (λ s. s.q) c.shape.ensures.numbers in
     let described = subst (λ name. DescDue told name (Ok d)) c.deref.ensures c.in-Ok.ensures.comes in
