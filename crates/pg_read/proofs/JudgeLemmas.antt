@@ -1,7 +1,7 @@
 -- What the goals say of tokens that are no description's is what the text asks for.
-use Rattle.std.proofs.Common.{◌≡◌, ◌≢◌, ℕ, suc, ◌+◌, ◌<◌, Bool, true, false, cond, ◌||◌, map, List, [], ◌∷◌, ◌++◌, length, take, Option, None, Some, ap, sym, ◌∙◌, subst, refl, arith, ◌⊎◌, inl, inr}
+use Rattle.std.proofs.Common.{◌≡◌, ◌≢◌, ℕ, suc, ◌+◌, ◌<◌, ◌≤◌, Bool, true, false, cond, ◌||◌, map, List, [], ◌∷◌, ◌++◌, length, take, drop, get_or, Option, None, Some, ap, sym, ◌∙◌, subst, refl, arith, ◌⊎◌, inl, inr}
 use Rattle.std.proofs.Math.Seq.{take-append_seam, take-append-add, get_or-append_seam}
-use Rattle.std.proofs.lemmas.List.{append_assoc, append-nil, map-append, length-append, length-map}
+use Rattle.std.proofs.lemmas.List.{drop_more, drop_all, append_assoc, append-nil, map-append, length-append, length-map}
 use Rattle.pg_token.specs.declared.tok.Tok.{Tok}
 use Rattle.pg_text.specs.declared.place.Span.{Span}
 use Rattle.pg_ast.specs.declared.tree.Desc.{Desc}
@@ -121,21 +121,14 @@ judged_says end all none = judged-says end all [] [] desc_goals refl refl none
 
 -- ---- the loop over tokens
 
-module _ (end : ℕ) (gs : List Goal) (left : List (Tok × Span)) (due : DescFault) (so_far : judged end gs left ≡ due) where
-  pub judged-end : left ≡ [] → Grammar end ≡ due
-  unfolding judged
-  judged-end here = rw here at so_far
+-- what is left of tokens, from one of them on
+pub judged-left : (end : ℕ) (gs : List Goal) (ts : List (Tok × Span)) (i : ℕ) (t : Tok × Span) → i < length ts → t ≡ get_or ts i t → judged end gs (drop i ts) ≡ judged_by (outcome (taken gs t.0)) t.1.from (λ left. judged end left (drop (i + 1) ts))
+unfolding judged
+judged-left end gs ts i t h is = ap (judged end gs) (drop_more ts i t h ∙ ap (λ x. x ∷ drop (i + 1) ts) (sym is))
 
-  module _ (t : Tok × Span) (ts : List (Tok × Span)) (here : left ≡ t ∷ ts) where
-    whole : judged_by (outcome (taken gs t.0)) t.1.from (λ more. judged end more ts) ≡ due
-    unfolding judged
-    whole = rw here at so_far
+-- and at their end
+pub judged-over : (end : ℕ) (gs : List Goal) (ts : List (Tok × Span)) (i : ℕ) → length ts ≤ i → judged end gs (drop i ts) ≡ Grammar end
+unfolding judged
+judged-over end gs ts i h = ap (judged end gs) (drop_all i ts h)
 
-    pub judged-fails : outcome (taken gs t.0) ≡ Fails → Grammar t.1.from ≡ due
-    judged-fails e = rw e at whole
-
-    pub judged-sinks : outcome (taken gs t.0) ≡ Sinks → Deep t.1.from ≡ due
-    judged-sinks e = rw e at whole
-
-    pub judged-on : (more : List Goal) → outcome (taken gs t.0) ≡ Leaves more → judged end more ts ≡ due
-    judged-on more e = rw e at whole
+pub ruleset judge_rules = (judged-left, judged-over)

@@ -183,6 +183,7 @@ fn whole(alloc: Global) -> Result<Goals, AllocError>
 }
 
 /// The first fault of tokens that are no description's: at one of them, or else here, at the end.
+#[tactic(auto, using(crate::proofs::JudgeLemmas::judge_rules), unfolding(crate::specs::Goals::judged))]
 pub fn judge(alloc: Global, toks: &[(Tok, Span)], end: usize) -> Result<DescFault, AllocError>
     ensures { IfOk result (λ fault. fault ≡ judged end desc_goals toks.now) }
 {
