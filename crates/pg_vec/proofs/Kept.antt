@@ -1,5 +1,5 @@
 -- What a circuit that grows keeps, and what an and and an exclusive or make.
-use Rattle.std.proofs.Common.{◌≡◌, ℕ, ◌+◌, ◌*◌, ◌<◌, ◌≤◌, Bool, true, false, ◌&&◌, List, [], ◌∷◌, ◌++◌, length, take, get_or, refl, sym, ap, ◌∙◌, subst, add-one, arith, Option, Some, None, Result, Ok, Err}
+use Rattle.std.proofs.Common.{◌≡◌, ℕ, ◌+◌, ◌*◌, ◌≤◌, Bool, true, false, ◌&&◌, List, [], ◌∷◌, ◌++◌, length, take, get_or, refl, sym, ap, ◌∙◌, subst, add-one, arith, Option, Some, None, Result, Ok, Err}
 use Rattle.std.proofs.lemmas.List.{take-take, take_all, length-take, get_or-take, length_push}
 use Rattle.std.proofs.lemmas.List.Elements.{All-weaker}
 use Rattle.pg_circuit.specs.declared.node.Gate.{Gate}
@@ -59,12 +59,6 @@ pub adds_next : (old nodes new : List Node) (count each : ℕ) → Adds old node
 adds_next old nodes new count each h k =
     let e : (count + 1) * each ≡ count * each + each = ap (λ n. n * each) (add-one count) ∙ suc-mul count each in
     subst (λ n. Adds old new n) (sym e) (adds_then old nodes new (count * each) each h k)
-
--- some rounds, and a part of one that was cut off
-pub adds_cut : (old nodes new : List Node) (count all each part : ℕ) → Adds old nodes (count * each) → Adds nodes new part → part ≤ each → count < all → Adds old new (all * each)
-adds_cut old nodes new count all each part h k l m =
-    adds_more old new ((count + 1) * each) (all * each)
-    (adds_next old nodes new count each h (adds_more nodes new part each k l)) (mul-le (count + 1) each all each (omega arith) (omega arith))
 
 -- all rounds
 pub adds_rounds : (old new : List Node) (count all each : ℕ) → Adds old new (count * each) → count ≤ all → Adds old new (all * each)

@@ -2,38 +2,24 @@
 use Rattle.std.proofs.Common.{◌≡◌, ℕ, ◌+◌, ◌*◌, ◌<◌, ◌≤◌, false, List, [], ◌∷◌, ◌++◌, length, take, drop, get_or, refl, sym, ap, ◌∙◌, subst, append_assoc}
 use Rattle.std.proofs.lemmas.List.{drop_more, drop_all, append-nil, length_push, length-replicate}
 use Rattle.std.proofs.Math.Nat.{zero-mul}
-use Rattle.std.proofs.lemmas.List.Elements.{All-nil, All-push, All-get_or}
+use Rattle.std.proofs.lemmas.List.Elements.{All-nil, All-push}
 use Rattle.pg_circuit.specs.declared.node.Gate.{Gate}
 use Rattle.pg_circuit.specs.declared.node.Node.{Node}
 use Rattle.pg_circuit.specs.Values.{IsThere}
-use Rattle.pg_circuit.specs.Grown.{IsFront}
 use Rattle.pg_circuit.specs.Made.{constant_gate, not_gate, and_made, xor_made}
-use Rattle.pg_vec.specs.declared.pairwise.Pairing.{Pairing}
-use Rattle.pg_vec.specs.declared.pairwise.Pairing.TheVariants.{And, Or, Xor, Choose}
 use Rattle.pg_vec.specs.There.{AreThere}
-use Rattle.pg_vec.specs.Pairing.{IsReady}
 use Rattle.pg_vec.specs.Gates.{or_made, choice_made, carry_made}
 use Rattle.pg_vec.specs.declared.shift.Direction.{Direction}
 use Rattle.pg_vec.specs.declared.shift.Direction.TheVariants.{Up, Down}
 use Rattle.pg_vec.specs.Direction.{move_of}
-use Rattle.pg_vec.proofs.Strings.{length-moved_up, length-moved_down, moved_up-there, moved_down-there, zeros-there}
+use Rattle.pg_vec.proofs.Strings.{length-moved_up, length-moved_down, zeros-there}
 use Rattle.pg_vec.specs.Strings.{zeros, shift_made, moved_up, carry_into_made, each_made, sum_made, add_made, carry_out_made, same_made, any_made, mux_made, stages_made, row_made, rows_made, mul_made}
 use Rattle.pg_vec.specs.Adds.{Adds}
-use Rattle.pg_vec.proofs.Kept.{adds_none, adds_next, there_later, all_there_later}
+use Rattle.pg_vec.proofs.Kept.{adds_none, adds_next, all_there_later}
 
 -- a bit of a string
 abbrev pub bit_at : List Gate → ℕ → Gate
 bit_at xs i = get_or xs i (constant_gate false)
-
--- it is there
-pub bit_there : (old new : List Node) (xs : List Gate) (i : ℕ) → i < length xs → AreThere (length old) xs → IsFront old new → (bit_at xs i).number < length new
-bit_there old new xs i l t f = there_later old new (bit_at xs i) f (All-get_or (IsThere (length old)) xs i (constant_gate false) l t)
-
-pub ready_later : (old new : List Node) (make : Pairing) → IsFront old new → IsReady (length old) make → IsReady (length new) make
-ready_later old new And f h = h
-ready_later old new Or f h = h
-ready_later old new Xor f h = h
-ready_later old new (Choose choice) f h = there_later old new choice f h
 
 -- what is left of a string
 pub rest_of : (xs : List Gate) (i : ℕ) → i < length xs → drop i xs ≡ bit_at xs i ∷ drop (i + 1) xs
@@ -245,10 +231,6 @@ rows_next nodes sum xs ys i zero at row so_far addend total moved n new l ez ea 
 pub moved_wide : (way : Direction) (k : ℕ) (xs : List Gate) → length (move_of way k xs) ≡ length xs
 moved_wide Up k xs = length-moved_up k xs
 moved_wide Down k xs = length-moved_down k xs
-
-pub moved_there : (way : Direction) (places k : ℕ) (xs : List Gate) → 0 < places → AreThere places xs → AreThere places (move_of way k xs)
-moved_there Up places k xs h t = moved_up-there places k xs h t
-moved_there Down places k xs h t = moved_down-there places k xs h t
 
 -- a shift, from its three parts
 pub shift_parts : (move : ℕ → List Gate → List Gate) (nodes : List Node) (xs ys low high bits near zeros' : List Gate) (far : Gate) (n m : List Node) →
