@@ -38,7 +38,7 @@ pub enum TypeFault {
     /// The first instruction whose pattern has not as many places as a word has bits, or has a letter in two runs.
     #[error("the pattern of instruction {0} is not well formed")]
     Pattern(usize),
-    /// The first two instructions whose patterns some word matches both.
+    /// The first instruction that overlaps a later one, and the first such later one: some word matches both patterns.
     #[error("the patterns of instructions {0} and {1} match one word")]
     Overlap(usize, usize),
     /// The first instruction with a name that is neither a field nor a visible let, and its first such name.

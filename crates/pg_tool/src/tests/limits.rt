@@ -51,14 +51,16 @@ fn a_body_has_8_accesses(rt: HostRuntime) -> Result<(), Fail> {
     Ok(())
 }
 
-/// An instruction of so many lets, each of another name.
-fn with_lets(alloc: Global, count: u8) -> Result<String, Fail> {
-    let mut desc = String::from_str(alloc, BEFORE_BODY)?;
+/// What stands before, so many lets of this value, each of another name, and the end of an instruction.
+fn with_lets(alloc: Global, before: &str, count: u8, value: &str) -> Result<String, Fail> {
+    let mut desc = String::from_str(alloc, before)?;
     for k in 0..count {
         desc.push_str("let v")?;
         desc.push((b'a' + k / 10) as char)?;
         desc.push((b'0' + k % 10) as char)?;
-        desc.push_str(" = 0:1; ")?;
+        desc.push_str(" = ")?;
+        desc.push_str(value)?;
+        desc.push_str("; ")?;
     }
     desc.push('}')?;
     Ok(desc)
@@ -66,9 +68,9 @@ fn with_lets(alloc: Global, count: u8) -> Result<String, Fail> {
 
 #[test]
 fn a_body_has_32_lets(rt: HostRuntime) -> Result<(), Fail> {
-    let desc = with_lets(rt.alloc(), 32)?;
+    let desc = with_lets(rt.alloc(), BEFORE_BODY, 32, "0:1")?;
     takes(&rt, rt.alloc(), &desc)?;
-    let desc = with_lets(rt.alloc(), 33)?;
+    let desc = with_lets(rt.alloc(), BEFORE_BODY, 33, "0:1")?;
     refuses(&rt, rt.alloc(), &desc, "description: limit 3 0\n")?;
     Ok(())
 }
@@ -90,6 +92,23 @@ fn a_body_has_1024_expressions_parts_too(rt: HostRuntime) -> Result<(), Fail> {
     takes(&rt, rt.alloc(), &desc)?;
     let desc = repeated(rt.alloc(), stmt, 128, "pc = 0:4; ")?;
     refuses(&rt, rt.alloc(), &desc, "description: limit 5 0\n")?;
+    Ok(())
+}
+
+#[test]
+fn the_first_instruction_over_a_limit_is_told_and_its_least_one(
+    rt: HostRuntime,
+) -> Result<(), Fail> {
+    // The second instruction has 33 lets, and as many accesses.
+    let mut before = repeated(rt.alloc(), "trap; ", 1, "")?;
+    before.push_str(" instr i \"0001............\" { ")?;
+    let desc = with_lets(rt.alloc(), &before, 33, "mem[0:4]")?;
+    refuses(&rt, rt.alloc(), &desc, "description: limit 2 1\n")?;
+    // The first has 201 statements, the second 32 accesses.
+    let mut before = repeated(rt.alloc(), "trap; ", 201, "")?;
+    before.push_str(" instr i \"0001............\" { ")?;
+    let desc = with_lets(rt.alloc(), &before, 32, "mem[0:4]")?;
+    refuses(&rt, rt.alloc(), &desc, "description: limit 4 0\n")?;
     Ok(())
 }
 
@@ -202,6 +221,20 @@ fn the_first_class_is_told_where_two_are_broken(rt: HostRuntime) -> Result<(), F
     for (desc, line) in cases {
         refuses(&rt, rt.alloc(), desc, line)?;
     }
+    // Addresses of 6 bits do not go into the word, and nine accesses are one too many.
+    let before = "machine { word 16; address 6; size 8; } instr h \"0000............\" { ";
+    let desc = with_lets(rt.alloc(), before, 9, "mem[0:6]")?;
+    refuses(&rt, rt.alloc(), &desc, "description: shape\n")?;
+    Ok(())
+}
+
+#[test]
+fn lines_end_with_cr_lf_too_and_the_last_comment_needs_no_end(rt: HostRuntime) -> Result<(), Fail> {
+    takes(
+        &rt,
+        rt.alloc(),
+        "machine { word 16;\r\naddress 4; # bits\r\nsize 8; }\r\n# no more",
+    )?;
     Ok(())
 }
 

@@ -67,6 +67,12 @@ fn texts_that_end_too_early(rt: HostRuntime) -> Result<(), Fail> {
         refuses(&rt, rt.alloc(), desc, line)?;
     }
     refuses_behind_head(&rt, rt.alloc(), "instr", "description: grammar 45\n")?;
+    refuses_behind_head(
+        &rt,
+        rt.alloc(),
+        "instr h \"0000............\"",
+        "description: grammar 66\n",
+    )?;
     refuses_in_body(&rt, rt.alloc(), "pc = 0:4;", "description: grammar 78\n")?;
     Ok(())
 }
@@ -106,6 +112,11 @@ fn token_faults_come_before_all_but_the_length(rt: HostRuntime) -> Result<(), Fa
         ("instr instr >", "description: token 52\n"),
         ("0x", "description: token 40\n"),
         ("\"01", "description: token 40\n"),
+        ("instr h \"01", "description: token 48\n"),
+        (
+            "instr abcdefghijabcdefghijabcdefghijabc",
+            "description: token 46\n",
+        ),
     ];
     for (rest, line) in cases {
         refuses_behind_head(&rt, rt.alloc(), rest, line)?;
@@ -125,7 +136,7 @@ fn expressions_go_down_to_level_32(rt: HostRuntime) -> Result<(), Fail> {
     refuses_in_body(
         &rt,
         rt.alloc(),
-        "pc = ~~~~~~~~~~~~~~~~~~~~~~~~~~~~~~~~0:1; }",
+        "pc = ~~~~~~~~~~~~~~~~~~~~~~~~~~~~~~~~0:4; }",
         "description: deep 106\n",
     )?;
     // A token that begins no expression is none too deep.
@@ -135,19 +146,35 @@ fn expressions_go_down_to_level_32(rt: HostRuntime) -> Result<(), Fail> {
         "pc = ~~~~~~~~~~~~~~~~~~~~~~~~~~~~~~~~; }",
         "description: grammar 106\n",
     )?;
-    // What comes first is told.
-    refuses_in_body(
-        &rt,
-        rt.alloc(),
-        "pc = ; pc = ~~~~~~~~~~~~~~~~~~~~~~~~~~~~~~~~0:1; }",
-        "description: grammar 74\n",
-    )?;
-    refuses_in_body(
-        &rt,
-        rt.alloc(),
-        "pc = ~~~~~~~~~~~~~~~~~~~~~~~~~~~~~~~~0:1; pc = ; }",
-        "description: deep 106\n",
-    )?;
+    Ok(())
+}
+
+#[test]
+fn of_a_wrong_token_and_one_too_deep_the_first_is_told(rt: HostRuntime) -> Result<(), Fail> {
+    let cases = [
+        (
+            "pc = ; pc = ~~~~~~~~~~~~~~~~~~~~~~~~~~~~~~~~0:1; }",
+            "description: grammar 74\n",
+        ),
+        // A colon stands where an equals sign is due, and nothing is missing behind it.
+        (
+            "pc : ~~~~~~~~~~~~~~~~~~~~~~~~~~~~~~~~0:1; }",
+            "description: grammar 72\n",
+        ),
+        (
+            "pc = ~~~~~~~~~~~~~~~~~~~~~~~~~~~~~~~~0:1; pc = ; }",
+            "description: deep 106\n",
+        ),
+    ];
+    for (body, line) in cases {
+        refuses_in_body(&rt, rt.alloc(), body, line)?;
+    }
+    let mut body = String::from_str(rt.alloc(), "pc = ; ")?;
+    body.push_str(&nested(rt.alloc(), 16)?)?;
+    refuses_in_body(&rt, rt.alloc(), &body, "description: grammar 74\n")?;
+    let mut body = nested(rt.alloc(), 16)?;
+    body.push_str("pc = ; }")?;
+    refuses_in_body(&rt, rt.alloc(), &body, "description: deep 211\n")?;
     Ok(())
 }
 
@@ -191,6 +218,10 @@ fn each_class_of_validity_has_its_line(rt: HostRuntime) -> Result<(), Fail> {
         (
             "instr h \"0000............\" { let b = 0:1; let b = 0:1; }",
             "description: twice b\n",
+        ),
+        (
+            "instr h \"0000...........a\" { let a = 0:1; }",
+            "description: twice a\n",
         ),
         ("instr h \"0000\" { }", "description: pattern 0\n"),
         (
@@ -265,6 +296,7 @@ fn each_refusal_of_an_image_has_its_line(rt: HostRuntime) -> Result<(), Fail> {
         ("2:0001", "image 0: grammar 1\n"),
         ("00000002: 0001", "image 0: grammar 1\n"),
         ("7: 0000 0000\n", "image 0: address 1\n"),
+        ("9999999: 0000\n", "image 0: address 1\n"),
         ("# none\n8: 0000\n", "image 0: address 2\n"),
         ("2: 0001\n2: 0001\n", "image 0: overlap 2\n"),
         ("2: 0001 0002\n3: 0001\n", "image 0: overlap 2\n"),
@@ -297,7 +329,7 @@ fn a_description_has_at_most_1_048_576_bytes(rt: HostRuntime) -> Result<(), Fail
     let desc = padded(rt.alloc(), HEAD, 1_048_576)?;
     let ran = run_bytes(rt.alloc(), &WORDS, desc, Vec::new(rt.alloc()))?;
     assert!(rt; ran.status == Status::Done);
-    let desc = padded(rt.alloc(), HEAD, 1_048_577)?;
+    let desc = padded(rt.alloc(), "", 1_048_577)?;
     let ran = run_bytes(rt.alloc(), &WORDS, desc, Vec::new(rt.alloc()))?;
     assert_eq!(rt; ran.text.as_str(), "description: long\n");
     assert!(rt; ran.status == Status::Description);
@@ -320,7 +352,7 @@ fn an_image_of_33_554_432_bytes_is_read(rt: HostRuntime) -> Result<(), Fail> {
 #[test]
 fn an_image_of_33_554_433_bytes_is_too_long(rt: HostRuntime) -> Result<(), Fail> {
     let desc = padded(rt.alloc(), HEAD, 40)?;
-    let image = padded(rt.alloc(), "2: 0001", 33_554_433)?;
+    let image = padded(rt.alloc(), "", 33_554_433)?;
     let ran = run_bytes(rt.alloc(), &WORDS, desc, image)?;
     assert_eq!(rt; ran.text.as_str(), "image 0: long\n");
     assert!(rt; ran.status == Status::Image);
