@@ -9,10 +9,10 @@ use Rattle.pg_ast.specs.declared.tree.Instr.{Instr}
 use Rattle.pg_ast.specs.declared.tree.Desc.{Desc}
 use Rattle.pg_type.specs.Patterns.{matching}
 use Rattle.pg_type.specs.States.{State, shape_of, window, window_length}
-use Rattle.pg_type.specs.Steps.{Ending, ByMemTrap, ByNoPattern, ending, left_by, trapped, step, steps}
+use Rattle.pg_type.specs.Steps.{Ending, ByMemTrap, ByNoPattern, ending, left_by, trapped, step, steps, ends_in_trap}
 use Rattle.pg_type.proofs.StepSound.{window-length}
 use Rattle.pg_hw.specs.Tallies.{raised_by}
-use Rattle.pg_hw.specs.Bursts.{is_trap, is_user, one_if, traps, untrapped_at, untrapped_among, burst_length, BottomRises}
+use Rattle.pg_hw.specs.Bursts.{is_user, one_if, traps, untrapped_at, untrapped_among, burst_length, BottomRises}
 use Rattle.pg_hw.specs.Idling.{cause_where}
 
 -- no instruction matches
@@ -35,7 +35,7 @@ left_by_test : (d : Desc) (s : State) (b : Bool) → left_by d s (idle_ending b)
 left_by_test d s true = refl
 left_by_test d s false = refl
 
-is_trap_test : (b : Bool) → is_trap (idle_ending b) ≡ true
+is_trap_test : (b : Bool) → ends_in_trap (idle_ending b) ≡ true
 is_trap_test true = refl
 is_trap_test false = refl
 

@@ -5,12 +5,10 @@ use Rattle.std.proofs.lemmas.List.Elements.{All-append, All-replicate}
 use Rattle.std.proofs.lemmas.Nat.{pow_pos}
 use Rattle.pg_ast.specs.declared.tree.Desc.{Desc}
 use Rattle.pg_type.specs.States.{State, IsState, window}
-use Rattle.pg_type.specs.Steps.{Ending, ByMemTrap, ByTrap, ByNoPattern, Done, ending}
+use Rattle.pg_type.specs.Steps.{ending, ends_in_trap}
 use Rattle.pg_type.specs.Valid.{IsValid}
 use Rattle.pg_type.specs.Accepting.{IsAccepted}
-use Rattle.pg_type.specs.Alike.{ends_in_trap}
 use Rattle.pg_type.proofs.AlikeSteps.{traps_alike}
-use Rattle.pg_hw.specs.Bursts.{is_trap}
 use Rattle.pg_routine.specs.Composing.{composed}
 use Rattle.pg_routine.proofs.GrantLaws.{composed-window}
 use Rattle.pg_monitor.specs.Direct.{ending_at, is_direct}
@@ -37,14 +35,8 @@ placed-state d base s valid h within = record {
   fields = composed-fits d s.psw base (length s.cells) valid within h.fields;
 }
 
-same_test : (e : Ending) → is_trap e ≡ ends_in_trap e
-same_test ByMemTrap = refl
-same_test ByTrap = refl
-same_test ByNoPattern = refl
-same_test (Done after) = refl
-
-placed-trap : (d : Desc) (base : ℕ) (s : State) → is_trap (ending_at d base s) ≡ ends_in_trap (ending d (window (placed base s)) (placed base s).psw)
-placed-trap d base s = same_test (ending_at d base s) ∙ ap (λ w. ends_in_trap (ending d w (placed base s).psw)) (sym (placed-window base s))
+placed-trap : (d : Desc) (base : ℕ) (s : State) → ends_in_trap (ending_at d base s) ≡ ends_in_trap (ending d (window (placed base s)) (placed base s).psw)
+placed-trap d base s = ap (λ w. ends_in_trap (ending d w (placed base s).psw)) (sym (placed-window base s))
 
 pub direct-anywhere : (d : Desc) (s : State) (b c : ℕ) → ∥ IsAccepted d ∥₁ → IsValid d → IsState d s → b + length s.cells ≤ d.size → c + length s.cells ≤ d.size →
     is_direct d b s ≡ is_direct d c s

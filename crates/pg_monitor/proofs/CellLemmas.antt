@@ -1,5 +1,5 @@
 -- Storages with other cells in a grant, and with another cell 0.
-use Rattle.std.proofs.Common.{◌≡◌, ℕ, ◌+◌, ◌<◌, ◌≤◌, List, ◌++◌, length, take, drop, slice_set, slice_index, slice_get, Some, sym, ◌∙◌, ap, arith, append_assoc, length-append, length-drop}
+use Rattle.std.proofs.Common.{◌≡◌, ℕ, ◌+◌, ◌<◌, ◌≤◌, List, ◌++◌, length, take, drop, slice_set, slice_index, slice_get, Some, sym, ◌∙◌, ap, arith, append_assoc, length-append}
 use Rattle.std.proofs.lemmas.List.{length-take-le, set-append_left, take-append-drop, take_at, drop_at, drop-set-lt, set-get_or, get_or_append_left, get_or-take, get_or-set_other}
 use Rattle.std.proofs.lemmas.Option.{slice_get-get_or, slice_get_within, get_or_from_slice_get}
 use Rattle.std.proofs.Math.Seq.{take-set-lt}
@@ -11,10 +11,6 @@ front cells base h = length-take-le base cells h
 
 both : (cells new : List ℕ) (base : ℕ) → base ≤ length cells → length (take base cells ++ new) ≡ base + length new
 both cells new base h = omega (arith, length-append (take base cells) new, front cells base h)
-
-pub with_grant-length : (cells new : List ℕ) (base : ℕ) → base + length new ≤ length cells → length (with_grant cells base new) ≡ length cells
-with_grant-length cells new base h =
-    omega (arith, length-append (take base cells ++ new) (drop (base + length new) cells), both cells new base (omega arith), length-drop (base + length new) cells)
 
 with_grant-front : (cells new : List ℕ) (base : ℕ) → base ≤ length cells → take base (with_grant cells base new) ≡ take base cells
 with_grant-front cells new base h =

@@ -1,7 +1,7 @@
 -- Steps of the hardware for the guest that it runs: direct ones, and one that traps.
 use Rattle.std.proofs.Common.{◌≡◌, ℕ, ◌+◌, ◌-◌, ◌<◌, ◌≤◌, Bool, true, false, not, min, nat_lt, if◌then◌else◌, List, [], ◌++◌, length, take, drop, slice_set, slice_index, refl, sym, ◌∙◌, ap, subst, arith}
 use Rattle.std.proofs.lemmas.Bool.{ltb-true}
-use Rattle.std.proofs.lemmas.List.{nil_from_length, take-append-drop, append-nil, length-set, get_or-set_same}
+use Rattle.std.proofs.lemmas.List.{nil_from_length, take-append-drop, append-nil, get_or-set_same}
 use Rattle.std.proofs.lemmas.Option.{get_or_from_slice_get}
 use Rattle.pg_word.specs.declared.psw.Psw.{Psw}
 use Rattle.pg_word.specs.declared.psw.Mode.TheVariants.{U}
@@ -10,14 +10,14 @@ use Rattle.pg_word.proofs.Words.{unpacked_packed, unpacked_packed_trap}
 use Rattle.pg_ast.specs.declared.tree.Desc.{Desc}
 use Rattle.pg_type.specs.Bodies.{After}
 use Rattle.pg_type.specs.States.{State, IsState, shape_of, window, put_back}
-use Rattle.pg_type.specs.Steps.{Ending, ByMemTrap, ByTrap, ByNoPattern, Done, ending, left_by, trapped, step}
+use Rattle.pg_type.specs.Steps.{Ending, ByMemTrap, ByTrap, ByNoPattern, Done, ending, left_by, trapped, step, ends_in_trap}
 use Rattle.pg_type.specs.Valid.{IsValid}
 use Rattle.pg_type.specs.Accepting.{IsAccepted}
 use Rattle.pg_type.specs.Alike.{LookAlike}
 use Rattle.pg_type.proofs.ValidFacts.{IsShape-of_valid}
 use Rattle.pg_type.proofs.StepSound.{AfterFits, OnDone, ending-sound, window-length, window-words, put_back-length}
 use Rattle.pg_type.proofs.AlikeSteps.{steps_alike}
-use Rattle.pg_hw.specs.Bursts.{is_trap, traps}
+use Rattle.pg_hw.specs.Bursts.{traps}
 use Rattle.pg_routine.specs.Composing.{composed}
 use Rattle.pg_routine.specs.Granting.{with_grant}
 use Rattle.pg_routine.proofs.GrantLaws.{composed-window, guest-length, with_grant-put_back}
@@ -53,7 +53,7 @@ Runs-ending d real g r =
 
 pub Runs-direct : (d : Desc) (real : State) (g : Guest) → Runs d real g → is_direct d g.base (virtual real.cells g) ≡ not (traps d real)
 unfolding is_direct traps
-Runs-direct d real g r = ap (λ e. not (is_trap e)) (sym (Runs-ending d real g r))
+Runs-direct d real g r = ap (λ e. not (ends_in_trap e)) (sym (Runs-ending d real g r))
 
 -- ---- a direct step
 
@@ -63,17 +63,6 @@ step_done d s after e = ap (left_by d s) e
 
 done_length : (d : Desc) (s : State) (after : After) → IsValid d → IsState d s → ending d (window s) s.psw ≡ Done after → length after.window ≡ length (window s)
 done_length d s after v h e = (subst (λ x. OnDone x (AfterFits d (length (window s)))) e (ending-sound d (window s) s.psw v (window-words d s h) h.fields)).same_length
-
-left_length : (d : Desc) (s : State) (e : Ending) → OnDone e (AfterFits d (length (window s))) → length (left_by d s e).cells ≡ length s.cells
-left_length d s ByMemTrap h = length-set s.cells 0 (packed_trap (shape_of d) s.psw 1)
-left_length d s ByTrap h = length-set s.cells 0 (packed_trap (shape_of d) s.psw 2)
-left_length d s ByNoPattern h = length-set s.cells 0 (packed_trap (shape_of d) s.psw 3)
-left_length d s (Done after) h = put_back-length s after.window (h.same_length ∙ window-length s)
-
--- a step leaves the storage its length
-pub step-length : (d : Desc) (s : State) → IsValid d → IsState d s → length (step d s).cells ≡ length s.cells
-unfolding step
-step-length d s v h = left_length d s (ending d (window s) s.psw) (ending-sound d (window s) s.psw v (window-words d s h) h.fields)
 
 -- a window put back where the composed program status word opens it
 placed : (cells w : List ℕ) (base size l bound : ℕ) (b : Bool) → nat_lt l size ≡ b → base + size ≤ length cells →
@@ -116,13 +105,13 @@ pub record DirectStep (d : Desc) (real : State) (g : Guest) (v : State) : Type 0
 
 calm_done : (d : Desc) (s : State) (after : After) → ending d (window s) s.psw ≡ Done after → traps d s ≡ false
 unfolding traps
-calm_done d s after e = ap is_trap e
+calm_done d s after e = ap ends_in_trap e
 
 pub DirectStep-of : (d : Desc) (real : State) (g : Guest) → ∥ IsAccepted d ∥₁ → IsValid d → Runs d real g → traps d real ≡ false → DirectStep d real g (virtual real.cells g)
 unfolding traps
 DirectStep-of d real g accepted valid r calm = by_ending (ending d (window real) real.psw) refl calm
   where
-    by_ending : (e : Ending) → ending d (window real) real.psw ≡ e → is_trap e ≡ false → DirectStep d real g (virtual real.cells g)
+    by_ending : (e : Ending) → ending d (window real) real.psw ≡ e → ends_in_trap e ≡ false → DirectStep d real g (virtual real.cells g)
     by_ending ByMemTrap e traps = absurd (let wrong : ⊥ = cc in wrong)
     by_ending ByTrap e traps = absurd (let wrong : ⊥ = cc in wrong)
     by_ending ByNoPattern e traps = absurd (let wrong : ⊥ = cc in wrong)
@@ -151,7 +140,7 @@ pub record TrapStep (d : Desc) (real : State) (g : Guest) (v : State) : Type 0 w
   pub psw : (step d real).psw ≡ control_psw d.size
   pub entry : unpacked d.address (slice_index (step d real).cells 0) ≡ real.psw
 
-trap_left : (d : Desc) (s : State) (e : Ending) → is_trap e ≡ true → left_by d s e ≡ trapped d s (cause_of e)
+trap_left : (d : Desc) (s : State) (e : Ending) → ends_in_trap e ≡ true → left_by d s e ≡ trapped d s (cause_of e)
 trap_left d s ByMemTrap h = refl
 trap_left d s ByTrap h = refl
 trap_left d s ByNoPattern h = refl

@@ -21,13 +21,14 @@ use Rattle.pg_hw.proofs.TallyLaws.{raised_by-zero, raised_by-add}
 use Rattle.pg_hw.proofs.ServingLaws.{SameServed-same, SameServed-then}
 use Rattle.pg_routine.specs.Granting.{with_grant}
 use Rattle.pg_routine.specs.Composing.{composed}
+use Rattle.pg_routine.proofs.StateLaws.{with_grant-length}
 use Rattle.pg_monitor.specs.declared.guest.Guest.{Guest}
 use Rattle.pg_monitor.specs.Guests.{virtual, virtuals, IsGrant, AreApart}
 use Rattle.pg_monitor.specs.Standing.{control_psw, IsUnder, Stands}
 use Rattle.pg_monitor.specs.Turns.{grants_of}
 use Rattle.pg_monitor.specs.Loading.{free_base, Loaded}
 use Rattle.pg_monitor.proofs.FitLemmas.{free_base-first, free_base-full}
-use Rattle.pg_monitor.proofs.CellLemmas.{with_grant-length, with_grant-before, cell_of}
+use Rattle.pg_monitor.proofs.CellLemmas.{with_grant-before, cell_of}
 use Rattle.pg_monitor.proofs.RunLemmas.{virtual-own}
 use Rattle.pg_monitor.proofs.WentLemmas.{granted-state}
 

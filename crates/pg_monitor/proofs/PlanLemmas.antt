@@ -6,23 +6,23 @@ use Rattle.std.proofs.lemmas.List.{length-take-le, length-append, length-set, le
 use Rattle.std.proofs.lemmas.List.Elements.{All-nil, All-cons, All-head, All-tail}
 use Rattle.std.proofs.lemmas.Option.{slice_get-get_or, slice_get_past, slice_get_cases}
 use Rattle.pg_ast.specs.declared.tree.Desc.{Desc}
-use Rattle.pg_type.specs.States.{State, IsState}
+use Rattle.pg_type.specs.States.{State}
 use Rattle.pg_type.specs.Steps.{steps}
 use Rattle.pg_type.specs.Valid.{IsValid}
 use Rattle.pg_type.proofs.StepLaws.{steps-add}
-use Rattle.pg_type.proofs.StepSound.{steps-state}
+use Rattle.pg_type.proofs.StepSound.{steps-length}
 use Rattle.pg_hw.specs.declared.counts.Counts.{Counts}
 use Rattle.pg_hw.specs.Tallies.{Bottom}
 use Rattle.pg_hw.proofs.TallyLaws.{raised_by-zero, RisesWithin-none}
 use Rattle.pg_routine.specs.Granting.{with_grant}
+use Rattle.pg_routine.proofs.StateLaws.{with_grant-length}
 use Rattle.pg_monitor.specs.declared.guest.Guest.{Guest}
 use Rattle.pg_monitor.specs.Guests.{virtual, virtuals}
 use Rattle.pg_monitor.specs.Direct.{direct_among}
 use Rattle.pg_monitor.specs.Standing.{Stands}
 use Rattle.pg_monitor.specs.Turns.{moved, trap_cell, grants_of, changes_in, CountsTurns, BottomTurns, Turned}
 use Rattle.pg_monitor.specs.Plans.{after_plan, turns_of, turns_for, direct_turns, direct_of, cell_turns, cell_behind, current_of, changes_of, Followed}
-use Rattle.pg_monitor.proofs.CellLemmas.{with_grant-length}
-use Rattle.pg_monitor.proofs.DirectLemmas.{Holds-within, Holds-length, step-length}
+use Rattle.pg_monitor.proofs.DirectLemmas.{Holds-within, Holds-length}
 use Rattle.pg_monitor.proofs.WentLemmas.{CountsTurns-add, BottomTurns-add, direct_among-most}
 use Rattle.pg_monitor.proofs.GuestLemmas.{All-at, virtuals-at, Holds-of}
 
@@ -56,11 +56,6 @@ granted-outside cells new base k within place =
 first_outside : (xs : List ℕ) (k w : ℕ) → 1 ≤ k → slice_get (slice_set xs 0 w) k ≡ slice_get xs k
 first_outside xs k w some =
     same_cell (slice_set xs 0 w) xs k (length-set xs 0 w) (λ e. get_or-set_other xs 0 k w e (λ is. absurd (omega arith)))
-
-steps-length : (d : Desc) (n : ℕ) (s : State) → IsValid d → IsState d s → length (steps d n s).cells ≡ length s.cells
-unfolding steps
-steps-length d zero s valid h = refl
-steps-length d (suc n) s valid h = step-length d (steps d n s) valid (steps-state d n s valid h) ∙ steps-length d n s valid h
 
 -- ---- the same grants
 

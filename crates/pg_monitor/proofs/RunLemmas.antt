@@ -13,13 +13,14 @@ use Rattle.pg_type.proofs.StepSound.{step-state}
 use Rattle.pg_hw.specs.Bursts.{traps, is_user, one_if, untrapped_at, untrapped_among, supervisor_at, supervisor_among}
 use Rattle.pg_routine.specs.Granting.{guest_at, with_grant}
 use Rattle.pg_routine.proofs.GrantLaws.{with_grant-same}
+use Rattle.pg_routine.proofs.StateLaws.{with_grant-length}
 use Rattle.pg_monitor.specs.declared.guest.Guest.{Guest}
 use Rattle.pg_monitor.specs.Guests.{virtual}
 use Rattle.pg_monitor.specs.Direct.{is_direct, direct_among}
 use Rattle.pg_monitor.specs.Standing.{control_psw}
 use Rattle.pg_monitor.specs.Turns.{trap_cell, trap_word}
 use Rattle.pg_monitor.specs.Current.{Holds, Runs, with_psw}
-use Rattle.pg_monitor.proofs.CellLemmas.{with_grant-length, with_grant-own, with_grant-again, with_grant-before, cell_of}
+use Rattle.pg_monitor.proofs.CellLemmas.{with_grant-own, with_grant-again, with_grant-before, cell_of}
 use Rattle.pg_monitor.proofs.DirectLemmas.{Holds-within, Holds-length, Runs-user, Runs-direct, DirectStep, DirectStep-of}
 
 -- a guest has the cells that were put into its grant

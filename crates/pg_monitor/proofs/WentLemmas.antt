@@ -14,7 +14,7 @@ use Rattle.pg_type.specs.Steps.{step, steps}
 use Rattle.pg_type.specs.Valid.{IsValid}
 use Rattle.pg_type.specs.Accepting.{IsAccepted}
 use Rattle.pg_type.proofs.StepLaws.{steps-add}
-use Rattle.pg_type.proofs.StepSound.{step-state}
+use Rattle.pg_type.proofs.StepSound.{step-state, step-length}
 use Rattle.pg_type.proofs.ValidFacts.{IsShape-of_valid}
 use Rattle.pg_hw.specs.declared.counts.Counts.{Counts}
 use Rattle.pg_hw.specs.Tallies.{Bottom, raised_by, after_steps}
@@ -26,14 +26,15 @@ use Rattle.pg_hw.proofs.BurstLaws.{burst_length-goes_on, burst_length-some}
 use Rattle.pg_routine.specs.Composing.{composed}
 use Rattle.pg_routine.specs.Granting.{with_grant}
 use Rattle.pg_routine.proofs.GrantLaws.{with_grant-same}
+use Rattle.pg_routine.proofs.StateLaws.{with_grant-length}
 use Rattle.pg_monitor.specs.declared.guest.Guest.{Guest}
 use Rattle.pg_monitor.specs.Guests.{virtual}
 use Rattle.pg_monitor.specs.Direct.{is_direct, direct_among}
 use Rattle.pg_monitor.specs.Standing.{control_psw}
 use Rattle.pg_monitor.specs.Turns.{trap_cell, trap_word, CountsTurns, BottomTurns}
 use Rattle.pg_monitor.specs.Current.{Holds, Runs, with_psw, Interpreted, Went}
-use Rattle.pg_monitor.proofs.CellLemmas.{with_grant-length, with_grant-again, with_grant-before, set_first-grant, set_first-guest, set_first-second, set_same, cell_of}
-use Rattle.pg_monitor.proofs.DirectLemmas.{Holds-within, Holds-length, Runs-user, Runs-direct, step-length, DirectStep-of, TrapStep, TrapStep-of}
+use Rattle.pg_monitor.proofs.CellLemmas.{with_grant-again, with_grant-before, set_first-grant, set_first-guest, set_first-second, set_same, cell_of}
+use Rattle.pg_monitor.proofs.DirectLemmas.{Holds-within, Holds-length, Runs-user, Runs-direct, DirectStep-of, TrapStep, TrapStep-of}
 use Rattle.pg_monitor.proofs.RunLemmas.{Holds-next, virtual-own, Directly, Directly-next, Directly-all, supervisor_at-user}
 
 -- ---- what a composed program status word and other cells in a grant leave

@@ -2,8 +2,8 @@
 use Rattle.std.specs.Prelude.{ℕ, zero, suc, ◌+◌, Bool, not, length}
 use Rattle.pg_ast.specs.declared.tree.Desc.{Desc}
 use Rattle.pg_type.specs.States.{State, window}
-use Rattle.pg_type.specs.Steps.{Ending, ending, steps}
-use Rattle.pg_hw.specs.Bursts.{is_trap, one_if}
+use Rattle.pg_type.specs.Steps.{Ending, ending, steps, ends_in_trap}
+use Rattle.pg_hw.specs.Bursts.{one_if}
 use Rattle.pg_routine.specs.Composing.{composed}
 
 -- how the step of a state's own window ends under the PSW that is composed of its own for a grant at this base
@@ -12,7 +12,7 @@ ending_at d base s = ending d (window s) (composed s.psw base (length s.cells))
 
 -- *Direct*: it neither traps nor memory traps
 unfoldable pub is_direct : Desc → ℕ → State → Bool
-is_direct d base s = not (is_trap (ending_at d base s))
+is_direct d base s = not (ends_in_trap (ending_at d base s))
 
 -- how many of the first n steps from a state are direct at this base
 unfoldable pub direct_among : Desc → ℕ → ℕ → State → ℕ

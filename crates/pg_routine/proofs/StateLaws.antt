@@ -1,14 +1,14 @@
 -- Guests and storages stay at states, and a guest keeps its size.
 use Rattle.std.proofs.Common.{◌≡◌, ℕ, ◌+◌, ◌<◌, ◌≤◌, ◌^◌, List, ◌++◌, length, take, drop, refl, sym, ◌∙◌, ap, arith}
-use Rattle.std.proofs.lemmas.List.{length-take-le, length-append, length-drop, length-set, take_at, drop_at, append_assoc}
+use Rattle.std.proofs.lemmas.List.{length-take-le, length-append, length-drop, take_at, drop_at, append_assoc}
 use Rattle.std.proofs.lemmas.List.Elements.{All-append, All-take, All-drop}
 use Rattle.pg_word.specs.declared.psw.Psw.{Psw}
-use Rattle.pg_word.specs.Psw.{IsPsw, packed_trap}
+use Rattle.pg_word.specs.Psw.{IsPsw}
 use Rattle.pg_ast.specs.declared.tree.Desc.{Desc}
-use Rattle.pg_type.specs.States.{State, IsState, shape_of, window}
-use Rattle.pg_type.specs.Steps.{Ending, ByMemTrap, ByTrap, ByNoPattern, Done, ending, left_by, step}
+use Rattle.pg_type.specs.States.{State, IsState}
+use Rattle.pg_type.specs.Steps.{step}
 use Rattle.pg_type.specs.Valid.{IsValid}
-use Rattle.pg_type.proofs.StepSound.{OnDone, AfterFits, ending-sound, window-length, put_back-length, step-state, window-words}
+use Rattle.pg_type.proofs.StepSound.{step-length, step-state}
 use Rattle.pg_routine.specs.Granting.{guest_at, with_grant}
 use Rattle.pg_routine.proofs.GrantLaws.{guest-length}
 
@@ -23,19 +23,8 @@ guest-state d s base size psw h least within fields =
       fields = fields;
     }
 
--- ---- a step keeps the size of a storage
+-- ---- a step keeps the size of a storage, and so a guest keeps its own
 
-left_by-length : (d : Desc) (s : State) (e : Ending) → OnDone e (AfterFits d (length (window s))) → length (left_by d s e).cells ≡ length s.cells
-left_by-length d s ByMemTrap fits = length-set s.cells 0 (packed_trap (shape_of d) s.psw 1)
-left_by-length d s ByTrap fits = length-set s.cells 0 (packed_trap (shape_of d) s.psw 2)
-left_by-length d s ByNoPattern fits = length-set s.cells 0 (packed_trap (shape_of d) s.psw 3)
-left_by-length d s (Done after) fits = put_back-length s after.window (fits.same_length ∙ window-length s)
-
-pub step-length : (d : Desc) (s : State) → IsValid d → IsState d s → length (step d s).cells ≡ length s.cells
-unfolding step
-step-length d s v h = left_by-length d s (ending d (window s) s.psw) (ending-sound d (window s) s.psw v (window-words d s h) h.fields)
-
--- so a guest keeps its own
 pub guest-step_length : (d : Desc) (cells : List ℕ) (base size : ℕ) (psw : Psw) → IsValid d → base + size ≤ length cells → IsState d (guest_at cells base size psw) →
     length (step d (guest_at cells base size psw)).cells ≡ size
 guest-step_length d cells base size psw v within h = step-length d (guest_at cells base size psw) v h ∙ guest-length cells base size within

@@ -4,10 +4,10 @@ use Rattle.pg_word.specs.declared.psw.Psw.{Psw}
 use Rattle.pg_word.specs.Psw.{window_len_of}
 use Rattle.pg_ast.specs.declared.tree.Desc.{Desc}
 use Rattle.pg_type.specs.States.{IsState, window}
-use Rattle.pg_type.specs.Steps.{Ending, Done, ending, left_by, step}
+use Rattle.pg_type.specs.Steps.{Ending, Done, ending, left_by, step, ends_in_trap}
 use Rattle.pg_type.specs.Typed.{AreWords}
 use Rattle.pg_type.proofs.StepSound.{window-words}
-use Rattle.pg_hw.specs.Bursts.{is_trap, traps}
+use Rattle.pg_hw.specs.Bursts.{traps}
 use Rattle.pg_interp.specs.declared.effect.Write.{Write}
 use Rattle.pg_interp.specs.declared.effect.Effect.{Effect}
 use Rattle.pg_interp.specs.declared.effect.Outcome.{Outcome}
@@ -43,10 +43,10 @@ step-of d cells base size psw from len o e within from_is len_is h is =
 pub traps-of : (d : Desc) (cells : List ℕ) (base size : ℕ) (psw : Psw) (from len : ℕ) (o : Outcome) (e : Ending) →
     base + size ≤ length cells → from ≡ base + min psw.l size → len ≡ window_len_of psw size →
     IsOutcome d.word (take len (drop from cells)) (ending d (take len (drop from cells)) psw) o → ending_as (take len (drop from cells)) o ≡ e →
-    is_trap e ≡ traps d (guest_at cells base size psw)
+    ends_in_trap e ≡ traps d (guest_at cells base size psw)
 unfolding traps
 traps-of d cells base size psw from len o e within from_is len_is h is =
-    ap is_trap (sym is ∙ h.ends ∙ ap (λ w. ending d w psw) (seen-window cells base size psw from len within from_is len_is))
+    ap ends_in_trap (sym is ∙ h.ends ∙ ap (λ w. ending d w psw) (seen-window cells base size psw from len within from_is len_is))
 
 -- the storage after the stores of an instruction that is done
 pub step-done : (d : Desc) (cells : List ℕ) (base size : ℕ) (psw : Psw) (from len : ℕ) (o : Outcome) (effect : Effect) (ws : List Write) →

@@ -1,13 +1,13 @@
 -- Runs of a bare machine: how many cells they leave, what they count, and the text of the state that they reach.
 use Rattle.std.proofs.Common.{◌≡◌, ℕ, zero, suc, ◌-◌, ◌≤◌, Bool, true, false, List, length, take, drop, replicate, refl, ◌∙◌, ap, subst, arith}
-use Rattle.std.proofs.lemmas.List.{length-append, length-replicate, length-set, take_all}
+use Rattle.std.proofs.lemmas.List.{length-append, length-replicate, take_all}
 use Rattle.pg_word.specs.declared.psw.Psw.{Psw}
 use Rattle.pg_word.specs.declared.shape.Shape.{Shape}
 use Rattle.pg_ast.specs.declared.tree.Desc.{Desc}
-use Rattle.pg_type.specs.States.{State, IsState, shape_of, window}
-use Rattle.pg_type.specs.Steps.{Ending, ByMemTrap, ByTrap, ByNoPattern, Done, ending, left_by, step, steps, power_on, bare}
+use Rattle.pg_type.specs.States.{State, IsState, shape_of}
+use Rattle.pg_type.specs.Steps.{steps, power_on, bare}
 use Rattle.pg_type.specs.Valid.{IsValid}
-use Rattle.pg_type.proofs.StepSound.{AfterFits, OnDone, ending-sound, window-length, window-words, put_back-length, steps-state, power_on-state}
+use Rattle.pg_type.proofs.StepSound.{steps-state, steps-length, power_on-state}
 use Rattle.pg_hw.specs.declared.counts.Counts.{Counts}
 use Rattle.pg_hw.specs.Tallies.{Bottom, raised_by, after_load}
 use Rattle.pg_hw.specs.Bursts.{one_if, untrapped_among, untrapped_at, BottomRises}
@@ -20,22 +20,6 @@ use Rattle.pg_tool.specs.Performs.{CanCount}
 use Rattle.pg_tool.specs.Leaves.{Machinery, RanBare}
 
 -- ---- cells
-
-left_by-length : (d : Desc) (s : State) (e : Ending) → OnDone e (AfterFits d (length (window s))) → length (left_by d s e).cells ≡ length s.cells
-left_by-length d s ByMemTrap fits = length-set s.cells 0 _
-left_by-length d s ByTrap fits = length-set s.cells 0 _
-left_by-length d s ByNoPattern fits = length-set s.cells 0 _
-left_by-length d s (Done after) fits = put_back-length s after.window (fits.same_length ∙ window-length s)
-
--- a step leaves as many cells
-step-length : (d : Desc) (s : State) → IsValid d → IsState d s → length (step d s).cells ≡ length s.cells
-unfolding step
-step-length d s v h = left_by-length d s (ending d (window s) s.psw) (ending-sound d (window s) s.psw v (window-words d s h) h.fields)
-
-steps-length : (d : Desc) (n : ℕ) (s : State) → IsValid d → IsState d s → length (steps d n s).cells ≡ length s.cells
-unfolding steps
-steps-length d zero s v h = refl
-steps-length d (suc n) s v h = step-length d (steps d n s) v (steps-state d n s v h) ∙ steps-length d n s v h
 
 power_on-length : (image : List ℕ) (g : ℕ) → length image ≤ g → length (power_on image g).cells ≡ g
 unfolding power_on

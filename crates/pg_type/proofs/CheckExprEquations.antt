@@ -1,16 +1,14 @@
 -- The equations of what is tested of expressions, one for each form.
-use Rattle.std.proofs.Common.{◌≡◌, ℕ, ◌+◌, ◌==◌, ◌||◌, nat_le, if◌then◌else◌, List, Option, None, Some, ap, sym, ◌∙◌}
+use Rattle.std.proofs.Common.{◌≡◌, ℕ, ◌||◌, if◌then◌else◌, List, Option, None, Some, ap, sym, ◌∙◌}
 use Rattle.pg_ast.specs.declared.name.Name.{Name as Names}
 use Rattle.pg_ast.specs.declared.tree.Op.{Op}
 use Rattle.pg_ast.specs.declared.tree.Expr.{Expr}
 use Rattle.pg_ast.specs.declared.tree.Expr.TheVariants.{Lit, Name, Pc, Mode, Rel, Bound, Load, Not, Bin, Cat, Cut, Ext, Sext, Sel, rolls-Lit, rolls-Name, rolls-Pc, rolls-Mode, rolls-Rel, rolls-Bound, rolls-Load, rolls-Not, rolls-Bin, rolls-Cat, rolls-Cut, rolls-Ext, rolls-Sext, rolls-Sel}
 use Rattle.pg_ast.specs.declared.tree.Expr.TheOpen as Open
 use Rattle.pg_ast.specs.declared.tree.Expr.TheFolds.{fold-roll-Expr}
-use Rattle.pg_type.specs.Patterns.{field_of}
 use Rattle.pg_type.specs.Limits.{Tally, both, one_access, one_expression, expr_tally_step, expr_tally}
 use Rattle.pg_type.specs.Twice.{is_among, is_field, first_of_two}
 use Rattle.pg_type.specs.Scopes.{Scope, unknown_step, unknown_name}
-use Rattle.pg_type.specs.Widths.{Setting, LetWidths, Width, field_or_let_width, where_holds, with_width, literal_width, op_width, cut_width, widened_width, choice_width, width_step, width_of}
 
 pub expr_tally-lit : (v n : ℕ) → expr_tally (Lit v n) ≡ one_expression
 unfolding expr_tally
@@ -155,75 +153,3 @@ unknown_name-sel pattern c x y scope =
     ap (λ f. f scope) (ap (unknown_name pattern) (sym (rolls-Sel c x y)) ∙ fold-roll-Expr (Scope → Option (List ℕ)) (λ e. unknown_step e pattern) (Open.Sel c x y))
 
 pub ruleset unknown_name_rules = (unknown_name-lit, unknown_name-name, unknown_name-pc, unknown_name-mode, unknown_name-rel, unknown_name-bound, unknown_name-load, unknown_name-not, unknown_name-bin, unknown_name-cat, unknown_name-cut, unknown_name-ext, unknown_name-sext, unknown_name-sel)
-
-pub width_of-lit : (at : Setting) (v n : ℕ) (lets : LetWidths) → width_of at (Lit v n) lets ≡ literal_width v n
-unfolding width_of
-width_of-lit at v n lets =
-    ap (λ f. f lets) (ap (width_of at) (sym (rolls-Lit v n)) ∙ fold-roll-Expr Width (width_step at) (Open.Lit v n))
-
-pub width_of-name : (at : Setting) (n : Names) (lets : LetWidths) → width_of at (Name n) lets ≡ field_or_let_width (field_of at.pattern n.bytes) lets n.bytes
-unfolding width_of
-width_of-name at n lets =
-    ap (λ f. f lets) (ap (width_of at) (sym (rolls-Name n)) ∙ fold-roll-Expr Width (width_step at) (Open.Name n))
-
-pub width_of-pc : (at : Setting) (lets : LetWidths) → width_of at Pc lets ≡ Some at.a
-unfolding width_of
-width_of-pc at lets =
-    ap (λ f. f lets) (ap (width_of at) (sym rolls-Pc) ∙ fold-roll-Expr Width (width_step at) Open.Pc)
-
-pub width_of-mode : (at : Setting) (lets : LetWidths) → width_of at Mode lets ≡ Some 1
-unfolding width_of
-width_of-mode at lets =
-    ap (λ f. f lets) (ap (width_of at) (sym rolls-Mode) ∙ fold-roll-Expr Width (width_step at) Open.Mode)
-
-pub width_of-rel : (at : Setting) (lets : LetWidths) → width_of at Rel lets ≡ Some at.a
-unfolding width_of
-width_of-rel at lets =
-    ap (λ f. f lets) (ap (width_of at) (sym rolls-Rel) ∙ fold-roll-Expr Width (width_step at) Open.Rel)
-
-pub width_of-bound : (at : Setting) (lets : LetWidths) → width_of at Bound lets ≡ Some at.a
-unfolding width_of
-width_of-bound at lets =
-    ap (λ f. f lets) (ap (width_of at) (sym rolls-Bound) ∙ fold-roll-Expr Width (width_step at) Open.Bound)
-
-pub width_of-load : (at : Setting) (e : Expr) (lets : LetWidths) → width_of at (Load e) lets ≡ with_width (width_of at e lets) (λ n. where_holds (n == at.a) at.w)
-unfolding width_of
-width_of-load at e lets =
-    ap (λ f. f lets) (ap (width_of at) (sym (rolls-Load e)) ∙ fold-roll-Expr Width (width_step at) (Open.Load e))
-
-pub width_of-not : (at : Setting) (e : Expr) (lets : LetWidths) → width_of at (Not e) lets ≡ width_of at e lets
-unfolding width_of
-width_of-not at e lets =
-    ap (λ f. f lets) (ap (width_of at) (sym (rolls-Not e)) ∙ fold-roll-Expr Width (width_step at) (Open.Not e))
-
-pub width_of-bin : (at : Setting) (op : Op) (x y : Expr) (lets : LetWidths) → width_of at (Bin op x y) lets ≡ with_width (width_of at x lets) (λ m. with_width (width_of at y lets) (λ n. op_width op m n))
-unfolding width_of
-width_of-bin at op x y lets =
-    ap (λ f. f lets) (ap (width_of at) (sym (rolls-Bin op x y)) ∙ fold-roll-Expr Width (width_step at) (Open.Bin op x y))
-
-pub width_of-cat : (at : Setting) (x y : Expr) (lets : LetWidths) → width_of at (Cat x y) lets ≡ with_width (width_of at x lets) (λ m. with_width (width_of at y lets) (λ n. where_holds (nat_le (m + n) 64) (m + n)))
-unfolding width_of
-width_of-cat at x y lets =
-    ap (λ f. f lets) (ap (width_of at) (sym (rolls-Cat x y)) ∙ fold-roll-Expr Width (width_step at) (Open.Cat x y))
-
-pub width_of-cut : (at : Setting) (e : Expr) (h k : ℕ) (lets : LetWidths) → width_of at (Cut e h k) lets ≡ with_width (width_of at e lets) (λ n. cut_width n h k)
-unfolding width_of
-width_of-cut at e h k lets =
-    ap (λ f. f lets) (ap (width_of at) (sym (rolls-Cut e h k)) ∙ fold-roll-Expr Width (width_step at) (Open.Cut e h k))
-
-pub width_of-ext : (at : Setting) (e : Expr) (n : ℕ) (lets : LetWidths) → width_of at (Ext e n) lets ≡ with_width (width_of at e lets) (λ m. widened_width m n)
-unfolding width_of
-width_of-ext at e n lets =
-    ap (λ f. f lets) (ap (width_of at) (sym (rolls-Ext e n)) ∙ fold-roll-Expr Width (width_step at) (Open.Ext e n))
-
-pub width_of-sext : (at : Setting) (e : Expr) (n : ℕ) (lets : LetWidths) → width_of at (Sext e n) lets ≡ with_width (width_of at e lets) (λ m. widened_width m n)
-unfolding width_of
-width_of-sext at e n lets =
-    ap (λ f. f lets) (ap (width_of at) (sym (rolls-Sext e n)) ∙ fold-roll-Expr Width (width_step at) (Open.Sext e n))
-
-pub width_of-sel : (at : Setting) (c x y : Expr) (lets : LetWidths) → width_of at (Sel c x y) lets ≡ with_width (width_of at c lets) (λ k. with_width (width_of at x lets) (λ m. with_width (width_of at y lets) (λ n. choice_width k m n)))
-unfolding width_of
-width_of-sel at c x y lets =
-    ap (λ f. f lets) (ap (width_of at) (sym (rolls-Sel c x y)) ∙ fold-roll-Expr Width (width_step at) (Open.Sel c x y))
-
-pub ruleset width_of_rules = (width_of-lit, width_of-name, width_of-pc, width_of-mode, width_of-rel, width_of-bound, width_of-load, width_of-not, width_of-bin, width_of-cat, width_of-cut, width_of-ext, width_of-sext, width_of-sel)

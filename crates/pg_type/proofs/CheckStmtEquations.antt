@@ -1,5 +1,5 @@
 -- The equations of what is tested of statements, one for each form.
-use Rattle.std.proofs.Common.{◌≡◌, ℕ, ◌+◌, ◌++◌, List, [], ◌∷◌, map, Option, None, Some, ap, sym, ◌∙◌}
+use Rattle.std.proofs.Common.{◌≡◌, ℕ, ◌++◌, List, [], ◌∷◌, map, Option, None, Some, ap, sym, ◌∙◌}
 use Rattle.std.specs.Option.{option_map}
 use Rattle.pg_ast.specs.declared.name.Name.{Name as Names}
 use Rattle.pg_ast.specs.declared.tree.Expr.{Expr}
@@ -10,7 +10,6 @@ use Rattle.pg_ast.specs.declared.tree.Stmt.TheFolds.{fold-roll-Stmt}
 use Rattle.pg_type.specs.Limits.{Tally, both, all_of, if_any, one_access, one_statement, one_let, expr_tally, stmt_tally_step, stmt_tally}
 use Rattle.pg_type.specs.Twice.{all_names, names_if_any, let_names_step, let_names, first_of_two}
 use Rattle.pg_type.specs.Scopes.{Scope, Sight, sight, seen_in_order, seen_if_any, sight_step, sight_of, unknown_name}
-use Rattle.pg_type.specs.Widths.{Setting, LetWidths, Keeps, Faring, binds, wants, then_fares, after_block, fares_in_order, fares_if_any, fare_step, fare_of, width_of}
 
 pub stmt_tally-let : (n : Names) (e : Expr) → stmt_tally (Let n e) ≡ both one_statement (both one_let (expr_tally e))
 unfolding stmt_tally
@@ -161,53 +160,3 @@ pub sight_of-if_some : (pattern : List ℕ) (c : Expr) (held stmts : List Stmt) 
 sight_of-if_some pattern c held stmts scope = sight_of-if pattern c held (Some stmts) scope
 
 pub ruleset sight_of_rules = (sight_of-let, sight_of-store, sight_of-pc, sight_of-mode, sight_of-rel, sight_of-bound, sight_of-trap, sight_of-if_none, sight_of-if_some)
-
-pub fare_of-let : (at : Setting) (n : Names) (e : Expr) (place : ℕ) (lets : LetWidths) → fare_of at (Let n e) place lets ≡ binds n.bytes (width_of at e lets) place lets
-unfolding fare_of
-fare_of-let at n e place lets =
-    ap (λ f. f place lets) (ap (fare_of at) (sym (rolls-Let n e)) ∙ fold-roll-Stmt Faring (fare_step at) (Open.Let n e))
-
-pub fare_of-store : (at : Setting) (a e : Expr) (place : ℕ) (lets : LetWidths) → fare_of at (Store a e) place lets ≡ then_fares (wants at.a (width_of at a lets) place lets) (λ next same. wants at.w (width_of at e lets) place lets)
-unfolding fare_of
-fare_of-store at a e place lets =
-    ap (λ f. f place lets) (ap (fare_of at) (sym (rolls-Store a e)) ∙ fold-roll-Stmt Faring (fare_step at) (Open.Store a e))
-
-pub fare_of-pc : (at : Setting) (e : Expr) (place : ℕ) (lets : LetWidths) → fare_of at (Pc e) place lets ≡ wants at.a (width_of at e lets) place lets
-unfolding fare_of
-fare_of-pc at e place lets =
-    ap (λ f. f place lets) (ap (fare_of at) (sym (rolls-Pc e)) ∙ fold-roll-Stmt Faring (fare_step at) (Open.Pc e))
-
-pub fare_of-mode : (at : Setting) (e : Expr) (place : ℕ) (lets : LetWidths) → fare_of at (Mode e) place lets ≡ wants 1 (width_of at e lets) place lets
-unfolding fare_of
-fare_of-mode at e place lets =
-    ap (λ f. f place lets) (ap (fare_of at) (sym (rolls-Mode e)) ∙ fold-roll-Stmt Faring (fare_step at) (Open.Mode e))
-
-pub fare_of-rel : (at : Setting) (e : Expr) (place : ℕ) (lets : LetWidths) → fare_of at (Rel e) place lets ≡ wants at.a (width_of at e lets) place lets
-unfolding fare_of
-fare_of-rel at e place lets =
-    ap (λ f. f place lets) (ap (fare_of at) (sym (rolls-Rel e)) ∙ fold-roll-Stmt Faring (fare_step at) (Open.Rel e))
-
-pub fare_of-bound : (at : Setting) (e : Expr) (place : ℕ) (lets : LetWidths) → fare_of at (Bound e) place lets ≡ wants at.a (width_of at e lets) place lets
-unfolding fare_of
-fare_of-bound at e place lets =
-    ap (λ f. f place lets) (ap (fare_of at) (sym (rolls-Bound e)) ∙ fold-roll-Stmt Faring (fare_step at) (Open.Bound e))
-
-pub fare_of-trap : (at : Setting) (place : ℕ) (lets : LetWidths) → fare_of at Trap place lets ≡ Keeps (place + 1) lets
-unfolding fare_of
-fare_of-trap at place lets =
-    ap (λ f. f place lets) (ap (fare_of at) (sym rolls-Trap) ∙ fold-roll-Stmt Faring (fare_step at) Open.Trap)
-
-pub fare_of-if : (at : Setting) (c : Expr) (held : List Stmt) (other : Option (List Stmt)) (place : ℕ) (lets : LetWidths) → fare_of at (If c held other) place lets ≡ then_fares (wants 1 (width_of at c lets) place lets) (λ next same. then_fares (after_block lets (fares_in_order (map (fare_of at) held) next lets)) (λ later inner. after_block lets (fares_if_any (option_map (map (fare_of at)) other) later lets)))
-unfolding fare_of
-fare_of-if at c held None place lets =
-    ap (λ f. f place lets) (ap (fare_of at) (sym (rolls-If c held None)) ∙ fold-roll-Stmt Faring (fare_step at) (Open.If c held None))
-fare_of-if at c held (Some stmts) place lets =
-    ap (λ f. f place lets) (ap (fare_of at) (sym (rolls-If c held (Some stmts))) ∙ fold-roll-Stmt Faring (fare_step at) (Open.If c held (Some stmts)))
-
-pub fare_of-if_none : (at : Setting) (c : Expr) (held : List Stmt) (place : ℕ) (lets : LetWidths) → fare_of at (If c held None) place lets ≡ then_fares (wants 1 (width_of at c lets) place lets) (λ next same. then_fares (after_block lets (fares_in_order (map (fare_of at) held) next lets)) (λ later inner. after_block lets (fares_if_any (None) later lets)))
-fare_of-if_none at c held place lets = fare_of-if at c held None place lets
-
-pub fare_of-if_some : (at : Setting) (c : Expr) (held stmts : List Stmt) (place : ℕ) (lets : LetWidths) → fare_of at (If c held (Some stmts)) place lets ≡ then_fares (wants 1 (width_of at c lets) place lets) (λ next same. then_fares (after_block lets (fares_in_order (map (fare_of at) held) next lets)) (λ later inner. after_block lets (fares_if_any ((Some (map (fare_of at) stmts))) later lets)))
-fare_of-if_some at c held stmts place lets = fare_of-if at c held (Some stmts) place lets
-
-pub ruleset fare_of_rules = (fare_of-let, fare_of-store, fare_of-pc, fare_of-mode, fare_of-rel, fare_of-bound, fare_of-trap, fare_of-if_none, fare_of-if_some)

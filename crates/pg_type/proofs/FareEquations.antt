@@ -45,4 +45,16 @@ unfolding fare_of
 fare_of-if c held None at place lets = ap (λ f. f place lets) (ap (fare_of at) (sym (rolls-If c held None)) ∙ fold-roll-Stmt Faring (fare_step at) (Open.If c held None))
 fare_of-if c held (Some stmts) at place lets = ap (λ f. f place lets) (ap (fare_of at) (sym (rolls-If c held (Some stmts))) ∙ fold-roll-Stmt Faring (fare_step at) (Open.If c held (Some stmts)))
 
-pub ruleset fare_rules = (fare_of-let, fare_of-store, fare_of-pc, fare_of-mode, fare_of-rel, fare_of-bound, fare_of-trap, fare_of-if)
+pub fare_of-if_none : (c : Expr) (held : List Stmt) (at : Setting) (place : ℕ) (lets : LetWidths) → fare_of at (If c held None) place lets
+    ≡ then_fares (wants 1 (width_of at c lets) place lets) (λ next same.
+    then_fares (after_block lets (fares_in_order (map (fare_of at) held) next lets)) (λ later inner.
+    after_block lets (fares_if_any None later lets)))
+fare_of-if_none c held at place lets = fare_of-if c held None at place lets
+
+pub fare_of-if_some : (c : Expr) (held stmts : List Stmt) (at : Setting) (place : ℕ) (lets : LetWidths) → fare_of at (If c held (Some stmts)) place lets
+    ≡ then_fares (wants 1 (width_of at c lets) place lets) (λ next same.
+    then_fares (after_block lets (fares_in_order (map (fare_of at) held) next lets)) (λ later inner.
+    after_block lets (fares_if_any (Some (map (fare_of at) stmts)) later lets)))
+fare_of-if_some c held stmts at place lets = fare_of-if c held (Some stmts) at place lets
+
+pub ruleset fare_rules = (fare_of-let, fare_of-store, fare_of-pc, fare_of-mode, fare_of-rel, fare_of-bound, fare_of-trap, fare_of-if_none, fare_of-if_some)

@@ -1,11 +1,11 @@
 -- States that look alike to a program, and what is done alike at them.
-use Rattle.std.specs.Prelude.{◌≡◌, ℕ, ◌+◌, ◌≤◌, Bool, true, false, List, length}
+use Rattle.std.specs.Prelude.{◌≡◌, ℕ, ◌+◌, ◌≤◌, List, length}
 use Rattle.pg_word.specs.declared.psw.Psw.{Psw}
 use Rattle.pg_ast.specs.declared.tree.Instr.{Instr}
 use Rattle.pg_ast.specs.declared.tree.Desc.{Desc}
 use Rattle.pg_type.specs.Bodies.{After}
 use Rattle.pg_type.specs.States.{State, window}
-use Rattle.pg_type.specs.Steps.{Ending, ByMemTrap, ByTrap, ByNoPattern, Done, ending}
+use Rattle.pg_type.specs.Steps.{Done, ending}
 use Rattle.pg_type.specs.Kinds.{course_at, observation, ChangesControl}
 
 -- two states of equal windows and equal P; sizes, modes, and where the windows lie and end may differ
@@ -18,13 +18,6 @@ pub record DoneAlike (d : Desc) (i : Instr) (s t : State) : Type 0 where
   pub same_observed : observation d i t ≡ observation d i s
   pub kept_at_first : ¬ ChangesControl s.psw (course_at d i s)
   pub kept_at_second : ¬ ChangesControl t.psw (course_at d i t)
-
--- whether a step ends with a trap, of any cause
-abbrev pub ends_in_trap : Ending → Bool
-ends_in_trap ByMemTrap = true
-ends_in_trap ByTrap = true
-ends_in_trap ByNoPattern = true
-ends_in_trap (Done after) = false
 
 -- a step that is done at the first of two states leaves its mode and R as they were;
 -- at the second it is done with the same window and the same P after it, and leaves that one's mode and R as they were

@@ -16,10 +16,10 @@ ghost use Rattle.pg_ast.specs.declared.tree.Instr.{Instr};
 ghost use Rattle.pg_ast.specs.declared.tree.Desc.{Desc};
 ghost use Rattle.pg_type.specs.Bodies.{After};
 ghost use Rattle.pg_type.specs.States.{State, IsState, window};
-ghost use Rattle.pg_type.specs.Steps.{Done, ending, step};
+ghost use Rattle.pg_type.specs.Steps.{Done, ending, step, ends_in_trap};
 ghost use Rattle.pg_type.specs.Kinds.{IsAt, IsDone, course_at};
 ghost use Rattle.pg_type.specs.Accepting.{IsAccepted, IsInnocuous, IsPrivileged};
-ghost use Rattle.pg_type.specs.Alike.{LookAlike, DoneAlike, Places, StepsAlike, ends_in_trap};
+ghost use Rattle.pg_type.specs.Alike.{LookAlike, DoneAlike, Places, StepsAlike};
 ghost use Rattle.pg_type.specs.Valid.{IsValid};
 
 /// An instruction that is done at a user state is done alike at every state that looks alike: one that is privileged or not

@@ -156,7 +156,7 @@ fn choice_width(test: Option<u64>, left: Option<u64>, right: Option<u64>) -> Opt
 
 /// The width of an expression of an instruction, where lets are visible; `None` where it, or a part, breaks the table of
 /// widths.
-#[tactic(auto, using(crate::proofs::CheckExprEquations::width_of_rules))]
+#[tactic(auto, using(crate::proofs::WidthEquations::width_rules))]
 fn width_of(desc: &Desc, instr: &Instr, expr: &Expr, lets: &LetWidths<'_>) -> Option<u64>
     ensures { result ≡ width_of (setting_of desc.now instr.now) expr.now lets.now }
 {
@@ -270,7 +270,7 @@ fn store_fare(
 
 /// How a statement at a place fares. A let is visible after it. The error is want of memory.
 #[cycle(fare)]
-#[tactic(auto, using(crate::proofs::CheckStmtEquations::fare_of_rules, crate::proofs::GrowLemmas::grow_rules))]
+#[tactic(auto, using(crate::proofs::FareEquations::fare_rules, crate::proofs::GrowLemmas::grow_rules))]
 fn fare_of<'m>(
     desc: &Desc,
     instr: &Instr,
@@ -298,13 +298,8 @@ fn fare_of<'m>(
             place,
         ),
         Stmt::Mode(e) => wants(1, width_of(desc, instr, e, lets), place),
-        Stmt::Trap => match next_place(place) {
-            Err(error) => Err(error),
-            Ok(next) => Ok(Fare::Keeps(next)),
-        },
+        Stmt::Trap => next_place(place).map(Fare::Keeps),
         Stmt::If(c, held, other) => match wants(1, width_of(desc, instr, c, lets), place) {
-            Err(error) => Err(error),
-            Ok(Fare::Breaks(at)) => Ok(Fare::Breaks(at)),
             Ok(Fare::Keeps(next)) => match fares_in_block(
                 desc,
                 instr,
@@ -312,13 +307,13 @@ fn fare_of<'m>(
                 next,
                 lets,
             ) {
-                Err(error) => Err(error),
-                Ok(Fare::Breaks(at)) => Ok(Fare::Breaks(at)),
                 Ok(Fare::Keeps(later)) => match other {
                     None => Ok(Fare::Keeps(later)),
                     Some(stmts) => fares_in_block(desc, instr, stmts.as_slice(), later, lets),
                 },
+                broken => broken,
             },
+            broken => broken,
         },
     }
 }
