@@ -1,0 +1,150 @@
+"""Runs a case by the program and by the model, and keeps what differs."""
+
+import os
+import shlex
+import shutil
+import subprocess
+import traceback
+from collections import Counter
+from collections.abc import Iterable, Iterator, Mapping
+from dataclasses import dataclass, field
+from pathlib import Path
+from typing import NamedTuple
+
+from inputs.case import Case
+from pgvmodel.command import DESCRIPTION, IMAGE, answer
+
+SECONDS = 120
+"""A run of the program that takes longer is stopped, and differs."""
+
+MOST_KEPT = 20
+"""Differences of a round that are kept; further ones are counted only."""
+
+
+class Outcome(NamedTuple):
+    """How a run ended: its status, standard output and standard error.
+
+    The status is None where the program was stopped, and where the model failed; then the errors have its traceback.
+    """
+
+    status: int | None
+    output: bytes
+    errors: bytes
+
+    def told(self) -> str:
+        """The outcome in a line."""
+        more = f", errors {_shortened(self.errors)}" if self.errors else ""
+        return f"status {self.status}, {_shortened(self.output)}{more}"
+
+    def label(self) -> str:
+        """The status, and of a refused file the class of its fault."""
+        words = self.output.partition(b": ")[2].split()
+        return f"{self.status} {words[0].decode()}" if self.status in (DESCRIPTION, IMAGE) and words else str(self.status)
+
+
+def _shortened(text: bytes) -> str:
+    """A text's begin, or the end of a traceback."""
+    if text.startswith(b"Traceback"):
+        text = text.rstrip().rpartition(b"\n")[2]
+    return repr(text[:120])[1:] + ("..." if len(text) > 120 else "")
+
+
+class Difference(NamedTuple):
+    """Two outcomes of one case, and the folder that keeps it."""
+
+    folder: Path
+    program: Outcome
+    model: Outcome
+
+
+@dataclass
+class Tally:
+    """What a round came to."""
+
+    runs: int = 0
+    differences: int = 0
+    seen: Counter[str] = field(default_factory=Counter)
+    kept: list[Difference] = field(default_factory=list)
+
+
+class Comparison:
+    """Compares the program with the model, in a folder of its own."""
+
+    def __init__(self, program: Path, folder: Path) -> None:
+        self.program = program
+        self.folder = folder
+        self.files = folder / "files"
+        self.placed: Mapping[str, bytes] | None = None
+
+    def round(self, name: str, cases: Iterable[Case]) -> Tally:
+        """Runs all cases of a round."""
+        tally = Tally()
+        for case in cases:
+            self.place(case.files)
+            model, program = self.by_model(case), self.by_program(case)
+            tally.runs += 1
+            tally.seen[model.label()] += 1
+            if model != program:
+                tally.differences += 1
+                if len(tally.kept) < MOST_KEPT:
+                    folder = self.folder / f"{name}-{tally.runs}"
+                    tally.kept.append(self.keep(folder, case, program, model))
+        return tally
+
+    def place(self, files: Mapping[str, bytes]) -> None:
+        """Makes these the only files where the program runs."""
+        if files is self.placed:
+            return
+        shutil.rmtree(self.files, ignore_errors=True)
+        self.files.mkdir()
+        for name, content in files.items():
+            path = self.files / name
+            path.mkdir() if name.endswith("/") else path.write_bytes(content)
+        self.placed = files
+
+    def load(self, name: str) -> bytes:
+        """The file of a name, as the program finds it; the empty name is that of none."""
+        if not name:
+            raise FileNotFoundError
+        with open(os.path.join(self.files, name), "rb") as file:
+            return file.read()
+
+    def by_model(self, case: Case) -> Outcome:
+        try:
+            return Outcome(*answer(case.words, self.load), b"")
+        except Exception:  # a fault of the model is a difference too, and its input is wanted
+            return Outcome(None, b"", traceback.format_exc().encode())
+
+    def by_program(self, case: Case) -> Outcome:
+        try:
+            ended = subprocess.run(
+                [self.program, *case.words],
+                cwd=self.files,
+                stdin=subprocess.DEVNULL,
+                capture_output=True,
+                timeout=SECONDS,
+                check=False,
+            )
+        except subprocess.TimeoutExpired:
+            return Outcome(None, b"", b"")
+        return Outcome(ended.returncode, ended.stdout, ended.stderr)
+
+    def keep(self, folder: Path, case: Case, program: Outcome, model: Outcome) -> Difference:
+        """Keeps the files, the words, and what either wrote."""
+        folder.mkdir()
+        shutil.copytree(self.files, folder / "files")
+        (folder / "words").write_bytes(os.fsencode(shlex.join(case.words) + "\n"))
+        for side, outcome in (("program", program), ("model", model)):
+            (folder / f"{side}.out").write_bytes(outcome.output)
+            (folder / f"{side}.err").write_bytes(outcome.errors)
+        return Difference(folder, program, model)
+
+
+def report(name: str, tally: Tally) -> Iterator[str]:
+    """A line for a round, and some for each difference that was kept."""
+    seen = ", ".join(f"{label}: {count}" for label, count in sorted(tally.seen.items()))
+    yield f"{name:18} {tally.runs:6} runs {tally.differences:4} differences  {seen}"
+    for difference in tally.kept:
+        yield f"  {difference.folder}"
+        yield f"    program: {difference.program.told()}"
+        yield f"    model:   {difference.model.told()}"

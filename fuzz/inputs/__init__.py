@@ -1,0 +1,1 @@
+"""Inputs on which the program and its model are compared; all are made from a random generator that is handed in."""

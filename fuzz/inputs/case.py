@@ -1,0 +1,32 @@
+"""A command line and the files that it may name."""
+
+from collections.abc import Mapping
+from typing import NamedTuple
+
+from pgvmodel import tree
+from pgvmodel.printer import printed
+
+DESCRIPTION_FILE = "machine.isa"
+IMAGE_FILE = "storage.img"
+
+
+class Case(NamedTuple):
+    """The words behind the program's name, and files by name; a name that ends with `/` is that of an empty folder."""
+
+    words: tuple[str, ...]
+    files: Mapping[str, bytes]
+
+
+def printing(description: bytes | tree.Description) -> Case:
+    """`print` of a description."""
+    return Case(("print", DESCRIPTION_FILE), {DESCRIPTION_FILE: _text(description)})
+
+
+def running(command: str, description: bytes | tree.Description, image: bytes, grant: int, steps: int) -> Case:
+    """`bare` or `run` of a description and an image."""
+    words = (command, DESCRIPTION_FILE, IMAGE_FILE, "--grant", str(grant), "--steps", str(steps))
+    return Case(words, {DESCRIPTION_FILE: _text(description), IMAGE_FILE: image})
+
+
+def _text(description: bytes | tree.Description) -> bytes:
+    return description if isinstance(description, bytes) else printed(description)

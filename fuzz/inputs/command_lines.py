@@ -1,0 +1,148 @@
+"""Command lines over a few small files: shapes of lines, spellings of numbers, orders of refusals, random words."""
+
+from collections.abc import Iterator
+from itertools import product
+from random import Random
+
+from inputs.case import Case
+from pgvmodel.tokens import NUMBERS
+
+SMALL = b"""machine { word 32; address 8; size 64; }
+instr add "00000001_xxxxxxxx_yyyyyyyy_zzzzzzzz" { mem[x] = (mem[y] + mem[z]); }
+instr jmp "00000010_................_aaaaaaaa" { pc = a; }
+instr svc "00000011_........................" { trap; }
+instr lr  "00000100_........_llllllll_bbbbbbbb" { if mode { trap; } rel = l; bound = b; }
+"""
+OPEN = SMALL + b'instr sm "00000110_................_aaaaaaaa" { pc = rel; }'
+
+FILES = {
+    "d": SMALL,
+    "i": b"1: 00000705\n7: 01000000\n",
+    "bad": b"machine {",
+    "badi": b"2: 00\n",
+    "empty": b"",
+    "open": OPEN,
+    "shape": b"machine { word 16; address 6; size 8; }",
+    "over": b"70: 00000001",
+    "twoi": b"2: 00000001\n2: 00000001\n",
+    "dir/": b"",
+    **dict.fromkeys(("8", "bare", "print", "help", "-", "-x", "--", "a b"), SMALL),
+}
+"""Files that lines name; `none`, `x` and `c` are not there."""
+
+GRANT, STEPS = ["--grant", "8"], ["--steps", "2"]
+BOTH = GRANT + STEPS
+
+NUMBER_SPELLINGS = (
+    "0", "1", "2", "3", "8", "62", "63", "64", "65", "08", "0000000000000000000000000000000008", "+8", "+08", "++8",
+    "+-8", "-8", "-0", "+0", "", " ", " 8", "8 ", "8.0", "8e0", "0x8", "1_0", "1,000", "a", "-", "--", "+", "1000000",
+    "1000001", "01000000", "1048575", "1048576", "65535", "65536", "4294967295", "4294967296", "4294967304",
+    str(NUMBERS - 1), str(NUMBERS), str(NUMBERS + 8), "9223372036854775807", "9223372036854775808", "9" * 32,
+    "-9223372036854775808", "\u0668", "\uff18", "8\n", "\t8", "8=", "=8", "8 0", "\u221e", "NaN", "true",
+)
+TOO_LONG_TO_MODEL = ("1000000", "01000000", "65535", "65536")
+"""Counts of steps that are taken, and that the model takes long for."""
+
+PRINT_FILES = (
+    "d", "bad", "empty", "shape", "none", "dir", "a b", "./d", "d/", "d/x", "none/x", "n" * 300, "n" * 5000, "", "-", "8",
+    "print", "bare", "d\u00e9", "/dev/null",
+)
+
+NO_UTF_8 = "\udcff"
+"""A byte that is no UTF-8, as Python has it in a word."""
+
+SHORT_LINES = (
+    "", "help", "--help", "-h", "-V", "--version", "bare", "run", "print", "bare --help", "bare -h", "help bare", "bare help",
+    "print help", "print --help", "print -h", "print -V", "print d i", "print -- d", "print d --", "print -- --",
+    "print -- -x", "print -x", "print -- -", "print d --grant 8", "print d --steps=3", "print --grant=8 d", "Print d",
+    "PRINT d", "pri d", "b d", "bar d i --grant 8 --steps 0", "bares d i --grant 8 --steps 0", "check d", "-- print d",
+    "--grant 8 bare d i --steps 0", "print=d", "d", "- d",
+)
+
+RUN_LINES = (
+    "d i", "d G S", "G S", "d i G", "d i S", "d i x G S", "d i G G S", "d i G S S", "d i --grant 8 --grant=8 S", "d G i S",
+    "G d S i", "S G d i", "S d G i", "G S -- d i", "-- d i G S", "G -- S d i", "d -- i G S", "d G S -- i", "d i G S --",
+    "d i G S -- --", "d G S -- --", "-- -- i G S", "G S -- -- i", "G S -- -x i", "G S -x i", "G S - i", "G S i -",
+    "d i -grant 8 S", "d i --Grant 8 S", "d i --gran 8 S", "d i --grants 8 S", "d i -g 8 S", "d i -g8 S", "d i --grant:8 S",
+    "d i --grant =8 S", "d i --grant= 8 S", "d i --grant --steps 3 8", "d i --grant S", "d i S --grant", "d i S --grant=",
+    "d i --=8 G S", "d i -- --grant 8 S", "d i --- G S", "d i - G S", "help i G S", "bare i G S", "8 i G S", "d 8 G S",
+    "d i --help G S", "d i -h G S", "d i --slice 1 G S", "d i i G S", "d i --grant=8 --steps=2", "d i --grant=+8 --steps=+2",
+    "d i --grant +8 --steps +02", "--grant=8 d --steps=2 i", "--steps=2 d --grant=8 -- i", "d i --grant 8 9 S",
+    "d --grant 8 9 --steps 1", 'd i --grant="8" S', "d i --grant=8,9 S",
+)
+"""Lines behind `bare` and `run`; G and S stand for a whole option of each kind."""
+
+POOL = (
+    "bare", "run", "print", "d", "i", "none", "open", "--grant", "--steps", "8", "2", "--grant=8", "--steps=3", "--grant=+9",
+    "--steps=0", "--", "-", "", "--help", "-h", "x", "--grant=65", "+1", "63", "-1", "--slice=1", "help", "bad", "badi", "dir",
+)
+
+
+def _case(words: list[str]) -> Case:
+    return Case(tuple(words), FILES)
+
+
+def shapes() -> list[Case]:
+    """Lines with words missing, doubled, misspelt and in other orders."""
+    lines = [[], [""], ["", "print", "d"], *(line.split() for line in SHORT_LINES)]
+    lines += [["print", name] for name in PRINT_FILES]
+    for command in ("bare", "run"):
+        lines += [[command, *_filled(line)] for line in RUN_LINES]
+        lines += [[command, *files, *BOTH] for files in (["", ""], ["d", ""], ["", "i"], ["d", "/dev/null"])]
+        lines.append([command, "d", "i", f"--grant=8{NO_UTF_8}", *STEPS])
+        lines.append([command, "d", "i", f"--{NO_UTF_8}=8", *STEPS])
+    lines += [["print", f"d{NO_UTF_8}"], [NO_UTF_8, "d"], ["print", "--", NO_UTF_8]]
+    return [_case(line) for line in lines]
+
+
+def _filled(line: str) -> Iterator[str]:
+    """The words of one of RUN_LINES."""
+    for word in line.split():
+        yield from {"G": GRANT, "S": STEPS}.get(word, [word])
+
+
+def numbers() -> list[Case]:
+    """Each spelling as a grant and as a count of steps, as a word of its own and joined by `=`, behind the files and before."""
+    lines = []
+    for command, spelling in product(("bare", "run"), NUMBER_SPELLINGS):
+        options = [["--grant", spelling, *STEPS], [f"--grant={spelling}", *STEPS]]
+        if spelling not in TOO_LONG_TO_MODEL:
+            options += [[*GRANT, "--steps", spelling], [*GRANT, f"--steps={spelling}"]]
+        for option in options:
+            lines += [[command, "d", "i", *option], [command, *option, "d", "i"]]
+    return [_case(line) for line in lines]
+
+
+def refusals() -> list[Case]:
+    """Descriptions and images that are fine, broken, absent or no files, with grants around the room: which is told first."""
+    descriptions = ("d", "bad", "none", "dir", "empty", "open", "shape", "-", "d/", "d/x", "")
+    images = ("i", "badi", "none", "dir", "over", "empty", "twoi", "d", "i/", "")
+    grants = (2, 3, 7, 8, 62, 63, 64, 65, 1048575)
+    lines = []
+    for command, description, image, grant, steps in product(("bare", "run"), descriptions, images, grants, (0, 3)):
+        lines.append([command, "--grant", str(grant), "--steps", str(steps), "--", description, image])
+    return [_case(line) for line in lines]
+
+
+def random_line(rng: Random) -> Case:
+    """A line that is taken, with up to three edits."""
+    command = rng.choice(["bare", "run", "print"])
+    words = ["d", "i", "--grant=8", "--steps=3"] if rng.random() < 0.5 else ["d", "i", *BOTH]
+    if command == "print" and rng.random() < 0.7:
+        words = ["d"]
+    for _ in range(rng.choice([0, 1, 1, 2, 3])):
+        words = _edited(rng, words)
+    return _case([command, *words] if rng.random() < 0.95 else words)
+
+
+def _edited(rng: Random, words: list[str]) -> list[str]:
+    i, k = rng.randint(0, len(words)), rng.randint(0, len(words))
+    kind = rng.choices(["insert", "drop", "replace", "move"], [40, 20, 20, 20])[0]
+    if kind == "insert":
+        return [*words[:i], rng.choice(POOL), *words[i:]]
+    if kind == "drop":
+        return [*words[:i], *words[i + 1 :]]
+    if kind == "replace":
+        return [*words[:i], rng.choice(POOL), *words[i + 1 :]]
+    left = [*words[:i], *words[i + 1 :]]
+    return [*left[:k], *words[i : i + 1], *left[k:]]
