@@ -2,7 +2,7 @@
 
 from collections.abc import Iterator
 from dataclasses import dataclass, replace
-from typing import ClassVar
+from typing import ClassVar, Self
 
 Block = tuple["Statement", ...]
 
@@ -11,19 +11,23 @@ REGISTERS = ("pc", "mode", "rel", "bound")
 
 
 @dataclass(frozen=True)
-class Expression:
-    """An expression; PARTS names the fields that hold expressions, in the order of the text."""
+class Node:
+    """An expression or a statement; PARTS names the fields that hold its own expressions, in the order of the text."""
 
     PARTS: ClassVar[tuple[str, ...]] = ()
 
     @property
     def parts(self) -> tuple["Expression", ...]:
-        """The expressions right below this one."""
+        """The expressions right below this one; those of a statement's inner blocks are left out."""
         return tuple(getattr(self, field) for field in self.PARTS)
 
-    def with_parts(self, parts: tuple["Expression", ...]) -> "Expression":
-        """This expression with other parts."""
+    def with_parts(self, parts: tuple["Expression", ...]) -> Self:
+        """The same with other parts."""
         return replace(self, **dict(zip(self.PARTS, parts))) if self.PARTS else self
+
+
+class Expression(Node):
+    """An expression."""
 
 
 @dataclass(frozen=True)
@@ -113,25 +117,13 @@ class Select(Expression):
     PARTS = ("condition", "chosen", "otherwise")
 
 
-@dataclass(frozen=True)
-class Statement:
-    """A statement; PARTS names the fields that hold its own expressions, in the order of the text."""
-
-    PARTS: ClassVar[tuple[str, ...]] = ()
-
-    @property
-    def parts(self) -> tuple[Expression, ...]:
-        """Its own expressions, those of inner blocks left out."""
-        return tuple(getattr(self, field) for field in self.PARTS)
+class Statement(Node):
+    """A statement."""
 
     @property
     def blocks(self) -> tuple[Block, ...]:
         """The blocks right inside it."""
         return ()
-
-    def with_parts(self, parts: tuple[Expression, ...]) -> "Statement":
-        """This statement with other expressions."""
-        return replace(self, **dict(zip(self.PARTS, parts))) if self.PARTS else self
 
 
 @dataclass(frozen=True)
