@@ -1,10 +1,10 @@
 //! What statements do.
 
 ghost use Rattle.std.specs.Prelude.{map};
-ghost use Rattle.pg_type.specs.Bodies.{in_order, block_deed, deed_of};
-ghost use Rattle.pg_type.specs.Limits.{all_of, stmt_tally};
-ghost use Rattle.pg_type.specs.Widths.{fare_of};
-ghost use Rattle.pg_type.specs.Typed.{setting_at};
+ghost use Rattle.pg_meaning.specs.Bodies.{in_order, block_deed, deed_of};
+ghost use Rattle.pg_valid.specs.Limits.{all_of, stmt_tally};
+ghost use Rattle.pg_valid.specs.Widths.{fare_of};
+ghost use Rattle.pg_valid.specs.Typed.{setting_at};
 ghost use Rattle.pg_interp.specs.EntryView.{entry_as};
 ghost use Rattle.pg_interp.specs.Runs.{run_as, Does, MayDo, MayDoAll};
 

@@ -1,11 +1,11 @@
 //! What a body reads at its entry.
 
 ghost use Rattle.std.specs.Prelude.{◌≡◌, ◌≤◌};
-ghost use Rattle.pg_type.specs.Decoders.{decoder_of};
-ghost use Rattle.pg_type.specs.Typed.{IsEntry};
+ghost use Rattle.pg_meaning.specs.Decoders.{decoder_of};
+ghost use Rattle.pg_valid.specs.Typed.{IsEntry};
 ghost use Rattle.pg_interp.specs.Entries.{entry};
 
-use pg_type::Decoder;
+use pg_meaning::Decoder;
 use pg_word::Psw;
 
 /// The widths of words and addresses, the program status word at entry, the pattern, its decoder, and the word that was

@@ -19,8 +19,6 @@ mod lets;
 mod numbers;
 mod overlay;
 mod run;
-#[cfg(test)]
-mod tests;
 mod values;
 
 pub use cells::Cells;

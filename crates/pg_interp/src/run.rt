@@ -2,8 +2,8 @@
 
 ghost use Rattle.std.specs.Prelude.{◌≡◌, ℕ, ◌+◌, ◌^◌, ◌<◌, ◌≤◌, List, length, Some};
 ghost use Rattle.pg_word.specs.Psw.{mode_of};
-ghost use Rattle.pg_type.specs.Values.{value};
-ghost use Rattle.pg_type.specs.Bodies.{with_bits, let_deed, store_deed, with_p, with_mode, with_l, with_b};
+ghost use Rattle.pg_meaning.specs.Values.{value};
+ghost use Rattle.pg_meaning.specs.Bodies.{with_bits, let_deed, store_deed, with_p, with_mode, with_l, with_b};
 ghost use Rattle.pg_interp.specs.declared.numbers.Number.{Number as Numbers};
 ghost use Rattle.pg_interp.specs.Writes.{written, AreWrites};
 ghost use Rattle.pg_interp.specs.Numbers.{numbers_as, IsReady, IsTyped, OnNumber};

@@ -1,10 +1,10 @@
 //! What expressions mean.
 
 ghost use Rattle.std.specs.Prelude.{◌≡◌, ◌+◌, ◌<◌, ◌≤◌, ◌^◌, Some};
-ghost use Rattle.pg_type.specs.Patterns.{field_value};
-ghost use Rattle.pg_type.specs.Fields.{field_as};
+ghost use Rattle.pg_meaning.specs.Patterns.{field_value};
+ghost use Rattle.pg_meaning.specs.Fields.{field_as};
 ghost use Rattle.pg_ast.specs.declared.tree.Expr.TheVariants.{Load, Not, Bin, Cat, Cut, Ext, Sext, Sel};
-ghost use Rattle.pg_type.specs.Values.{bits, value, name_value, with_value, loaded};
+ghost use Rattle.pg_meaning.specs.Values.{bits, value, name_value, with_value, loaded};
 ghost use Rattle.pg_interp.specs.declared.numbers.Number.{Number as Numbers};
 ghost use Rattle.pg_interp.specs.Numbers.{bits_as, numbers_as, IsReady, IsTyped, OnNumber};
 ghost use Rattle.pg_interp.specs.EntryView.{entry_as};
@@ -16,7 +16,7 @@ use crate::numbers::{
     Number, bits_between, choose, complement, join, mode_number, operate, sign_widen, widen,
 };
 use pg_ast::{Expr, Op};
-use pg_type::Field;
+use pg_meaning::Field;
 use pg_word::bits;
 use sqlite_items::Boxed;
 
@@ -63,7 +63,7 @@ fn cell_at<C: Cells>(at: &Entry<'_>, cells: &C, address: Option<Number>) -> Opti
 /// The number of an expression that keeps to the table of widths; `None` where an address in it is outside the window.
 #[cycle(value)]
 #[inline(always)]
-#[tactic(auto, using(pg_type::proofs::ValueEquations::value_rules))]
+#[tactic(auto, using(pg_meaning::proofs::ValueEquations::value_rules))]
 pub fn value<C: Cells>(at: &Entry<'_>, lets: &Lets<'_>, cells: &C, expr: &Expr) -> Option<Number>
     requires ready { IsReady (entry_as at.now) lets.now (C.window cells.now) }
     requires typed { IsTyped (entry_as at.now) lets.now expr.now }
@@ -81,7 +81,7 @@ pub fn value<C: Cells>(at: &Entry<'_>, lets: &Lets<'_>, cells: &C, expr: &Expr) 
 /// for the places of all the parts that it has.
 #[cycle(value)]
 #[inline(never)]
-#[tactic(auto, using(pg_type::proofs::ValueEquations::value_rules))]
+#[tactic(auto, using(pg_meaning::proofs::ValueEquations::value_rules))]
 fn form<C: Cells>(at: &Entry<'_>, lets: &Lets<'_>, cells: &C, expr: &Expr) -> Option<Number>
     requires ready { IsReady (entry_as at.now) lets.now (C.window cells.now) }
     requires typed { IsTyped (entry_as at.now) lets.now expr.now }
@@ -119,7 +119,7 @@ fn form<C: Cells>(at: &Entry<'_>, lets: &Lets<'_>, cells: &C, expr: &Expr) -> Op
 
 /// The cell at the address that an expression means.
 #[cycle(value)]
-#[tactic(auto, using(pg_type::proofs::ValueEquations::value_rules))]
+#[tactic(auto, using(pg_meaning::proofs::ValueEquations::value_rules))]
 fn load<C: Cells>(at: &Entry<'_>, lets: &Lets<'_>, cells: &C, e: &Boxed<Expr>) -> Option<Number>
     requires ready { IsReady (entry_as at.now) lets.now (C.window cells.now) }
     requires typed { IsTyped (entry_as at.now) lets.now (Load e.now) }
@@ -130,7 +130,7 @@ fn load<C: Cells>(at: &Entry<'_>, lets: &Lets<'_>, cells: &C, e: &Boxed<Expr>) -
 
 /// Each bit of an expression changed.
 #[cycle(value)]
-#[tactic(auto, using(pg_type::proofs::ValueEquations::value_rules))]
+#[tactic(auto, using(pg_meaning::proofs::ValueEquations::value_rules))]
 fn not<C: Cells>(at: &Entry<'_>, lets: &Lets<'_>, cells: &C, e: &Boxed<Expr>) -> Option<Number>
     requires ready { IsReady (entry_as at.now) lets.now (C.window cells.now) }
     requires typed { IsTyped (entry_as at.now) lets.now (Not e.now) }
@@ -141,7 +141,7 @@ fn not<C: Cells>(at: &Entry<'_>, lets: &Lets<'_>, cells: &C, e: &Boxed<Expr>) ->
 
 /// What an operator makes of two expressions.
 #[cycle(value)]
-#[tactic(auto, using(pg_type::proofs::ValueEquations::value_rules))]
+#[tactic(auto, using(pg_meaning::proofs::ValueEquations::value_rules))]
 fn bin<C: Cells>(
     at: &Entry<'_>,
     lets: &Lets<'_>,
@@ -163,7 +163,7 @@ fn bin<C: Cells>(
 
 /// The first expression above the second.
 #[cycle(value)]
-#[tactic(auto, using(pg_type::proofs::ValueEquations::value_rules))]
+#[tactic(auto, using(pg_meaning::proofs::ValueEquations::value_rules))]
 fn cat<C: Cells>(
     at: &Entry<'_>,
     lets: &Lets<'_>,
@@ -183,7 +183,7 @@ fn cat<C: Cells>(
 
 /// Bits `low` to `high` of an expression.
 #[cycle(value)]
-#[tactic(auto, using(pg_type::proofs::ValueEquations::value_rules))]
+#[tactic(auto, using(pg_meaning::proofs::ValueEquations::value_rules))]
 fn cut<C: Cells>(
     at: &Entry<'_>,
     lets: &Lets<'_>,
@@ -201,7 +201,7 @@ fn cut<C: Cells>(
 
 /// An expression widened to `to` bits by zeros.
 #[cycle(value)]
-#[tactic(auto, using(pg_type::proofs::ValueEquations::value_rules))]
+#[tactic(auto, using(pg_meaning::proofs::ValueEquations::value_rules))]
 fn ext<C: Cells>(
     at: &Entry<'_>,
     lets: &Lets<'_>,
@@ -218,7 +218,7 @@ fn ext<C: Cells>(
 
 /// An expression widened to `to` bits by copies of its top bit.
 #[cycle(value)]
-#[tactic(auto, using(pg_type::proofs::ValueEquations::value_rules))]
+#[tactic(auto, using(pg_meaning::proofs::ValueEquations::value_rules))]
 fn sext<C: Cells>(
     at: &Entry<'_>,
     lets: &Lets<'_>,
@@ -235,7 +235,7 @@ fn sext<C: Cells>(
 
 /// The second expression where the first is 1, else the third. All three are evaluated.
 #[cycle(value)]
-#[tactic(auto, using(pg_type::proofs::ValueEquations::value_rules))]
+#[tactic(auto, using(pg_meaning::proofs::ValueEquations::value_rules))]
 fn sel<C: Cells>(
     at: &Entry<'_>,
     lets: &Lets<'_>,

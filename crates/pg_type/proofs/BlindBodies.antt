@@ -5,9 +5,9 @@ use Rattle.pg_word.specs.declared.psw.Mode.{Mode}
 use Rattle.pg_ast.specs.declared.tree.Stmt.{Stmt}
 use Rattle.pg_ast.specs.declared.tree.Instr.{Instr}
 use Rattle.pg_ast.specs.declared.tree.Desc.{Desc}
-use Rattle.pg_type.specs.Values.{Entry}
-use Rattle.pg_type.specs.Bodies.{Course, MemTrapped, Trapped, Going, Run, After, in_order, deed_of, entry_of, begun, body}
-use Rattle.pg_type.specs.Typed.{OnGoing}
+use Rattle.pg_meaning.specs.Values.{Entry}
+use Rattle.pg_meaning.specs.Bodies.{Course, MemTrapped, Trapped, Going, Run, After, in_order, deed_of, entry_of, begun, body}
+use Rattle.pg_valid.specs.Typed.{OnGoing}
 use Rattle.pg_type.specs.Plain.{Controls, no_control, only_mode, only_rel, only_bound, Sought, any_has, reading, assigning, trapping}
 use Rattle.pg_type.specs.Blind.{AreAlikeBut, IsLeftAlike, AreRunsAlike, AreEndsAlike, IsSameCourse, AreKept, IsTrapless}
 use Rattle.pg_type.proofs.BlindDeeds.{then_same, in_order-blind}

@@ -10,11 +10,11 @@ use Rattle.pg_ast.specs.declared.tree.Stmt.TheVariants.{Let, Store, Pc, Mode, Re
 use Rattle.pg_ast.specs.declared.tree.Stmt.TheOpen as Open
 use Rattle.pg_ast.specs.declared.tree.Stmt.TheFolds.{ind-Stmt, map-Stmt}
 use Rattle.pg_ast.specs.declared.tree.Stmt.TheViews.{roll-Stmt}
-use Rattle.pg_type.specs.Values.{Bits, Entry, value}
-use Rattle.pg_type.specs.Bodies.{Course, MemTrapped, Trapped, Going, then_do, with_bits, Run, let_deed, store_deed, with_p, with_mode, with_l, with_b, in_order, block_deed, else_deed, deed_of}
+use Rattle.pg_meaning.specs.Values.{Bits, Entry, value}
+use Rattle.pg_meaning.specs.Bodies.{Course, MemTrapped, Trapped, Going, then_do, with_bits, Run, let_deed, store_deed, with_p, with_mode, with_l, with_b, in_order, block_deed, else_deed, deed_of}
 use Rattle.pg_type.specs.Plain.{Controls, reads, Sought, any_if_there, has, any_has}
 use Rattle.pg_type.specs.Blind.{AreAlikeBut, entry_with, AreRunsAlike, IsSameCourse}
-use Rattle.pg_type.proofs.DeedEquations as deeds
+use Rattle.pg_meaning.proofs.DeedEquations as deeds
 use Rattle.pg_type.proofs.PlainEquations as plain
 use Rattle.pg_type.proofs.BlindValues.{value-blind, or_neither}
 

@@ -9,11 +9,11 @@ use Rattle.pg_ast.specs.declared.tree.Expr.TheVariants.{Lit, Name, Pc, Mode, Rel
 use Rattle.pg_ast.specs.declared.tree.Expr.TheOpen as Open
 use Rattle.pg_ast.specs.declared.tree.Expr.TheFolds.{ind-Expr, map-Expr}
 use Rattle.pg_ast.specs.declared.tree.Expr.TheViews.{roll-Expr}
-use Rattle.pg_type.specs.Patterns.{Field, field_of}
-use Rattle.pg_type.specs.Values.{Entry, Lets, bits, field_or_let, value}
+use Rattle.pg_meaning.specs.Patterns.{Field, field_of}
+use Rattle.pg_meaning.specs.Values.{Entry, Lets, bits, field_or_let, value}
 use Rattle.pg_type.specs.Plain.{Controls, no_control, reads}
 use Rattle.pg_type.specs.Blind.{AreAlikeBut, entry_with}
-use Rattle.pg_type.proofs.ValueEquations as values
+use Rattle.pg_meaning.proofs.ValueEquations as values
 use Rattle.pg_type.proofs.PlainEquations as plain
 
 pub or_neither : (a b : Bool) → (a || b) ≡ false → (a ≡ false) × (b ≡ false)

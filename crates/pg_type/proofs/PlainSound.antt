@@ -16,16 +16,16 @@ use Rattle.pg_ast.specs.declared.tree.Stmt.TheOpen as OpenStmt
 use Rattle.pg_ast.specs.declared.tree.Stmt.TheViews.{roll-Stmt, out-Stmt, roll-out-Stmt}
 use Rattle.pg_ast.specs.declared.tree.Instr.{Instr}
 use Rattle.pg_ast.specs.declared.tree.Desc.{Desc}
-use Rattle.pg_type.specs.Values.{Entry}
-use Rattle.pg_type.specs.Bodies.{Course, MemTrapped, Trapped, Going, then_do, Run, After, in_order, deed_of, entry_of, begun, body}
-use Rattle.pg_type.specs.States.{State, window, in_user}
+use Rattle.pg_meaning.specs.Values.{Entry}
+use Rattle.pg_meaning.specs.Bodies.{Course, MemTrapped, Trapped, Going, then_do, Run, After, in_order, deed_of, entry_of, begun, body}
+use Rattle.pg_meaning.specs.States.{State, window, in_user}
 use Rattle.pg_type.specs.Kinds.{fetched_word, course_at, observed, observation, IsDone, IsNoMemTrap, ChangesControl, ShowsControl, ShowsMode, ShowsLocation, ShowsBound}
 use Rattle.pg_type.specs.Accepting.{IsPrivileged, IsInnocuous, IsAccepted}
 use Rattle.pg_type.specs.Plain.{every_control, any_has, naming, trapping, is_mode, is_trap, is_trap_alone, is_guard, is_guarded, is_plain, first_breach}
 use Rattle.pg_type.specs.Blind.{AreEndsAlike, IsSameCourse, IsTrapless}
-use Rattle.pg_type.proofs.ValueEquations as values
-use Rattle.pg_type.proofs.DeedEquations as deeds
-use Rattle.pg_type.proofs.ValueSound.{and_both}
+use Rattle.pg_meaning.proofs.ValueEquations as values
+use Rattle.pg_meaning.proofs.DeedEquations as deeds
+use Rattle.pg_valid.proofs.ValueSound.{and_both}
 use Rattle.pg_type.proofs.BlindBodies.{body-blind, kept-left, in_order-trapless}
 
 -- ---- a body that names no register of control

@@ -12,7 +12,7 @@ use Rattle.pg_ast.specs.declared.tree.Stmt.TheVariants.{Let, Store, Pc, Mode, Re
 use Rattle.pg_ast.specs.declared.tree.Instr.{Instr}
 use Rattle.pg_ast.specs.declared.tree.Desc.{Desc}
 use Rattle.pg_word.specs.declared.psw.Mode.{Mode as Modes}
-use Rattle.pg_type.specs.States.{State}
+use Rattle.pg_meaning.specs.States.{State}
 use Rattle.pg_ast.specs.Levels.{IsShallow}
 use Rattle.pg_ast.proofs.ExprEquations.{depth_of_rules}
 use Rattle.pg_ast.proofs.StmtEquations.{expr_levels_rules, block_levels_rules}

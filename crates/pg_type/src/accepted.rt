@@ -7,7 +7,7 @@
 ghost use Rattle.std.specs.Prelude.{◌≡◌};
 ghost use Rattle.pg_type.specs.Accepting.{IsAccepted, IsHybridAccepted};
 
-use crate::machine::Machine;
+use pg_valid::Machine;
 
 /// A machine of which each instruction is privileged or not sensitive.
 #[derive(Clone, Copy)]

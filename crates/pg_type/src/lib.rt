@@ -1,49 +1,30 @@
-//! What descriptions and instructions mean, and which descriptions are valid.
+//! The kinds of instructions, and the machines that a monitor may run.
 //!
-//! The definitions stand in `specs/`, over description trees: `Values` and `Bodies` say what an instruction makes of a
-//! window, `States` and `Steps` what the machine of the 1974 paper (sections 2 and 3) does, `Kinds` and `Accepting` what is
-//! asked of an instruction, `PaperWords` the paper's own words, and `Valid` which descriptions are valid, in seven
-//! classes. They compute: `rows` has runs and pairs of states that were worked out by hand.
+//! What is asked of an instruction, as the 1974 paper does (section 3): whether it is privileged, and whether it is
+//! sensitive, to the mode, to the place of its window, or to the bound. `specs/Kinds.antt` says which two states show a
+//! kind (`Kind`), `Accepting` what it is for a description to be accepted, `PaperWords` the same in the paper's own
+//! words. They compute: `rows` has runs and pairs of states that were worked out by hand, over the machines of
+//! `Examples`.
 //!
-//! `check` tests a description and makes a `Machine` of it, which is valid by its type. The seven classes are tested in
-//! `classes`, over `limits`, `twice`, `patterns`, `overlaps`, `scopes` and `widths`, whose functions are the definitions one
-//! for one. `states` says that a valid description's machine never leaves its states, and `laws` what else follows from the
-//! definitions alone. An `Accepted` is a machine whose instructions are as the monitor of Theorem 1 needs them, and `alike`
-//! says what a monitor gains by it: what is done in user mode is done alike wherever the window and P are the same. `plain`
-//! tests a rule on the text of bodies, in `Plain`, under which a machine is accepted; `Blind` says what two runs of one body
-//! have in common where it does not read in what they differ.
+//! An `Accepted` is a machine whose instructions are as the monitor of Theorem 1 needs them, a `HybridAccepted` as that
+//! of Theorem 3. `alike` says what a monitor gains by it: what is done in user mode is done alike wherever the window and
+//! P are the same. `plain` tests a rule on the text of bodies, in `Plain`, under which a machine is accepted; `Blind`
+//! says what two runs of one body have in common where it does not read in what they differ. `laws` has what else
+//! follows from the definitions alone.
+//!
+//! What instructions mean stands in `pg_meaning`, and which descriptions are valid in `pg_valid`. Their public names and
+//! definitions are passed on from here.
 #![tactic(auto)]
 
 mod accepted;
 pub mod alike;
-mod check_desc;
-mod classes;
-mod decoder;
-mod fault;
 mod kind;
 pub mod laws;
-mod let_widths;
-mod limits;
-mod machine;
-mod names;
-mod overlaps;
-mod patterns;
 mod plain_rule;
 pub mod rows;
-mod scopes;
-pub mod states;
-mod table;
-mod twice;
-mod widths;
 
 pub use accepted::{Accepted, HybridAccepted};
-pub use check_desc::check;
-pub use decoder::Decoder;
-pub use fault::{Limit, TypeFault};
 pub use kind::Kind;
-pub use machine::Machine;
-pub use patterns::{Field, field_of, matches};
+pub use pg_meaning::{Decoder, Field, field_of, matches};
+pub use pg_valid::{Limit, Machine, TypeFault, check};
 pub use plain_rule::plain;
-
-#[cfg(test)]
-mod tests;

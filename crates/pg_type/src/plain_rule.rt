@@ -11,8 +11,8 @@ ghost use Rattle.pg_ast.specs.declared.tree.Stmt.TheViews.{out-Stmt};
 ghost use Rattle.pg_type.specs.Accepting.{IsAccepted};
 ghost use Rattle.pg_type.specs.Plain.{every_control, reads, has, any_has, naming, trapping, is_mode, is_trap_alone, is_guard, is_guarded, is_plain, first_breach};
 
-use crate::machine::Machine;
 use pg_ast::{Expr, Instr, Stmt};
+use pg_valid::Machine;
 
 /// The number of the first instruction that breaks the plain rule, counted from 0, or `None` where none does. The
 /// description is then accepted.

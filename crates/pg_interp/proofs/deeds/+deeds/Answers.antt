@@ -1,8 +1,8 @@
 use Rattle.pg_interp.specs.declared.run.Course.TheVariants.{MemTrap, Trap}
 use Rattle.std.proofs.Common.{length, ◌≤◌, ap, sym, ◌∙◌, refl, arith, rules, ◌∷◌, ◌+◌, drop}
 use Rattle.std.proofs.lemmas.List.{drop_more, drop_all}
-use Rattle.pg_type.specs.Bodies.{with_p, with_mode, with_l, with_b}
-use Rattle.pg_type.proofs.DeedEquations.{deed_of-let, deed_of-store, deed_of-pc, deed_of-mode, deed_of-rel, deed_of-bound, deed_of-trap}
+use Rattle.pg_meaning.specs.Bodies.{with_p, with_mode, with_l, with_b}
+use Rattle.pg_meaning.proofs.DeedEquations.{deed_of-let, deed_of-store, deed_of-pc, deed_of-mode, deed_of-rel, deed_of-bound, deed_of-trap}
 use Rattle.pg_interp.proofs.RunLemmas.{does-assign, does-let, does-store, does-nothing}
 use Rattle.pg_interp.proofs.MayLemmas.{holds-first, holds-second, due_of, lets_of, accesses_of, does-first, does-second, due-neither, of_form, typed, wanted-pc, wanted-mode, wanted-rel, wanted-bound, typed-let, wanted-store, narrow, words, counts-let, counts-store, wanted-if, due-untested, way-first, way-next, way-trapped, way-ends, item_counts}
 use Rattle.pg_interp.proofs.deeds.+deeds.Goals as goal

@@ -1,5 +1,5 @@
 use Rattle.std.proofs.Common.{◌+◌, ◌*◌, drop, map}
-use Rattle.pg_type.specs.Limits.{all_of, stmt_tally}
+use Rattle.pg_valid.specs.Limits.{all_of, stmt_tally}
 use Rattle.pg_interp.specs.EntryView.{entry_as}
 use Rattle.pg_interp.specs.Runs.{OnTheWay}
 use Rattle.pg_interp.proofs.deeds.+deeds.Given as goal

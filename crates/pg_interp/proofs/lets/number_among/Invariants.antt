@@ -1,5 +1,5 @@
 use Rattle.std.proofs.Common.{◌≡◌, ◌≤◌, length, take, map, reverse}
-use Rattle.pg_type.specs.Values.{bits, let_value}
+use Rattle.pg_meaning.specs.Values.{bits, let_value}
 use Rattle.pg_interp.specs.Numbers.{bytes_if_any}
 use Rattle.pg_interp.proofs.lets.number_among.Given as goal
 

@@ -1,0 +1,5 @@
+pub mod PatternLemmas
+pub mod DecoderLemmas
+pub mod ValueEquations
+pub mod DeedEquations
+pub mod StepLaws

@@ -1,0 +1,7 @@
+pub mod Patterns
+pub mod Fields
+pub mod Decoders
+pub mod Values
+pub mod Bodies
+pub mod States
+pub mod Steps

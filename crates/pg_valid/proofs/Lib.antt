@@ -1,0 +1,16 @@
+pub mod NameLemmas
+pub mod TableLemmas
+pub mod CountLemmas
+pub mod GrowLemmas
+pub mod CheckLemmas
+pub mod CheckExprEquations
+pub mod CheckStmtEquations
+pub mod WidthEquations
+pub mod FareEquations
+pub mod FaultLemmas
+pub mod ShapeLemmas
+pub mod ValueSound
+pub mod DeedSound
+pub mod ValidFacts
+pub mod PatternFacts
+pub mod StepSound

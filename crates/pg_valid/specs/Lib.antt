@@ -1,0 +1,17 @@
+pub mod Limits
+pub mod Twice
+pub mod Overlaps
+pub mod Scopes
+pub mod Widths
+pub mod Valid
+pub mod Verdicts
+pub mod Typed
+pub mod Counted
+pub mod Fares
+pub use Rattle.pg_meaning.specs.Patterns
+pub use Rattle.pg_meaning.specs.Fields
+pub use Rattle.pg_meaning.specs.Decoders
+pub use Rattle.pg_meaning.specs.Values
+pub use Rattle.pg_meaning.specs.Bodies
+pub use Rattle.pg_meaning.specs.States
+pub use Rattle.pg_meaning.specs.Steps

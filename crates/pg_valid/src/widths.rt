@@ -1,0 +1,393 @@
+//! Widths of expressions.
+//!
+//! The seventh class of validity. In the definitions of what a body does each value carries its width; a body without a
+//! fault of this class never meets a width that does not fit, which is what the interpreter rests on. The small
+//! functions are the rows of the table of widths, `None` where an expression or a part of it breaks it. Statements are
+//! gone over in the order of the text with the visible lets and their widths, and the lets of a block end with it; they
+//! are counted in that order from 0, an if before those inside it, and a fault has the place of the first whose own
+//! expressions break the table. The names are known already, by the class before. The list of lets alone takes memory.
+
+ghost use Rattle.std.specs.Prelude.{◌≡◌, ◌+◌, ◌^◌, ◌==◌, nat_le, nat_lt, map, IfOk, OnOk};
+ghost use Rattle.pg_meaning.specs.Patterns.{field_of};
+ghost use Rattle.pg_valid.specs.Fares.{fare_as, Grows};
+ghost use Rattle.pg_valid.specs.Widths.{LetWidths as Visible, setting_of, field_or_let_width, where_holds, with_width, literal_width, op_width, cut_width, widened_width, choice_width, width_of, wants, binds, then_fares, after_block, fares_in_order, fare_of, width_broken_in, width_broken};
+
+use crate::let_widths::LetWidths;
+use pg_ast::{Desc, Expr, Instr, Name, Op, Stmt};
+use pg_meaning::field_of;
+use std::alloc::{AllocError, Global};
+
+/// Whether a number has no bit from bit `bits` on.
+pub fn below_power(number: u64, bits: u64) -> bool
+    ensures { result ≡ nat_lt number (2 ^ bits) }
+{
+    if bits < 64 { number < 1 << bits } else { true }
+}
+
+/// The width of a literal: 1 to 64 bits, which hold the number.
+fn literal_width(number: u64, bits: u64) -> Option<u64>
+    ensures { result ≡ literal_width number bits }
+{
+    if 1 <= bits && bits <= 64 && below_power(number, bits) {
+        Some(bits)
+    } else {
+        None
+    }
+}
+
+/// The width of a name: that of its field, or of the newest visible let.
+fn name_width(pattern: &[u8], name: &[u8], lets: &LetWidths<'_>) -> Option<u64>
+    ensures { result ≡ field_or_let_width (field_of pattern.now name.now) lets.now name.now }
+{
+    match field_of(pattern, name) {
+        None => lets.width(name),
+        Some(field) => Some(field.width),
+    }
+}
+
+/// The width of a load, whose address has the width of an address.
+fn load_width(desc: &Desc, address: Option<u64>) -> Option<u64>
+    ensures { result ≡ with_width address (λ n. where_holds (n == desc.now.address) desc.now.word) }
+{
+    match address {
+        None => None,
+        Some(n) => {
+            if n == desc.address {
+                Some(desc.word)
+            } else {
+                None
+            }
+        }
+    }
+}
+
+/// The width of an operator's answer on two sides of these widths.
+fn op_width(op: Op, left: u64, right: u64) -> Option<u64>
+    ensures { result ≡ op_width op left right }
+{
+    let same = left == right;
+    match op {
+        Op::Add | Op::Sub | Op::Mul | Op::And | Op::Or | Op::Xor => {
+            if same { Some(left) } else { None }
+        }
+        Op::Eq | Op::Lt => { if same { Some(1) } else { None } }
+        Op::Shl | Op::Shr => Some(left),
+    }
+}
+
+/// The same, where the sides have widths.
+fn bin_width(op: Op, left: Option<u64>, right: Option<u64>) -> Option<u64>
+    ensures { result ≡ with_width left (λ x. with_width right (λ y. op_width op x y)) }
+{
+    match left {
+        None => None,
+        Some(x) => match right {
+            None => None,
+            Some(y) => op_width(op, x, y),
+        },
+    }
+}
+
+/// The width of two sides joined: at most 64 bits.
+fn joined_width(left: u64, right: u64) -> Option<u64>
+    ensures { result ≡ where_holds (nat_le (left + right) 64) (left + right) }
+{
+    if left <= 64 && right <= 64 - left {
+        Some(left + right)
+    } else {
+        None
+    }
+}
+
+/// The same, where the sides have widths.
+fn cat_width(left: Option<u64>, right: Option<u64>) -> Option<u64>
+    ensures { result ≡ with_width left (λ x. with_width right (λ y. where_holds (nat_le (x + y) 64) (x + y))) }
+{
+    match left {
+        None => None,
+        Some(x) => match right {
+            None => None,
+            Some(y) => joined_width(x, y),
+        },
+    }
+}
+
+/// The width of bits `low` to `high` of an expression.
+fn cut_width(width: Option<u64>, high: u64, low: u64) -> Option<u64>
+    ensures { result ≡ with_width width (λ n. cut_width n high low) }
+{
+    match width {
+        None => None,
+        Some(n) => {
+            if low <= high && high < n {
+                Some(high - low + 1)
+            } else {
+                None
+            }
+        }
+    }
+}
+
+/// The width of an expression widened to at most 64 bits.
+fn widened_width(width: Option<u64>, to: u64) -> Option<u64>
+    ensures { result ≡ with_width width (λ n. widened_width n to) }
+{
+    match width {
+        None => None,
+        Some(n) => { if n <= to && to <= 64 { Some(to) } else { None } }
+    }
+}
+
+/// The width of a choice: a condition of one bit, and two sides of one width.
+fn choice_width(test: Option<u64>, left: Option<u64>, right: Option<u64>) -> Option<u64>
+    ensures { result ≡ with_width test (λ c. with_width left (λ x. with_width right (λ y. choice_width c x y))) }
+{
+    match test {
+        None => None,
+        Some(c) => match left {
+            None => None,
+            Some(x) => match right {
+                None => None,
+                Some(y) => { if c == 1 && x == y { Some(x) } else { None } }
+            },
+        },
+    }
+}
+
+/// The width of an expression of an instruction, where lets are visible; `None` where it, or a part, breaks the table of
+/// widths.
+#[tactic(auto, using(crate::proofs::WidthEquations::width_rules))]
+fn width_of(desc: &Desc, instr: &Instr, expr: &Expr, lets: &LetWidths<'_>) -> Option<u64>
+    ensures { result ≡ width_of (setting_of desc.now instr.now) expr.now lets.now }
+{
+    match expr {
+        Expr::Lit(number, bits) => literal_width(*number, *bits),
+        Expr::Name(name) => name_width(instr.pattern.bytes.as_slice(), name.as_bytes(), lets),
+        Expr::Pc | Expr::Rel | Expr::Bound => Some(desc.address),
+        Expr::Mode => Some(1),
+        Expr::Load(e) => load_width(desc, width_of(desc, instr, e.get(), lets)),
+        Expr::Not(e) => width_of(desc, instr, e.get(), lets),
+        Expr::Bin(op, x, y) => bin_width(
+            *op,
+            width_of(desc, instr, x.get(), lets),
+            width_of(desc, instr, y.get(), lets),
+        ),
+        Expr::Cat(x, y) => cat_width(
+            width_of(desc, instr, x.get(), lets),
+            width_of(desc, instr, y.get(), lets),
+        ),
+        Expr::Cut(e, high, low) => cut_width(width_of(desc, instr, e.get(), lets), *high, *low),
+        Expr::Ext(e, to) | Expr::Sext(e, to) => widened_width(
+            width_of(desc, instr, e.get(), lets),
+            *to,
+        ),
+        Expr::Sel(c, x, y) => choice_width(
+            width_of(desc, instr, c.get(), lets),
+            width_of(desc, instr, x.get(), lets),
+            width_of(desc, instr, y.get(), lets),
+        ),
+    }
+}
+
+/// How statements fare: the place of the first that breaks the table of widths, or the place after them.
+#[derive(Clone, Copy, Debug)]
+enum Fare {
+    /// The place of the first that breaks it.
+    Breaks(usize),
+    /// The place after them, where all keep it.
+    Keeps(usize),
+}
+
+/// The place after this one. The error is want of memory, which would have come before so many statements.
+fn next_place(place: usize) -> Result<usize, AllocError>
+    ensures { IfOk result (λ next. next ≡ place + 1) }
+{
+    match place.checked_add(1) {
+        None => Err(AllocError),
+        Some(next) => Ok(next),
+    }
+}
+
+/// How an expression fares from which this width is wanted. The error is that of `next_place`.
+fn wants(wanted: u64, width: Option<u64>, place: usize) -> Result<Fare, AllocError>
+    ensures { IfOk result (λ fare. (lets : Visible) → fare_as fare lets ≡ wants wanted width place lets) }
+{
+    match width {
+        None => Ok(Fare::Breaks(place)),
+        Some(n) => {
+            if n != wanted {
+                return Ok(Fare::Breaks(place));
+            }
+            match next_place(place) {
+                Err(error) => Err(error),
+                Ok(next) => Ok(Fare::Keeps(next)),
+            }
+        }
+    }
+}
+
+/// How a let fares, which may have any width and is visible after it. The error is want of memory.
+#[tactic(auto, using(crate::proofs::GrowLemmas::grow_rules))]
+fn binds<'m>(
+    name: &'m Name,
+    width: Option<u64>,
+    place: usize,
+    lets: &mut LetWidths<'m>,
+) -> Result<Fare, AllocError>
+    ensures kept { OnOk result (Grows lets.old lets.new) }
+    ensures fare { IfOk result (λ fare. fare_as fare lets.new ≡ binds name.now.bytes width place lets.old) }
+{
+    match width {
+        None => Ok(Fare::Breaks(place)),
+        Some(n) => {
+            match lets.push(name.as_bytes(), n) {
+                Err(error) => return Err(error),
+                Ok(()) => {}
+            }
+            match next_place(place) {
+                Err(error) => Err(error),
+                Ok(next) => Ok(Fare::Keeps(next)),
+            }
+        }
+    }
+}
+
+/// How a store fares, with the widths of its address and of what it stores. The error is that of `next_place`.
+fn store_fare(
+    desc: &Desc,
+    address: Option<u64>,
+    cell: Option<u64>,
+    place: usize,
+) -> Result<Fare, AllocError>
+    ensures { IfOk result (λ fare. (lets : Visible) → fare_as fare lets ≡ then_fares (wants desc.now.address address place lets) (λ next same. wants desc.now.word cell place lets)) }
+{
+    match wants(desc.address, address, place) {
+        Err(error) => Err(error),
+        Ok(Fare::Breaks(at)) => Ok(Fare::Breaks(at)),
+        Ok(Fare::Keeps(_)) => wants(desc.word, cell, place),
+    }
+}
+
+/// How a statement at a place fares. A let is visible after it. The error is want of memory.
+#[cycle(fare)]
+#[tactic(auto, using(crate::proofs::FareEquations::fare_rules, crate::proofs::GrowLemmas::grow_rules))]
+fn fare_of<'m>(
+    desc: &Desc,
+    instr: &Instr,
+    stmt: &'m Stmt,
+    place: usize,
+    lets: &mut LetWidths<'m>,
+) -> Result<Fare, AllocError>
+    ensures fare { IfOk result (λ fare. fare_as fare lets.new ≡ fare_of (setting_of desc.now instr.now) stmt.now place lets.old) }
+    ensures kept { OnOk result (Grows lets.old lets.new) }
+{
+    match stmt {
+        Stmt::Let(name, e) => {
+            let width = width_of(desc, instr, e, lets);
+            binds(name, width, place, lets)
+        }
+        Stmt::Store(a, e) => store_fare(
+            desc,
+            width_of(desc, instr, a, lets),
+            width_of(desc, instr, e, lets),
+            place,
+        ),
+        Stmt::Pc(e) | Stmt::Rel(e) | Stmt::Bound(e) => wants(
+            desc.address,
+            width_of(desc, instr, e, lets),
+            place,
+        ),
+        Stmt::Mode(e) => wants(1, width_of(desc, instr, e, lets), place),
+        Stmt::Trap => next_place(place).map(Fare::Keeps),
+        Stmt::If(c, held, other) => match wants(1, width_of(desc, instr, c, lets), place) {
+            Ok(Fare::Keeps(next)) => match fares_in_block(
+                desc,
+                instr,
+                held.as_slice(),
+                next,
+                lets,
+            ) {
+                Ok(Fare::Keeps(later)) => match other {
+                    None => Ok(Fare::Keeps(later)),
+                    Some(stmts) => fares_in_block(desc, instr, stmts.as_slice(), later, lets),
+                },
+                broken => broken,
+            },
+            broken => broken,
+        },
+    }
+}
+
+/// How the statements of a block fare, whose lets end with it. The error is want of memory.
+#[cycle(fare)]
+#[tactic(auto, using(crate::proofs::GrowLemmas::grow_rules))]
+fn fares_in_block<'m>(
+    desc: &Desc,
+    instr: &Instr,
+    stmts: &'m [Stmt],
+    place: usize,
+    lets: &mut LetWidths<'m>,
+) -> Result<Fare, AllocError>
+    ensures fare { IfOk result (λ fare. fare_as fare lets.new ≡ after_block lets.old (fares_in_order (map (fare_of (setting_of desc.now instr.now)) stmts.now) place lets.old)) }
+    ensures after { OnOk result (lets.new ≡ lets.old) }
+{
+    let outer = lets.len();
+    match fares_in_order(desc, instr, stmts, place, lets) {
+        Err(error) => Err(error),
+        Ok(fare) => {
+            lets.truncate(outer);
+            Ok(fare)
+        }
+    }
+}
+
+/// How statements fare in the order of the text. The error is want of memory.
+#[cycle(fare)]
+#[tactic(auto, using(crate::proofs::GrowLemmas::grow_rules), unfolding(crate::specs::Widths::fares_in_order))]
+fn fares_in_order<'m>(
+    desc: &Desc,
+    instr: &Instr,
+    stmts: &'m [Stmt],
+    place: usize,
+    lets: &mut LetWidths<'m>,
+) -> Result<Fare, AllocError>
+    ensures fare { IfOk result (λ fare. fare_as fare lets.new ≡ fares_in_order (map (fare_of (setting_of desc.now instr.now)) stmts.now) place lets.old) }
+    ensures kept { OnOk result (Grows lets.old lets.new) }
+{
+    let mut next = place;
+    for stmt in stmts {
+        match fare_of(desc, instr, stmt, next, lets) {
+            Err(error) => return Err(error),
+            Ok(Fare::Breaks(at)) => return Ok(Fare::Breaks(at)),
+            Ok(Fare::Keeps(after)) => next = after,
+        }
+    }
+    Ok(Fare::Keeps(next))
+}
+
+/// The first statement of an instruction whose own expressions break the table of widths. The error is want of memory.
+fn width_broken_in(alloc: Global, desc: &Desc, instr: &Instr) -> Result<Option<usize>, AllocError>
+    ensures { IfOk result (λ found. found ≡ width_broken_in desc.now instr.now) }
+{
+    let mut lets = LetWidths::new(alloc);
+    match fares_in_order(desc, instr, instr.body.as_slice(), 0, &mut lets) {
+        Err(error) => Err(error),
+        Ok(Fare::Breaks(at)) => Ok(Some(at)),
+        Ok(Fare::Keeps(_)) => Ok(None),
+    }
+}
+
+/// The first instruction with such a statement, and its first such statement. The error is want of memory.
+#[tactic(auto, unfolding(crate::specs::Widths::width_broken))]
+pub fn width_broken(alloc: Global, desc: &Desc) -> Result<Option<(usize, usize)>, AllocError>
+    ensures { IfOk result (λ found. found ≡ width_broken desc.now 0 desc.now.instrs) }
+{
+    for (k, instr) in desc.instrs.as_slice().iter().enumerate() {
+        match width_broken_in(alloc, desc, instr) {
+            Err(error) => return Err(error),
+            Ok(Some(place)) => return Ok(Some((k, place))),
+            Ok(None) => {}
+        }
+    }
+    Ok(None)
+}
