@@ -4,7 +4,9 @@ use Rattle.std.proofs.lemmas.Option.{slice_get_cases}
 use Rattle.std.proofs.lemmas.Bool.{lt-ltb, le-ltb}
 use Rattle.pg_word.specs.declared.shape.Shape.{Shape}
 use Rattle.pg_word.specs.declared.psw.Psw.{Psw}
-use Rattle.pg_word.specs.Psw.{packed_trap, unpacked, window_len_of}
+use Rattle.pg_word.specs.declared.cause.Cause.{Cause}
+use Rattle.pg_word.specs.declared.cause.Cause.TheVariants.{Memory, NoPattern}
+use Rattle.pg_word.specs.Psw.{cause_number, packed_trap, unpacked, window_len_of}
 use Rattle.pg_ast.specs.declared.tree.Instr.{Instr}
 use Rattle.pg_ast.specs.declared.tree.Desc.{Desc}
 use Rattle.pg_type.specs.Patterns.{matching}
@@ -31,7 +33,7 @@ ending-idle d cells psw e = elim ((slice_get_cases cells psw.p).1) [
   | inr h ↦ rw (h.1, le-ltb psw.p (length cells) h.0) refl
 ]
 
-left_by_test : (d : Desc) (s : State) (b : Bool) → left_by d s (idle_ending b) ≡ trapped d s (if b then 3 else 1)
+left_by_test : (d : Desc) (s : State) (b : Bool) → left_by d s (idle_ending b) ≡ trapped d s (cause_number (if b then NoPattern else Memory))
 left_by_test d s true = refl
 left_by_test d s false = refl
 
@@ -40,7 +42,7 @@ is_trap_test true = refl
 is_trap_test false = refl
 
 -- a step that finds no instruction traps, by its cause
-pub step-idle : (d : Desc) (s : State) → d.instrs ≡ [] → step d s ≡ trapped d s (cause_where s.psw.p (window_length s))
+pub step-idle : (d : Desc) (s : State) → d.instrs ≡ [] → step d s ≡ trapped d s (cause_number (cause_where s.psw.p (window_length s)))
 unfolding step
 step-idle d s e = rw (ending-idle d (window s) s.psw e, window-length s) (left_by_test d s (nat_lt s.psw.p (window_length s)))
 
@@ -73,9 +75,9 @@ BottomRises-idle d s steps untrapped new e h = record {
 }
 
 -- the same step, done in parts
-pub step-idle_by : (d : Desc) (s : State) (shape : Shape) (size usable cause : ℕ) (cells : List ℕ) (psw : Psw) → d.instrs ≡ [] → shape ≡ shape_of d →
-    size ≡ length s.cells → usable ≡ window_len_of s.psw size → cause ≡ cause_where s.psw.p usable →
-    cells ≡ slice_set s.cells 0 (packed_trap shape s.psw cause) → psw ≡ unpacked shape.a (slice_index s.cells 1) →
+pub step-idle_by : (d : Desc) (s : State) (shape : Shape) (size usable : ℕ) (cause : Cause) (held cells : List ℕ) (psw : Psw) → d.instrs ≡ [] → shape ≡ shape_of d →
+    size ≡ length s.cells → usable ≡ window_len_of s.psw size → cause ≡ cause_where s.psw.p usable → held ≡ s.cells →
+    cells ≡ slice_set held 0 (packed_trap shape s.psw (cause_number cause)) → psw ≡ unpacked shape.a (slice_index held 1) →
     record { cells = cells; psw = psw } ≡ step d s
-step-idle_by d s shape size usable cause cells psw none is size_is usable_is cause_is cells_is psw_is =
-    rw (cells_is, psw_is, cause_is, usable_is, size_is, is) (sym (step-idle d s none))
+step-idle_by d s shape size usable cause held cells psw none is size_is usable_is cause_is held_is cells_is psw_is =
+    rw (cells_is, psw_is, held_is, cause_is, usable_is, size_is, is) (sym (step-idle d s none))

@@ -1,4 +1,6 @@
 pub mod TallyLaws
 pub mod BurstLaws
 pub mod ServingLaws
+pub mod RunLemmas
+pub mod PokeLemmas
 pub mod IdleLaws

@@ -1,9 +1,8 @@
 -- Serving: words and status words of a machine that may be run.
 use Rattle.std.proofs.Common.{◌≡◌, ℕ, ◌-◌, ◌<◌, ◌≤◌, ◌^◌, [], replicate, ap, arith}
 use Rattle.pg_word.specs.declared.psw.Psw.{Psw}
-use Rattle.pg_word.specs.Psw.{IsPsw}
+use Rattle.pg_word.specs.Psw.{IsPsw, power_on_psw}
 use Rattle.pg_ast.specs.declared.tree.Desc.{Desc}
-use Rattle.pg_word.specs.declared.psw.Mode.TheVariants.{S}
 use Rattle.pg_type.specs.States.{State, IsState}
 use Rattle.pg_type.specs.Steps.{power_on}
 use Rattle.pg_type.specs.Valid.{IsValid}
@@ -25,7 +24,7 @@ SameServed-then a b c x y = record { kept = λ d h. y.kept d (x.kept d h); none_
 -- the state that a hardware begins with is the power-on state of no image
 pub blank-power_on : (n : ℕ) → blank n ≡ power_on [] n
 unfolding blank power_on
-blank-power_on n = let whole : n ≡ n - 0 = omega arith in ap (λ (k : ℕ). let s : State = record { cells = replicate k 0; psw = record { mode = S; p = 2; l = 0; b = n } } in s) whole
+blank-power_on n = let whole : n ≡ n - 0 = omega arith in ap (λ (k : ℕ). let s : State = record { cells = replicate k 0; psw = power_on_psw n } in s) whole
 
 -- and a state of the machine, where the size is one of its
 pub blank-state : (d : Desc) (n : ℕ) → IsValid d → 2 ≤ n → n ≤ d.size → IsState d (blank n)

@@ -1,8 +1,7 @@
 -- Which machines a hardware may run, what it may be given, and the state that it begins with.
 use Rattle.std.specs.Prelude.{ℕ, ◌^◌, ◌<◌, replicate}
 use Rattle.pg_word.specs.declared.psw.Psw.{Psw}
-use Rattle.pg_word.specs.declared.psw.Mode.TheVariants.{S}
-use Rattle.pg_word.specs.Psw.{IsPsw}
+use Rattle.pg_word.specs.Psw.{IsPsw, power_on_psw}
 use Rattle.pg_ast.specs.declared.tree.Desc.{Desc}
 use Rattle.pg_type.specs.States.{State}
 
@@ -23,6 +22,6 @@ pub record IsServedPsw (serves : Desc → Type 0) (psw : Psw) : Type 0 where
   pub served : serves machine
   pub fits : IsPsw machine.address psw
 
--- the state of n cells that a hardware begins with: zeros, and PSW (s, 2, (0, n))
+-- the state of n cells that a hardware begins with: zeros, and the PSW of a machine that is switched on
 unfoldable pub blank : ℕ → State
-blank n = record { cells = replicate n 0; psw = record { mode = S; p = 2; l = 0; b = n } }
+blank n = record { cells = replicate n 0; psw = power_on_psw n }

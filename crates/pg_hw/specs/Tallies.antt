@@ -6,6 +6,10 @@ use Rattle.pg_hw.specs.declared.counts.Counts.{Counts}
 abbrev pub raised_by : ℕ → ℕ → ℕ
 raised_by n count = max count (min (count + n) (2 ^ 64 - 1))
 
+-- the counts of a hardware on which nothing was done
+abbrev pub no_counts : Counts
+no_counts = record { steps = 0; untrapped = 0; pokes = 0; loads = 0 }
+
 -- two counts of the hardware that does the work in the end, which a machine under a monitor has no other of
 pub record Bottom : Type 0 where
   -- its steps

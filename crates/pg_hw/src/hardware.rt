@@ -4,8 +4,8 @@
 //! runs, the routines that emulate a guest, the monitor and the texts of states are written for any `Hardware`, and
 //! know no more of it than these clauses.
 //!
-//! Each call says of every ghost member what becomes of it, so that a fact on one of them lasts over all calls that do not
-//! name it. A count rises at the calls whose documentation says so, and at no other: what was done to a hardware can be read
+//! Each call says of the whole machinery what becomes of it, so that a fact on a part of it lasts over all calls that do not
+//! name that part. A count rises at the calls whose documentation says so, and at no other: what was done to a hardware can be read
 //! off it afterwards. A count stands still at `2^64 - 1`. Only `install` takes memory, so no other call can be refused.
 
 use super::counts::Counts;
@@ -18,26 +18,17 @@ use std::alloc::AllocError;
 /// A call leaves everything as it was but what it names: the state, the counts, the counts at the bottom, the room and
 /// the machines served. What only looks raises no count.
 pub trait Hardware {
-    ghost use Rattle.std.specs.Prelude.{◌≡◌, ℕ, ◌≤◌, ◌<◌, length, slice_get, slice_set, OnOk, OnErr};
+    ghost use Rattle.std.specs.Prelude.{◌≡◌, ℕ, ◌≤◌, ◌<◌, length, slice_get, OnOk, OnErr};
     ghost use Rattle.pg_ast.specs.declared.tree.Desc.{Desc};
-    ghost use Rattle.pg_type.specs.States.{State, IsState};
+    ghost use Rattle.pg_type.specs.States.{IsState};
     ghost use Rattle.pg_type.specs.Steps.{step as stepped, steps as stepped_often};
-    ghost use Rattle.pg_hw.specs.declared.counts.Counts.{Counts as Tally};
-    ghost use Rattle.pg_hw.specs.Tallies.{Bottom, after_steps, after_poke, after_load};
+    ghost use Rattle.pg_hw.specs.Tallies.{after_steps};
+    ghost use Rattle.pg_hw.specs.Machinery.{Machinery, poked_at, loaded_with};
     ghost use Rattle.pg_hw.specs.Bursts.{untrapped_at, untrapped_among, burst_length, BottomRises};
     ghost use Rattle.pg_hw.specs.Serving.{SameServed, IsServedWord, IsServedPsw, blank};
 
-    /// The cells of the storage and the program status word.
-    ghost state: { Self → State };
-
-    /// The four counts.
-    ghost tally: { Self → Tally };
-
-    /// Two counts of the hardware at the bottom: under a monitor, that of the machine that does the work in the end.
-    ghost bottom: { Self → Bottom };
-
-    /// The greatest size that it can be given.
-    ghost most_cells: { Self → ℕ };
+    /// Its state, its four counts, the two counts at the bottom, and the greatest size that it can be given.
+    ghost machinery: { Self → Machinery };
 
     /// The machines that it may run.
     ghost serves: { Self → Desc → Type 0 };
@@ -49,77 +40,68 @@ pub trait Hardware {
     /// Only for want of memory, and then all is as before.
     fn install(&mut self, size: u32) -> Result<(), AllocError>
         requires least { 2 ≤ size }
-        requires most { size ≤ most_cells self.old }
-        ensures installed { OnOk result (state self.new ≡ blank size) }
-        ensures refused { OnErr result (state self.new ≡ state self.old) }
-        ensures tally { tally self.new ≡ tally self.old }
-        ensures bottom { bottom self.new ≡ bottom self.old }
-        ensures room { most_cells self.new ≡ most_cells self.old }
+        requires most { size ≤ (machinery self.old).room }
+        ensures installed { OnOk result (machinery self.new ≡ record (machinery self.old) { state = blank size }) }
+        ensures refused { OnErr result (machinery self.new ≡ machinery self.old) }
         ensures served { SameServed (serves self.old) (serves self.new) };
 
     /// The number of cells.
     fn size(&self) -> u32
-        ensures { result ≡ length (state self.now).cells };
+        ensures { result ≡ length (machinery self.now).state.cells };
 
     /// The greatest size that it can be given, in cells.
     fn room(&self) -> u32
-        ensures { result ≡ most_cells self.now };
+        ensures { result ≡ (machinery self.now).room };
 
     /// One step of a machine that it serves, of which its state must be one. The count of steps rises by one, and that
     /// of untrapped ones where the step began in user mode and did not trap. At the bottom a step that began in user
     /// mode counts in the same way; one that began in supervisor mode counts as a step, and maybe as an untrapped one.
     fn step(&mut self, m: &Machine)
         requires served { serves self.old m.now.desc }
-        requires state { IsState m.now.desc (state self.old) }
-        ensures state { state self.new ≡ stepped m.now.desc (state self.old) }
-        ensures tally { tally self.new ≡ after_steps (tally self.old) 1 (untrapped_at m.now.desc (state self.old)) }
-        ensures bottom { BottomRises m.now.desc 1 (state self.old) (bottom self.old) (bottom self.new) }
-        ensures room { most_cells self.new ≡ most_cells self.old }
+        requires state { IsState m.now.desc (machinery self.old).state }
+        ensures state { (machinery self.new).state ≡ stepped m.now.desc (machinery self.old).state }
+        ensures tally { (machinery self.new).tally ≡ after_steps (machinery self.old).tally 1 (untrapped_at m.now.desc (machinery self.old).state) }
+        ensures bottom { BottomRises m.now.desc 1 (machinery self.old).state (machinery self.old).bottom (machinery self.new).bottom }
+        ensures room { (machinery self.new).room ≡ (machinery self.old).room }
         ensures served { SameServed (serves self.old) (serves self.new) };
 
     /// Steps until `k` were done or one trapped, which is then the last; how many were done, from 1 to `k`, or 0 where
     /// `k` is 0. The counts rise as by so many calls of `step`, here and at the bottom.
     fn burst(&mut self, m: &Machine, k: u64) -> u64
         requires served { serves self.old m.now.desc }
-        requires state { IsState m.now.desc (state self.old) }
-        ensures count { result ≡ burst_length m.now.desc k (state self.old) }
-        ensures state { state self.new ≡ stepped_often m.now.desc result (state self.old) }
-        ensures tally { tally self.new ≡ after_steps (tally self.old) result (untrapped_among m.now.desc result (state self.old)) }
-        ensures bottom { BottomRises m.now.desc result (state self.old) (bottom self.old) (bottom self.new) }
-        ensures room { most_cells self.new ≡ most_cells self.old }
+        requires state { IsState m.now.desc (machinery self.old).state }
+        ensures count { result ≡ burst_length m.now.desc k (machinery self.old).state }
+        ensures state { (machinery self.new).state ≡ stepped_often m.now.desc result (machinery self.old).state }
+        ensures tally { (machinery self.new).tally ≡ after_steps (machinery self.old).tally result (untrapped_among m.now.desc result (machinery self.old).state) }
+        ensures bottom { BottomRises m.now.desc result (machinery self.old).state (machinery self.old).bottom (machinery self.new).bottom }
+        ensures room { (machinery self.new).room ≡ (machinery self.old).room }
         ensures served { SameServed (serves self.old) (serves self.new) };
 
     /// The word of a cell, by its address in the storage, which is below the size: R plays no part.
     fn peek(&self, at: u32) -> u64
-        requires { at < length (state self.now).cells }
-        ensures { slice_get (state self.now).cells at ≡ Some result };
+        requires { at < length (machinery self.now).state.cells }
+        ensures { slice_get (machinery self.now).state.cells at ≡ Some result };
 
     /// Sets a cell, by its address in the storage, which is below the size, to a word that has no more bits than the
     /// words of some machine that it serves. The count of pokes rises by one.
     fn poke(&mut self, at: u32, word: u64)
-        requires within { at < length (state self.old).cells }
+        requires within { at < length (machinery self.old).state.cells }
         requires word { IsServedWord (serves self.old) word }
-        ensures state { state self.new ≡ record (state self.old) { cells = slice_set (state self.old).cells at word } }
-        ensures tally { tally self.new ≡ after_poke (tally self.old) }
-        ensures bottom { bottom self.new ≡ bottom self.old }
-        ensures room { most_cells self.new ≡ most_cells self.old }
+        ensures poked { machinery self.new ≡ poked_at at word (machinery self.old) }
         ensures served { SameServed (serves self.old) (serves self.new) };
 
     /// The program status word.
     fn psw(&self) -> Psw
-        ensures { result ≡ (state self.now).psw };
+        ensures { result ≡ (machinery self.now).state.psw };
 
     /// Loads a program status word, whose P, l and b have no more bits than the addresses of some machine that it
     /// serves. They may lie past the storage. The count of loads rises by one.
     fn set_psw(&mut self, psw: Psw)
         requires { IsServedPsw (serves self.old) psw }
-        ensures state { state self.new ≡ record (state self.old) { psw = psw } }
-        ensures tally { tally self.new ≡ after_load (tally self.old) }
-        ensures bottom { bottom self.new ≡ bottom self.old }
-        ensures room { most_cells self.new ≡ most_cells self.old }
+        ensures loaded { machinery self.new ≡ loaded_with psw (machinery self.old) }
         ensures served { SameServed (serves self.old) (serves self.new) };
 
     /// The four counts, each from 0 to `2^64 - 1`.
     fn counts(&self) -> Counts
-        ensures { result ≡ tally self.now };
+        ensures { result ≡ (machinery self.now).tally };
 }

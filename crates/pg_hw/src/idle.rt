@@ -1,19 +1,19 @@
 //! The smallest hardware: it runs the machines that have no instruction, so that every step traps.
 //!
 //! It is no hardware to run guests on. It shows that the clauses of the trait can be met, and how: a storage that is a
-//! vector, a program status word, and counts that are raised in one place. The tests of the crates above use it where a
+//! vector, a program status word, and counts. The tests of the crates above use it where a
 //! hardware is only poked, peeked at, or made to trap.
 
-ghost use Rattle.std.specs.Prelude.{◌≡◌, ◌^◌, ◌<◌, ◌≤◌, [], vec_len, slice_set, slice_index};
-ghost use Rattle.pg_word.specs.Shape.{IsShape};
-ghost use Rattle.pg_word.specs.Psw.{IsPsw, packed_trap, unpacked};
-ghost use Rattle.pg_hw.specs.Tallies.{raised_by};
+ghost use Rattle.std.specs.Prelude.{◌≡◌, ◌^◌, ◌<◌, [], vec_len};
+ghost use Rattle.pg_word.specs.Psw.{power_on_psw};
+ghost use Rattle.pg_hw.specs.Tallies.{no_counts};
 ghost use Rattle.pg_hw.specs.Idling.{cause_where};
 
 use super::counts::Counts;
 use super::hardware::Hardware;
+use super::parts::{raised, trap};
 use pg_type::Machine;
-use pg_word::{Mode, Psw, Shape, pack_trap, unpack, window_len};
+use pg_word::{Cause, Psw, window_len};
 use std::alloc::{AllocError, Global};
 
 /// A hardware that serves the machines without instructions.
@@ -30,50 +30,30 @@ impl Idle {
     /// A hardware without cells, on which nothing was done.
     pub fn new(alloc: Global) -> Idle
         ensures cells { result.cells.items ≡ [] }
-        ensures psw { result.psw ≡ record { mode = Mode.S; p = 2; l = 0; b = 0 } }
-        ensures counts { result.counts ≡ record { steps = 0; untrapped = 0; pokes = 0; loads = 0 } }
+        ensures psw { result.psw ≡ power_on_psw 0 }
+        ensures counts { result.counts ≡ no_counts }
     {
         Idle {
             alloc,
             cells: Vec::new(alloc),
-            psw: Psw {
-                mode: Mode::S,
-                p: 2,
-                l: 0,
-                b: 0,
-            },
-            counts: Counts {
-                steps: 0,
-                untrapped: 0,
-                pokes: 0,
-                loads: 0,
-            },
+            psw: Psw::power_on(0),
+            counts: Counts::none(),
         }
     }
 }
 
 impl Hardware for Idle {
-    ghost use Rattle.std.specs.Prelude.{◌≡◌, ℕ, []};
+    ghost use Rattle.std.specs.Prelude.{◌≡◌, []};
+    ghost use Rattle.pg_hw.specs.Machinery.{on_its_own};
 
-    ghost state = { λ h. record { cells = h.cells.items; psw = h.psw } };
-
-    ghost tally = { λ h. h.counts };
-
-    ghost bottom = { λ h. record { steps = h.counts.steps; untrapped = h.counts.untrapped } };
-
-    ghost most_cells = { λ _. 4294967295 };
+    ghost machinery = { λ h. on_its_own h.cells.items h.psw h.counts };
 
     ghost serves = { λ _ d. d.instrs ≡ [] };
 
     fn install(&mut self, size: u32) -> Result<(), AllocError> {
         let cells = vec![in self.alloc; 0u64; size as usize]?;
         self.cells = cells;
-        self.psw = Psw {
-            mode: Mode::S,
-            p: 2,
-            l: 0,
-            b: size,
-        };
+        self.psw = Psw::power_on(size);
         Ok(())
     }
 
@@ -124,31 +104,12 @@ impl Hardware for Idle {
 }
 
 /// Why the step of a machine without instructions traps: no word at P, or no pattern for it.
-fn cause_of(p: u32, usable: u32) -> u8
+fn cause_of(p: u32, usable: u32) -> Cause
     ensures { result ≡ cause_where p usable }
 {
-    if p < usable { 3 } else { 1 }
-}
-
-/// Stores the word of a trap in cell 0, and gives the program status word that cell 1 held.
-fn trap(cells: &mut Vec<u64>, shape: &Shape, psw: Psw, cause: u8) -> Psw
-    requires shape { IsShape shape.now }
-    requires fields { IsPsw shape.now.a psw }
-    requires cause_least { 1 ≤ cause }
-    requires cause_most { cause ≤ 3 }
-    requires some { 2 ≤ vec_len cells.old }
-    ensures cells { cells.new.items ≡ slice_set cells.old.items 0 (packed_trap shape.now psw cause) }
-    ensures len { vec_len cells.new ≡ vec_len cells.old }
-    ensures psw { result ≡ unpacked shape.now.a (slice_index cells.old.items 1) }
-{
-    let loaded = unpack(shape, cells[1]);
-    cells[0] = pack_trap(shape, psw, cause);
-    loaded
-}
-
-/// A count that rises by one, and stands still at its last value.
-fn raised(count: u64) -> u64
-    ensures { result ≡ raised_by 1 count }
-{
-    count.saturating_add(1)
+    if p < usable {
+        Cause::NoPattern
+    } else {
+        Cause::Memory
+    }
 }

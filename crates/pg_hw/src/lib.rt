@@ -1,21 +1,28 @@
 //! The hardware, as its users see it: a trait, whose clauses are the machine of the 1974 paper (section 2).
 //!
-//! A hardware has a state, a storage and a program status word, which moves by *Step* and by nothing else but the calls
-//! that name it; four counts of what was done to it, and two of the hardware at the bottom, which never fall; a room, the
-//! greatest size that it can be given; and machines that it serves, which it may run. All of them are ghost members: what
-//! a user of the trait knows of an implementation is what the clauses say of these.
+//! What a user of the trait knows of an implementation is what the clauses say of two ghost members. The one is its
+//! `Machinery`: a state, which is a storage and a program status word, and which moves by *Step* and by nothing else but the
+//! calls that name it; four counts of what was done to it, and two of the hardware at the bottom, which never fall; and a
+//! room, the greatest size that it can be given. The other is the machines that it serves, which it may run.
 //!
 //! Each implementation is proved against the clauses. Nothing above this crate names one.
+//!
+//! # Modules
+//!
+//! - `hardware`: the trait. `counts`: what is counted.
+//! - `runs`: what is run on any hardware, switching on and bare runs. `laws`: of counts and bursts.
+//! - `parts`: what hardwares in memory do alike. `idle`: the smallest of them.
 #![tactic(auto)]
 
 mod counts;
 mod hardware;
 mod idle;
 pub mod laws;
+mod parts;
+mod runs;
 
 pub use counts::Counts;
 pub use hardware::Hardware;
 pub use idle::Idle;
-
-#[cfg(test)]
-mod tests;
+pub use parts::{raised, trap};
+pub use runs::{bare, power_on};

@@ -1,6 +1,6 @@
 -- Storages with other cells in a grant, and with another cell 0.
 use Rattle.std.proofs.Common.{◌≡◌, ℕ, ◌+◌, ◌<◌, ◌≤◌, List, ◌++◌, length, take, drop, slice_set, slice_index, slice_get, Some, sym, ◌∙◌, ap, arith, append_assoc, length-append}
-use Rattle.std.proofs.lemmas.List.{length-take-le, set-append_left, take-append-drop, take_at, drop_at, drop-set-lt, set-get_or, get_or_append_left, get_or-take, get_or-set_other}
+use Rattle.std.proofs.lemmas.List.{length-take-le, set-append_left, take_at, drop_at, drop-set-lt, set-get_or, get_or_append_left, get_or-take, get_or-set_other}
 use Rattle.std.proofs.lemmas.Option.{slice_get-get_or, slice_get_within, get_or_from_slice_get}
 use Rattle.std.proofs.Math.Seq.{take-set-lt}
 use Rattle.pg_routine.specs.Granting.{with_grant}
@@ -34,10 +34,6 @@ with_grant-again cells new newer base h e =
     ap (λ xs. xs ++ newer ++ drop (base + length newer) (with_grant cells base new)) (with_grant-front cells new base h)
     ∙ ap (λ xs. take base cells ++ newer ++ xs)
     (ap (λ n. drop (base + n) (with_grant cells base new)) e ∙ with_grant-rest cells new base h ∙ sym (ap (λ n. drop (base + n) cells) e))
-
--- no cells change nothing
-pub with_grant-none : (cells : List ℕ) (base : ℕ) → take base cells ++ drop base cells ≡ cells
-with_grant-none cells base = take-append-drop base cells
 
 -- ---- cell 0, and the cells before a grant
 

@@ -5,7 +5,7 @@ use Rattle.std.proofs.lemmas.List.{nil_from_length, take-append-drop, append-nil
 use Rattle.std.proofs.lemmas.Option.{get_or_from_slice_get}
 use Rattle.pg_word.specs.declared.psw.Psw.{Psw}
 use Rattle.pg_word.specs.declared.psw.Mode.TheVariants.{U}
-use Rattle.pg_word.specs.Psw.{IsPsw, packed, packed_trap, unpacked, window_len_of}
+use Rattle.pg_word.specs.Psw.{IsPsw, packed, packed_trap, power_on_psw, unpacked, window_len_of}
 use Rattle.pg_word.proofs.Words.{unpacked_packed, unpacked_packed_trap}
 use Rattle.pg_ast.specs.declared.tree.Desc.{Desc}
 use Rattle.pg_type.specs.Bodies.{After}
@@ -24,7 +24,6 @@ use Rattle.pg_routine.proofs.GrantLaws.{composed-window, guest-length, with_gran
 use Rattle.pg_monitor.specs.declared.guest.Guest.{Guest}
 use Rattle.pg_monitor.specs.Guests.{virtual}
 use Rattle.pg_monitor.specs.Direct.{ending_at, is_direct}
-use Rattle.pg_monitor.specs.Standing.{control_psw}
 use Rattle.pg_monitor.specs.Turns.{cause_of, trap_word}
 use Rattle.pg_monitor.specs.Current.{Holds, Runs}
 
@@ -137,7 +136,7 @@ DirectStep-of d real g accepted valid r calm = by_ending (ending d (window real)
 -- what it leaves: the composed program status word in cell 0, and that of cell 1 in the hardware
 pub record TrapStep (d : Desc) (real : State) (g : Guest) (v : State) : Type 0 where
   pub cells : (step d real).cells ≡ slice_set real.cells 0 (trap_word d g.base v)
-  pub psw : (step d real).psw ≡ control_psw d.size
+  pub psw : (step d real).psw ≡ power_on_psw d.size
   pub entry : unpacked d.address (slice_index (step d real).cells 0) ≡ real.psw
 
 trap_left : (d : Desc) (s : State) (e : Ending) → ends_in_trap e ≡ true → left_by d s e ≡ trapped d s (cause_of e)
@@ -150,7 +149,7 @@ step_trapped : (d : Desc) (s : State) → traps d s ≡ true → step d s ≡ tr
 unfolding step traps
 step_trapped d s h = trap_left d s (ending d (window s) s.psw) h
 
-pub control-fits : (d : Desc) → IsValid d → IsPsw d.address (control_psw d.size)
+pub control-fits : (d : Desc) → IsValid d → IsPsw d.address (power_on_psw d.size)
 control-fits d valid =
     let shape = IsShape-of_valid d valid in
     record { p = omega (arith, shape.size_least, shape.size_most); l = omega (arith, shape.size_most); b = shape.size_most }
@@ -167,7 +166,7 @@ TrapStep-of d real g valid r stops =
     ap (λ (t : State). slice_index t.cells 0) here ∙ get_or-set_same real.cells 0 (packed_trap (shape_of d) real.psw cause) 0 (omega (arith, r.holds.real_state.size_least)) in
     record {
       cells = ap (λ (t : State). t.cells) here ∙ ap (slice_set real.cells 0) word;
-      psw = ap (λ (t : State). t.psw) here ∙ ap (unpacked d.address) (get_or_from_slice_get real.cells 1 (packed d.address (control_psw d.size)) 0 r.holds.control)
-          ∙ unpacked_packed d.address (control_psw d.size) (control-fits d valid);
+      psw = ap (λ (t : State). t.psw) here ∙ ap (unpacked d.address) (get_or_from_slice_get real.cells 1 (packed d.address (power_on_psw d.size)) 0 r.holds.control)
+          ∙ unpacked_packed d.address (power_on_psw d.size) (control-fits d valid);
       entry = ap (unpacked d.address) first ∙ unpacked_packed_trap (shape_of d) real.psw cause r.holds.real_state.fields;
     }

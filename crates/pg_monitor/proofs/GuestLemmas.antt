@@ -14,7 +14,7 @@ use Rattle.pg_type.specs.Accepting.{IsAccepted}
 use Rattle.pg_type.proofs.StepSound.{steps-state}
 use Rattle.pg_hw.specs.declared.counts.Counts.{Counts}
 use Rattle.pg_hw.specs.Tallies.{Bottom, raised_by}
-use Rattle.pg_hw.proofs.TallyLaws.{raised_by-zero, RisesWithin-none}
+use Rattle.pg_hw.specs.Machinery.{Machinery}
 use Rattle.pg_hw.specs.Bursts.{traps}
 use Rattle.pg_routine.specs.Composing.{composed}
 use Rattle.pg_routine.specs.Granting.{with_grant}
@@ -27,7 +27,7 @@ use Rattle.pg_monitor.specs.Turns.{moved, trap_cell, storage_after, grants_of, c
 use Rattle.pg_monitor.specs.Current.{Holds, Runs, is_current, with_psw, Went}
 use Rattle.pg_monitor.proofs.CellLemmas.{set_first-guest, set_same}
 use Rattle.pg_monitor.proofs.DirectLemmas.{Holds-within, Holds-length, Runs-direct, DirectStep-of}
-use Rattle.pg_monitor.proofs.WentLemmas.{composed-fits}
+use Rattle.pg_monitor.proofs.WentLemmas.{composed-fits, CountsTurns-none, BottomTurns-none}
 
 -- ---- elements
 
@@ -136,9 +136,11 @@ record Moved (d : Desc) (k n : ℕ) (old now : State) (gs : List Guest) (g h : G
   pub still_grants : All (IsGrant d.size) (slice_set gs k h)
   pub disjoint : AreDisjoint (slice_set gs k h)
 
-Moved-of : (d : Desc) (k n : ℕ) (old mid now : State) (gs : List Guest) (current : Option ℕ) (g h : Guest) (t t' : Counts) (b b' : Bottom) (r r' : ℕ) (s s' : Desc → Type 0) →
-    Stands d old gs current → slice_get gs k ≡ Some g → mid.cells ≡ old.cells → Went d n mid now g h t t' b b' r r' s s' → Moved d k n old now gs g h
-Moved-of d k n old mid now gs current g h t t' b b' r r' s s' stands is same went =
+Moved-of : (d : Desc) (k n : ℕ) (old : State) (between new : Machinery) (gs : List Guest) (current : Option ℕ) (g h : Guest) →
+    Stands d old gs current → slice_get gs k ≡ Some g → between.state.cells ≡ old.cells → Went d n between new g h → Moved d k n old new.state gs g h
+Moved-of d k n old between new gs current g h stands is same went =
+    let mid = between.state in
+    let now = new.state in
     let psw = (steps d n (virtual mid.cells g)).psw in
     let who : h ≡ with_psw g psw = went.guest in
     let held = Holds-of d old gs current k g stands is in
@@ -159,10 +161,11 @@ Moved-of d k n old mid now gs current g h t t' b b' r r' s s' stands is same wen
       disjoint = subst (λ x. AreDisjoint (slice_set gs k x)) (sym who) (disjoint-set gs k g psw is stands.stands.disjoint);
     }
 
-pub Stands-went : (d : Desc) (k n : ℕ) (old mid now : State) (gs : List Guest) (current : Option ℕ) (g h : Guest) (t t' : Counts) (b b' : Bottom) (r r' : ℕ) (s s' : Desc → Type 0) →
-    IsValid d → Stands d old gs current → slice_get gs k ≡ Some g → mid.cells ≡ old.cells → Went d n mid now g h t t' b b' r r' s s' → Stands d now (slice_set gs k h) (Some k)
-Stands-went d k n old mid now gs current g h t t' b b' r r' s s' valid stands is same went =
-    let move = Moved-of d k n old mid now gs current g h t t' b b' r r' s s' stands is same went in
+pub Stands-went : (d : Desc) (k n : ℕ) (old : State) (between new : Machinery) (gs : List Guest) (current : Option ℕ) (g h : Guest) →
+    IsValid d → Stands d old gs current → slice_get gs k ≡ Some g → between.state.cells ≡ old.cells → Went d n between new g h → Stands d new.state (slice_set gs k h) (Some k)
+Stands-went d k n old between new gs current g h valid stands is same went =
+    let now = new.state in
+    let move = Moved-of d k n old between new gs current g h stands is same went in
     let at : slice_get (slice_set gs k h) k ≡ Some h = slice_get-set gs k h g is in
     record {
       stands = record {
@@ -177,20 +180,31 @@ Stands-went d k n old mid now gs current g h t t' b b' r r' s s' valid stands is
       virtual_states = subst (All (IsState d)) (sym move.states) (moved-states d k n (virtuals old.cells gs) valid stands.virtual_states);
     }
 
-pub Turned-went : (d : Desc) (k n : ℕ) (old mid now : State) (gs : List Guest) (current : Option ℕ) (g h : Guest) (t t' t'' : Counts) (b b' b'' : Bottom) (r r' : ℕ) (s s' : Desc → Type 0) →
-    Stands d old gs current → slice_get gs k ≡ Some g → mid.cells ≡ old.cells → t' ≡ record t { loads = raised_by (change_to k current) t.loads } → b' ≡ b →
-    Went d (suc n) mid now g h t' t'' b' b'' r r' s s' → Turned d k (suc n) old now gs (slice_set gs k h) current (Some k) t t'' b b''
-Turned-went d k n old mid now gs current g h t t' t'' b b' b'' r r' s s' stands is same counted bottom went =
-    let move = Moved-of d k (suc n) old mid now gs current g h t' t'' b' b'' r r' s s' stands is same went in
-    let direct : direct_among d g.base (suc n) (virtual mid.cells g) ≡ direct_among d g.base (suc n) (virtual old.cells g) =
-    ap (λ xs. direct_among d g.base (suc n) (virtual xs g)) same in
+-- a hardware on which a guest was entered, where it was not the current one
+pub record Entered (k : ℕ) (current : Option ℕ) (old new : Machinery) : Type 0 where
+  pub cells : new.state.cells ≡ old.state.cells
+  pub tally : new.tally ≡ record old.tally { loads = raised_by (change_to k current) old.tally.loads }
+  pub bottom : new.bottom ≡ old.bottom
+  pub room : new.room ≡ old.room
+
+pub Turned-went : (d : Desc) (k n : ℕ) (old between new : Machinery) (gs : List Guest) (current : Option ℕ) (g h : Guest) →
+    Stands d old.state gs current → slice_get gs k ≡ Some g → Entered k current old between → Went d (suc n) between new g h →
+    Turned d k (suc n) old new gs (slice_set gs k h) current (Some k)
+Turned-went d k n old between new gs current g h stands is entered went =
+    let mid = between.state in
+    let move = Moved-of d k (suc n) old.state between new gs current g h stands is entered.cells went in
+    let counted = entered.tally in
+    let direct : direct_among d g.base (suc n) (virtual mid.cells g) ≡ direct_among d g.base (suc n) (virtual old.state.cells g) =
+    ap (λ xs. direct_among d g.base (suc n) (virtual xs g)) entered.cells in
     record {
       guest = g;
       is_guest = is;
       states = move.states;
       grants = move.grants;
       current = refl;
-      storage = went.storage ∙ ap (λ xs. storage_after d g.base (suc n) (virtual xs g) xs) same;
+      storage = went.storage ∙ ap (λ xs. storage_after d g.base (suc n) (virtual xs g) xs) entered.cells;
+      psw = went.runs.under ∙ ap (λ (x : Guest). composed x.psw x.base x.size) went.guest
+          ∙ ap (λ xs. composed (steps d (suc n) (virtual xs g)).psw g.base g.size) entered.cells;
       tally = record {
         steps = omega (arith, went.tally.steps, ap (λ (c : Counts). c.steps) counted);
         untrapped = omega (arith, went.tally.untrapped, ap (λ (c : Counts). c.untrapped) counted, direct);
@@ -201,16 +215,18 @@ Turned-went d k n old mid now gs current g h t t' t'' b b' b'' r r' s s' stands 
         };
       };
       bottom = record {
-        steps = omega (arith, went.bottom.steps, ap (λ (c : Bottom). c.steps) bottom);
-        untrapped = omega (arith, went.bottom.untrapped, ap (λ (c : Bottom). c.untrapped) bottom, direct);
+        steps = omega (arith, went.bottom.steps, ap (λ (c : Bottom). c.steps) entered.bottom);
+        untrapped = omega (arith, went.bottom.untrapped, ap (λ (c : Bottom). c.untrapped) entered.bottom, direct);
       };
+      room = went.room ∙ entered.room;
     }
 
 -- no turn changes nothing
-pub Turned-none : (d : Desc) (k : ℕ) (real : State) (gs : List Guest) (current : Option ℕ) (g : Guest) (t : Counts) (b : Bottom) →
-    Stands d real gs current → slice_get gs k ≡ Some g → Turned d k 0 real real gs gs current current t t b b
+pub Turned-none : (d : Desc) (k : ℕ) (h : Machinery) (gs : List Guest) (current : Option ℕ) (g : Guest) →
+    Stands d h.state gs current → slice_get gs k ≡ Some g → Turned d k 0 h h gs gs current current
 unfolding steps direct_among trap_cell
-Turned-none d k real gs current g t b stands is =
+Turned-none d k h gs current g stands is =
+    let real = h.state in
     let held = Holds-of d real gs current k g stands is in
     record {
       guest = g;
@@ -219,8 +235,10 @@ Turned-none d k real gs current g t b stands is =
       grants = refl;
       current = refl;
       storage = sym (ap (λ xs. slice_set xs 0 (slice_index real.cells 0)) (with_grant-same real.cells g.base g.size (Holds-within d real g held)) ∙ set_same real.cells);
-      tally = record { steps = sym (raised_by-zero t.steps); untrapped = sym (raised_by-zero t.untrapped); loads = sym (raised_by-zero t.loads); pokes = RisesWithin-none t.pokes };
-      bottom = record { steps = sym (raised_by-zero b.steps); untrapped = sym (raised_by-zero b.untrapped) };
+      psw = refl;
+      tally = CountsTurns-none h.tally;
+      bottom = BottomTurns-none h.bottom;
+      room = refl;
     }
 
 -- ---- the current guest, and a change of guest
@@ -248,27 +266,27 @@ Runs-entered d real now g valid h is = record {
 }
 
 -- the same, of turns one at least
-pub Turned-some : (d : Desc) (k n : ℕ) (old mid now : State) (gs hs : List Guest) (current after : Option ℕ) (g h : Guest) (t t' t'' : Counts) (b b' b'' : Bottom) (r r' : ℕ) (s s' : Desc → Type 0) →
-    0 < n → Stands d old gs current → slice_get gs k ≡ Some g → mid.cells ≡ old.cells → t' ≡ record t { loads = raised_by (change_to k current) t.loads } → b' ≡ b →
-    hs ≡ slice_set gs k h → after ≡ Some k → Went d n mid now g h t' t'' b' b'' r r' s s' → Turned d k n old now gs hs current after t t'' b b''
-Turned-some d k zero old mid now gs hs current after g h t t' t'' b b' b'' r r' s s' some stands is same counted bottom set now_is went = absurd (omega arith)
-Turned-some d k (suc n) old mid now gs hs current after g h t t' t'' b b' b'' r r' s s' some stands is same counted bottom set now_is went =
-    subst (λ l. Turned d k (suc n) old now gs l current after t t'' b b'') (sym set)
-    (subst (λ o. Turned d k (suc n) old now gs (slice_set gs k h) current o t t'' b b'') (sym now_is)
-    (Turned-went d k n old mid now gs current g h t t' t'' b b' b'' r r' s s' stands is same counted bottom went))
+pub Turned-some : (d : Desc) (k n : ℕ) (old between new : Machinery) (gs hs : List Guest) (current after : Option ℕ) (g h : Guest) →
+    0 < n → Stands d old.state gs current → slice_get gs k ≡ Some g → Entered k current old between → hs ≡ slice_set gs k h → after ≡ Some k →
+    Went d n between new g h → Turned d k n old new gs hs current after
+Turned-some d k zero old between new gs hs current after g h some stands is entered set now_is went = absurd (omega arith)
+Turned-some d k (suc n) old between new gs hs current after g h some stands is entered set now_is went =
+    subst (λ l. Turned d k (suc n) old new gs l current after) (sym set)
+    (subst (λ o. Turned d k (suc n) old new gs (slice_set gs k h) current o) (sym now_is)
+    (Turned-went d k n old between new gs current g h stands is entered went))
 
-pub Stands-some : (d : Desc) (k n : ℕ) (old mid now : State) (gs hs : List Guest) (current after : Option ℕ) (g h : Guest) (t t' : Counts) (b b' : Bottom) (r r' : ℕ) (s s' : Desc → Type 0) →
-    IsValid d → Stands d old gs current → slice_get gs k ≡ Some g → mid.cells ≡ old.cells → hs ≡ slice_set gs k h → after ≡ Some k →
-    Went d n mid now g h t t' b b' r r' s s' → Stands d now hs after
-Stands-some d k n old mid now gs hs current after g h t t' b b' r r' s s' valid stands is same set now_is went =
-    subst (λ l. Stands d now l after) (sym set) (subst (λ o. Stands d now (slice_set gs k h) o) (sym now_is)
-    (Stands-went d k n old mid now gs current g h t t' b b' r r' s s' valid stands is same went))
+pub Stands-some : (d : Desc) (k n : ℕ) (old : State) (between new : Machinery) (gs hs : List Guest) (current after : Option ℕ) (g h : Guest) →
+    IsValid d → Stands d old gs current → slice_get gs k ≡ Some g → between.state.cells ≡ old.cells → hs ≡ slice_set gs k h → after ≡ Some k →
+    Went d n between new g h → Stands d new.state hs after
+Stands-some d k n old between new gs hs current after g h valid stands is same set now_is went =
+    subst (λ l. Stands d new.state l after) (sym set) (subst (λ o. Stands d new.state (slice_set gs k h) o) (sym now_is)
+    (Stands-went d k n old between new gs current g h valid stands is same went))
 
-pub Turned-zero : (d : Desc) (k n : ℕ) (real : State) (gs : List Guest) (current : Option ℕ) (t : Counts) (b : Bottom) →
-    Stands d real gs current → k < length gs → n ≡ 0 → Turned d k n real real gs gs current current t t b b
-Turned-zero d k n real gs current t b stands within none = elim ((slice_get_cases gs k).1) [
-  | inl h ↦ subst (λ m. Turned d k m real real gs gs current current t t b b) (sym none) (Turned-none d k real gs current h.0 t b stands h.2)
-  | inr h ↦ absurd (omega (arith, h.0))
+pub Turned-zero : (d : Desc) (k n : ℕ) (h : Machinery) (gs : List Guest) (current : Option ℕ) →
+    Stands d h.state gs current → k < length gs → n ≡ 0 → Turned d k n h h gs gs current current
+Turned-zero d k n h gs current stands within none = elim ((slice_get_cases gs k).1) [
+  | inl x ↦ subst (λ m. Turned d k m h h gs gs current current) (sym none) (Turned-none d k h gs current x.0 stands x.2)
+  | inr x ↦ absurd (omega (arith, x.0))
 ]
 
 not_true : (b : Bool) → not b ≡ true → b ≡ false
@@ -298,9 +316,8 @@ turn-kept d k old mid now gs current g h accepted valid stands is is' current_is
 
 -- ---- the same machine
 
-pub Went-machine : (d e : Desc) (n : ℕ) (real now : State) (g h : Guest) (t t' : Counts) (b b' : Bottom) (r r' : ℕ) (s s' : Desc → Type 0) → e ≡ d →
-    Went e n real now g h t t' b b' r r' s s' → Went d n real now g h t t' b b' r r' s s'
-Went-machine d e n real now g h t t' b b' r r' s s' same went = subst (λ x. Went x n real now g h t t' b b' r r' s s') same went
+pub Went-machine : (d e : Desc) (n : ℕ) (old new : Machinery) (g h : Guest) → e ≡ d → Went e n old new g h → Went d n old new g h
+Went-machine d e n old new g h same went = subst (λ x. Went x n old new g h) same went
 
 pub moved-machine : (d e : Desc) (mid now : State) (g : Guest) → e ≡ d → (is_direct e g.base (virtual mid.cells g) ≡ true → now ≡ step e mid) →
     is_direct d g.base (virtual mid.cells g) ≡ true → now ≡ step d mid

@@ -1,11 +1,11 @@
 -- A guest that is loaded.
 use Rattle.std.proofs.Common.{◌≡◌, ℕ, ◌+◌, ◌-◌, ◌*◌, ◌<◌, ◌≤◌, ◌^◌, Bool, true, false, pow_mono, List, [], ◌∷◌, ◌++◌, length, take, drop, replicate, All, Option, None, Some, IsSomeAnd, IsSome, is_some, Result, Ok, Err, IfErr, slice_set, slice_index, slice_get, refl, sym, ◌∙◌, ap, subst, arith, append_assoc, length-append}
-use Rattle.std.proofs.lemmas.List.{append-nil, take-append-drop, length-take-le, set-append_right, drop_more, take_all, length-set, get_or-set_same}
+use Rattle.std.proofs.lemmas.List.{append-nil, take-append-drop, length-take-le, set-append_right, drop_more, length-set, get_or-set_same}
 use Rattle.std.proofs.lemmas.Option.{slice_get-get_or}
 use Rattle.std.proofs.lemmas.List.Elements.{All-nil, All-cons, All-set}
 use Rattle.pg_word.specs.declared.shape.Shape.{Shape}
 use Rattle.pg_word.specs.declared.psw.Psw.{Psw}
-use Rattle.pg_word.specs.Psw.{IsPsw, packed}
+use Rattle.pg_word.specs.Psw.{IsPsw, packed, power_on_psw}
 use Rattle.pg_word.specs.Shape.{bits_above}
 use Rattle.pg_ast.specs.declared.tree.Desc.{Desc}
 use Rattle.pg_type.specs.declared.machine.Machine.{Machine}
@@ -14,19 +14,18 @@ use Rattle.pg_type.specs.Steps.{power_on}
 use Rattle.pg_type.specs.Valid.{IsValid}
 use Rattle.pg_type.proofs.StepSound.{power_on-state}
 use Rattle.pg_type.proofs.ValidFacts.{IsShape-of_valid}
-use Rattle.pg_hw.specs.declared.counts.Counts.{Counts}
-use Rattle.pg_hw.specs.Tallies.{Bottom, after_poke}
-use Rattle.pg_hw.specs.Serving.{SameServed}
-use Rattle.pg_hw.proofs.TallyLaws.{raised_by-zero, raised_by-add}
-use Rattle.pg_hw.proofs.ServingLaws.{SameServed-same, SameServed-then}
+use Rattle.pg_hw.specs.Tallies.{after_poke}
+use Rattle.pg_hw.specs.Machinery.{Machinery, poked_at}
+use Rattle.pg_hw.specs.Running.{after_pokes}
+use Rattle.pg_hw.proofs.PokeLemmas.{after_pokes-none, after_pokes-next}
 use Rattle.pg_routine.specs.Granting.{with_grant}
 use Rattle.pg_routine.specs.Composing.{composed}
 use Rattle.pg_routine.proofs.StateLaws.{with_grant-length}
 use Rattle.pg_monitor.specs.declared.guest.Guest.{Guest}
 use Rattle.pg_monitor.specs.Guests.{virtual, virtuals, IsGrant, AreApart}
-use Rattle.pg_monitor.specs.Standing.{control_psw, IsUnder, Stands}
+use Rattle.pg_monitor.specs.Standing.{IsUnder, Stands}
 use Rattle.pg_monitor.specs.Turns.{grants_of}
-use Rattle.pg_monitor.specs.Loading.{free_base, Loaded}
+use Rattle.pg_monitor.specs.Loading.{free_base, with_words}
 use Rattle.pg_monitor.proofs.FitLemmas.{free_base-first, free_base-full}
 use Rattle.pg_monitor.proofs.CellLemmas.{with_grant-before, cell_of}
 use Rattle.pg_monitor.proofs.RunLemmas.{virtual-own}
@@ -55,32 +54,23 @@ grant_more cells new base w within =
     regroup : (a b : List ℕ) (w : ℕ) (c : List ℕ) → (a ++ b) ++ w ∷ c ≡ (a ++ (b ++ w ∷ [])) ++ c
     regroup a b w c = sym (ap (λ xs. xs ++ c) (sym (append_assoc a b (w ∷ []))) ∙ append_assoc (a ++ b) (w ∷ []) c)
 
-pub Loaded-none : (base : ℕ) (words : List ℕ) (s : State) (c : Counts) (low : Bottom) (room : ℕ) (served : Desc → Type 0) → Loaded base words 0 s s c c low low room room served served
-Loaded-none base words s c low room served = record {
-  state = ap (λ xs. let t : State = record { cells = xs; psw = s.psw } in t) (sym (grant_none s.cells base));
-  tally = rw (raised_by-zero c.pokes) refl;
-  bottom = refl;
-  room = refl;
-  served = SameServed-same served;
-}
+pub with_words-none : (base : ℕ) (h : Machinery) → h ≡ with_words base [] h
+with_words-none base h =
+    ap (λ xs. let k : Machinery = record h { state = record h.state { cells = xs } } in k) (sym (grant_none h.state.cells base))
+    ∙ ap (λ c. let k : Machinery = record h { state = record h.state { cells = with_grant h.state.cells base [] }; tally = c } in k) (after_pokes-none h.tally)
 
-pub Loaded-next : (base : ℕ) (words : List ℕ) (n word : ℕ) (start mid now : State) (a b c : Counts) (low between high : Bottom) (r r' r'' : ℕ) (s s' s'' : Desc → Type 0) →
-    Loaded base words n start mid a b low between r r' s s' → n < length words → base + length words ≤ length start.cells → take (n + 1) words ≡ take n words ++ word ∷ [] →
-    now ≡ record mid { cells = slice_set mid.cells (base + n) word } → c ≡ after_poke b → high ≡ between → r'' ≡ r' → SameServed s' s'' →
-    Loaded base words (n + 1) start now a c low high r r'' s s''
-Loaded-next base words n word start mid now a b c low between high r r' r'' s s' s'' p few within one more counted same room served =
+pub with_words-next : (base : ℕ) (words : List ℕ) (n word : ℕ) (old mid new : Machinery) → mid ≡ with_words base (take n words) old → n < length words →
+    base + length words ≤ length old.state.cells → take (n + 1) words ≡ take n words ++ word ∷ [] → new ≡ poked_at (base + n) word mid →
+    new ≡ with_words base (take (n + 1) words) old
+with_words-next base words n word old mid new p few within one more =
     let len : length (take n words) ≡ n = length-take-le n words (omega arith) in
-    record {
-      state = more
-          ∙ ap (λ (t : State). let u : State = record { cells = slice_set t.cells (base + n) word; psw = t.psw } in u) p.state
-          ∙ ap (λ xs. let u : State = record { cells = xs; psw = start.psw } in u)
-          (ap (λ k. slice_set (with_grant start.cells base (take n words)) (base + k) word) (sym len)
-          ∙ grant_more start.cells (take n words) base word (omega (arith, len)) ∙ ap (with_grant start.cells base) (sym one));
-      tally = counted ∙ ap after_poke p.tally ∙ rw (raised_by-add n 1 a.pokes) refl;
-      bottom = same ∙ p.bottom;
-      room = room ∙ p.room;
-      served = SameServed-then s s' s'' p.served served;
-    }
+    more ∙ ap (poked_at (base + n) word) p
+    ∙ ap (λ k. poked_at (base + k) word (with_words base (take n words) old)) (sym len)
+    ∙ ap (λ xs. let h : Machinery = record old { state = record old.state { cells = xs }; tally = after_poke (after_pokes old.tally (length (take n words))) } in h)
+    (grant_more old.state.cells (take n words) base word (omega (arith, len)))
+    ∙ ap (λ c. let h : Machinery = record old { state = record old.state { cells = with_grant old.state.cells base (take n words ++ word ∷ []) }; tally = c } in h)
+    (after_pokes-next (length (take n words)) old.tally ∙ ap (after_pokes old.tally) (sym (length-append (take n words) (word ∷ []))))
+    ∙ ap (λ xs. with_words base xs old) (sym one)
 
 -- ---- a monitor that takes the storage
 
@@ -96,9 +86,12 @@ control-word d word valid h =
     bits_few true n w h = omega arith
     bits_few false n w h = h
 
-pub Stands-new : (d : Desc) (old now : State) (word : ℕ) → IsValid d → IsState d old → length old.cells ≡ d.size → now ≡ record old { cells = slice_set old.cells 1 word } →
-    word ≡ packed d.address (control_psw d.size) → word < 2 ^ d.word → Stands d now [] None
-Stands-new d old now word valid h size is word_is fits =
+pub Stands-new : (d : Desc) (before after : Machinery) (word : ℕ) → IsValid d → IsState d before.state → length before.state.cells ≡ d.size → after ≡ poked_at 1 word before →
+    word ≡ packed d.address (power_on_psw d.size) → word < 2 ^ d.word → Stands d after.state [] None
+Stands-new d before after word valid h size poked word_is fits =
+    let old = before.state in
+    let now = after.state in
+    let is : now ≡ record old { cells = slice_set old.cells 1 word } = ap (λ (x : Machinery). x.state) poked in
     let same : length now.cells ≡ length old.cells = ap (λ (t : State). length t.cells) is ∙ length-set old.cells 1 word in
     let fields : IsPsw d.address now.psw = subst (λ (t : State). IsPsw d.address t.psw) (sym is) h.fields in
     record {
@@ -125,19 +118,19 @@ Stands-new d old now word valid h size is word_is fits =
 
 -- a guest that is switched on with an image as large as its grant
 abbrev pub first_guest : List ℕ → Guest
-first_guest image = record { base = 2; size = length image; psw = control_psw (length image) }
+first_guest image = record { base = 2; size = length image; psw = power_on_psw (length image) }
 
-pub power_on-whole : (image : List ℕ) → power_on image (length image) ≡ record { cells = image; psw = control_psw (length image) }
+pub power_on-whole : (image : List ℕ) → power_on image (length image) ≡ record { cells = image; psw = power_on_psw (length image) }
 unfolding power_on
 power_on-whole image =
     let none : length image - length image ≡ 0 = omega arith in
-    ap (λ (k : ℕ). let t : State = record { cells = image ++ replicate k 0; psw = control_psw (length image) } in t) none
-    ∙ ap (λ xs. let t : State = record { cells = xs; psw = control_psw (length image) } in t) (append-nil image)
+    ap (λ (k : ℕ). let t : State = record { cells = image ++ replicate k 0; psw = power_on_psw (length image) } in t) none
+    ∙ ap (λ xs. let t : State = record { cells = xs; psw = power_on_psw (length image) } in t) (append-nil image)
 
 pub virtual-loaded : (old now : State) (image : List ℕ) → now ≡ record old { cells = with_grant old.cells 2 image } → 2 ≤ length old.cells →
     virtual now.cells (first_guest image) ≡ power_on image (length image)
 virtual-loaded old now image is some =
-    let s : State = record { cells = image; psw = control_psw (length image) } in
+    let s : State = record { cells = image; psw = power_on_psw (length image) } in
     virtual-own old.cells now.cells 2 (length image) s (ap (λ (t : State). t.cells) is) some refl ∙ sym (power_on-whole image)
 
 none_current : (real : State) (gs : List Guest) (current : Option ℕ) → gs ≡ [] → IsUnder real gs current → current ≡ None
@@ -150,13 +143,13 @@ pub Stands-loaded : (d : Desc) (old now : State) (gs gs' : List Guest) (current 
     gs' ≡ gs ++ first_guest image ∷ [] → current' ≡ current → Stands d now gs' current'
 Stands-loaded d old now gs gs' current current' image valid s none least room words is guests same =
     let own : IsState d (power_on image (length image)) = power_on-state d image (length image) valid least (omega arith) (omega arith) words in
-    let whole : IsState d (record { cells = image; psw = control_psw (length image) }) = subst (IsState d) (power_on-whole image) own in
+    let whole : IsState d (record { cells = image; psw = power_on_psw (length image) }) = subst (IsState d) (power_on-whole image) own in
     let cells : now.cells ≡ with_grant old.cells 2 image = ap (λ (t : State). t.cells) is in
     let within : 2 + length image ≤ length old.cells = omega (arith, s.stands.size, room) in
     let size : length now.cells ≡ length old.cells = ap length cells ∙ with_grant-length old.cells image 2 within in
     let who : gs' ≡ first_guest image ∷ [] = guests ∙ ap (λ l. l ++ first_guest image ∷ []) none in
     let nobody : current' ≡ None = same ∙ none_current old gs current none s.stands.under in
-    let real : IsState d now = granted-state d old (record { cells = image; psw = control_psw (length image) }) 2 now s.real_state whole within cells
+    let real : IsState d now = granted-state d old (record { cells = image; psw = power_on_psw (length image) }) 2 now s.real_state whole within cells
     (subst (λ (t : State). IsPsw d.address t.psw) (sym is) s.real_state.fields) in
     let states : Stands d now (first_guest image ∷ []) None = record {
       stands = record {
@@ -164,7 +157,7 @@ Stands-loaded d old now gs gs' current current' image valid s none least room wo
         grants = All-cons (IsGrant d.size) (first_guest image) [] (record { above = omega arith; least = least; within = room }) (All-nil (IsGrant d.size));
         disjoint = (All-nil (AreApart (first_guest image)), tt);
         guests = refl;
-        control = cell_of old.cells now.cells 1 (packed d.address (control_psw d.size)) size
+        control = cell_of old.cells now.cells 1 (packed d.address (power_on_psw d.size)) size
             (ap (λ xs. slice_index xs 1) cells ∙ with_grant-before old.cells image 2 1 (omega (arith, within)) (omega arith)) s.stands.control;
         under = tt;
       };
@@ -209,21 +202,22 @@ if-any (Err e) P every = every e
 pub shape-same : (shape : Shape) (m n : Machine) → shape ≡ shape_of m.desc → m ≡ n → shape ≡ shape_of n.desc
 shape-same shape m n is same = is ∙ ap (λ (x : Machine). shape_of x.desc) same
 
-pub control-is : (d : Desc) (shape : Shape) (word : ℕ) (psw : Psw) → shape ≡ shape_of d → word ≡ packed shape.a psw → psw ≡ control_psw shape.q → word ≡ packed d.address (control_psw d.size)
+pub control-is : (d : Desc) (shape : Shape) (word : ℕ) (psw : Psw) → shape ≡ shape_of d → word ≡ packed shape.a psw → psw ≡ power_on_psw shape.q → word ≡ packed d.address (power_on_psw d.size)
 control-is d shape word psw same is psw_is =
-    is ∙ ap (packed shape.a) psw_is ∙ ap (λ (s : Shape). packed s.a (control_psw s.q)) same
+    is ∙ ap (packed shape.a) psw_is ∙ ap (λ (s : Shape). packed s.a (power_on_psw s.q)) same
 
 -- ---- what was poked is the image
 
-pub image-state : (old now : State) (words image : List ℕ) → words ≡ image → now ≡ record old { cells = with_grant old.cells 2 (take (length words) words) } →
-    now ≡ record old { cells = with_grant old.cells 2 image }
-image-state old now words image same is =
-    is ∙ ap (λ xs. let t : State = record { cells = with_grant old.cells 2 xs; psw = old.psw } in t) (take_all (length words) words (omega arith) ∙ same)
+pub image-loaded : (old new : Machinery) (words image : List ℕ) → words ≡ image → new ≡ with_words 2 words old → new ≡ with_words 2 image old
+image-loaded old new words image same is = is ∙ ap (λ xs. with_words 2 xs old) same
+
+pub image-state : (old new : Machinery) (words image : List ℕ) → words ≡ image → new ≡ with_words 2 words old → new.state ≡ record old.state { cells = with_grant old.state.cells 2 image }
+image-state old new words image same is = ap (λ (h : Machinery). h.state) (image-loaded old new words image same is)
 
 abbrev guest_of : ℕ → Psw → Guest
 guest_of n x = record { base = 2; size = n; psw = x }
 
-pub image-guests : (gs hs : List Guest) (words image : List ℕ) (psw : Psw) → words ≡ image → psw ≡ control_psw (length words) →
+pub image-guests : (gs hs : List Guest) (words image : List ℕ) (psw : Psw) → words ≡ image → psw ≡ power_on_psw (length words) →
     hs ≡ gs ++ record { base = 2; size = length words; psw = psw } ∷ [] → hs ≡ gs ++ first_guest image ∷ []
 image-guests gs hs words image psw same psw_is is =
     is ∙ ap (λ (x : Psw). gs ++ guest_of (length words) x ∷ []) psw_is ∙ ap (λ xs. gs ++ first_guest xs ∷ []) same

@@ -5,25 +5,25 @@ use Rattle.std.proofs.lemmas.Bool.{eqb-true, eqb-false}
 use Rattle.std.proofs.lemmas.List.{length-take-le, length-append, length-set, length-map, drop_more, drop_all, get_or-set_same, get_or-set_other, get_or_append_left, get_or-append_right, get_or-take, get_or-drop}
 use Rattle.std.proofs.lemmas.List.Elements.{All-nil, All-cons, All-head, All-tail}
 use Rattle.std.proofs.lemmas.Option.{slice_get-get_or, slice_get_past, slice_get_cases}
+use Rattle.pg_word.specs.declared.psw.Psw.{Psw}
 use Rattle.pg_ast.specs.declared.tree.Desc.{Desc}
 use Rattle.pg_type.specs.States.{State}
 use Rattle.pg_type.specs.Steps.{steps}
 use Rattle.pg_type.specs.Valid.{IsValid}
 use Rattle.pg_type.proofs.StepLaws.{steps-add}
 use Rattle.pg_type.proofs.StepSound.{steps-length}
-use Rattle.pg_hw.specs.declared.counts.Counts.{Counts}
-use Rattle.pg_hw.specs.Tallies.{Bottom}
-use Rattle.pg_hw.proofs.TallyLaws.{raised_by-zero, RisesWithin-none}
+use Rattle.pg_hw.specs.Machinery.{Machinery}
+use Rattle.pg_routine.specs.Composing.{composed}
 use Rattle.pg_routine.specs.Granting.{with_grant}
 use Rattle.pg_routine.proofs.StateLaws.{with_grant-length}
 use Rattle.pg_monitor.specs.declared.guest.Guest.{Guest}
 use Rattle.pg_monitor.specs.Guests.{virtual, virtuals}
 use Rattle.pg_monitor.specs.Direct.{direct_among}
 use Rattle.pg_monitor.specs.Standing.{Stands}
-use Rattle.pg_monitor.specs.Turns.{moved, trap_cell, grants_of, changes_in, CountsTurns, BottomTurns, Turned}
-use Rattle.pg_monitor.specs.Plans.{after_plan, turns_of, turns_for, direct_turns, direct_of, cell_turns, cell_behind, current_of, changes_of, Followed}
+use Rattle.pg_monitor.specs.Turns.{moved, trap_cell, psw_after, grants_of, changes_in, CountsTurns, BottomTurns, Turned}
+use Rattle.pg_monitor.specs.Plans.{after_plan, turns_of, turns_for, direct_turns, direct_of, cell_turns, cell_behind, psw_turns, psw_behind, current_of, changes_of, Followed}
 use Rattle.pg_monitor.proofs.DirectLemmas.{Holds-within, Holds-length}
-use Rattle.pg_monitor.proofs.WentLemmas.{CountsTurns-add, BottomTurns-add, direct_among-most}
+use Rattle.pg_monitor.proofs.WentLemmas.{CountsTurns-none, BottomTurns-none, CountsTurns-add, BottomTurns-add, direct_among-most}
 use Rattle.pg_monitor.proofs.GuestLemmas.{All-at, virtuals-at, Holds-of}
 
 -- ---- cells outside the grants
@@ -128,6 +128,34 @@ cell_behind-grants d gs hs (turn ∷ plan) ss held e =
     ap (cell_behind d hs plan (moved d turn.0 turn.1 ss)) (cell_turns-grants d gs hs turn.0 (slice_get ss turn.0) turn.1 held e)
     ∙ cell_behind-grants d gs hs plan (moved d turn.0 turn.1 ss) (cell_turns d (slice_get gs turn.0) (slice_get ss turn.0) turn.1 held) e
 
+-- ---- the program status word
+
+psw-grant : (d : Desc) (g h : Guest) (s : State) (n : ℕ) (held : Psw) → h.base ≡ g.base → h.size ≡ g.size → psw_after d h n s held ≡ psw_after d g n s held
+psw-grant d g h s zero held base size = refl
+psw-grant d g h s (suc n) held base size =
+    ap (λ b. composed (steps d (suc n) s).psw b h.size) base ∙ ap (λ x. composed (steps d (suc n) s).psw g.base x) size
+
+psw_turns-grant : (d : Desc) (g h : Guest) (s : Option State) (n : ℕ) (held : Psw) → h.base ≡ g.base → h.size ≡ g.size → psw_turns d (Some h) s n held ≡ psw_turns d (Some g) s n held
+psw_turns-grant d g h None n held base size = refl
+psw_turns-grant d g h (Some s) n held base size = psw-grant d g h s n held base size
+
+psw_turns-grants : (d : Desc) (gs hs : List Guest) (k : ℕ) (s : Option State) (n : ℕ) (held : Psw) → grants_of hs ≡ grants_of gs →
+    psw_turns d (slice_get hs k) s n held ≡ psw_turns d (slice_get gs k) s n held
+psw_turns-grants d [] [] k s n held e = refl
+psw_turns-grants d [] (h ∷ hs) k s n held e = absurd (let wrong : ⊥ = cc in wrong)
+psw_turns-grants d (g ∷ gs) [] k s n held e = absurd (let wrong : ⊥ = cc in wrong)
+psw_turns-grants d (g ∷ gs) (h ∷ hs) zero s n held e =
+    let first : (h.base, h.size) ≡ (g.base, g.size) = cc in psw_turns-grant d g h s n held (ap (λ (p : ℕ × ℕ). p.0) first) (ap (λ (p : ℕ × ℕ). p.1) first)
+psw_turns-grants d (g ∷ gs) (h ∷ hs) (suc k) s n held e =
+    let rest : grants_of hs ≡ grants_of gs = cc in psw_turns-grants d gs hs k s n held rest
+
+psw_behind-grants : (d : Desc) (gs hs : List Guest) (plan : List (ℕ × ℕ)) (ss : List State) (held : Psw) → grants_of hs ≡ grants_of gs →
+    psw_behind d hs plan ss held ≡ psw_behind d gs plan ss held
+psw_behind-grants d gs hs [] ss held e = refl
+psw_behind-grants d gs hs (turn ∷ plan) ss held e =
+    ap (psw_behind d hs plan (moved d turn.0 turn.1 ss)) (psw_turns-grants d gs hs turn.0 (slice_get ss turn.0) turn.1 held e)
+    ∙ psw_behind-grants d gs hs plan (moved d turn.0 turn.1 ss) (psw_turns d (slice_get gs turn.0) (slice_get ss turn.0) turn.1 held) e
+
 -- ---- the turns of one guest
 
 moved-own : (d : Desc) (j n : ℕ) (ss : List State) → slice_get (moved d j n ss) j ≡ option_map (steps d n) (slice_get ss j)
@@ -165,29 +193,39 @@ after_plan-at d (turn ∷ plan) ss j =
     ∙ ap (option_map (steps d (turns_for j plan))) (moved-at d turn.0 turn.1 j ss (turn.0 == j) refl)
     ∙ on-more d (if turn.0 == j then turn.1 else 0) (turns_for j plan) (slice_get ss j)
 
-pub Followed-own : (d : Desc) (plan : List (ℕ × ℕ)) (old new : State) (gs hs : List Guest) (c c' : Option ℕ) (t t' : Counts) (b b' : Bottom) → Followed d plan old new gs hs c c' t t' b b' →
-    (j : ℕ) → slice_get (virtuals new.cells hs) j ≡ option_map (steps d (turns_for j plan)) (slice_get (virtuals old.cells gs) j)
-Followed-own d plan old new gs hs c c' t t' b b' followed j =
-    ap (λ ss. slice_get ss j) followed.states ∙ after_plan-at d plan (virtuals old.cells gs) j
+pub Followed-own : (d : Desc) (plan : List (ℕ × ℕ)) (old new : Machinery) (gs hs : List Guest) (c c' : Option ℕ) → Followed d plan old new gs hs c c' →
+    (j : ℕ) → slice_get (virtuals new.state.cells hs) j ≡ option_map (steps d (turns_for j plan)) (slice_get (virtuals old.state.cells gs) j)
+Followed-own d plan old new gs hs c c' followed j =
+    ap (λ ss. slice_get ss j) followed.states ∙ after_plan-at d plan (virtuals old.state.cells gs) j
 
 -- ---- plans
 
-pub Followed-none : (d : Desc) (s : State) (gs : List Guest) (current : Option ℕ) (t : Counts) (b : Bottom) → Followed d [] s s gs gs current current t t b b
-Followed-none d s gs current t b = record {
+pub Followed-none : (d : Desc) (h : Machinery) (gs : List Guest) (current : Option ℕ) → Followed d [] h h gs gs current current
+Followed-none d h gs current = record {
   states = refl;
   grants = refl;
   current = refl;
   outside = λ at some out. refl;
   cell_0 = refl;
-  tally = record { steps = sym (raised_by-zero t.steps); untrapped = sym (raised_by-zero t.untrapped); loads = sym (raised_by-zero t.loads); pokes = RisesWithin-none t.pokes };
-  bottom = record { steps = sym (raised_by-zero b.steps); untrapped = sym (raised_by-zero b.untrapped) };
+  psw = refl;
+  tally = CountsTurns-none h.tally;
+  bottom = BottomTurns-none h.bottom;
+  room = refl;
 }
 
 -- the turns of one pair, and then those of the others
-pub Followed-next : (d : Desc) (turn : ℕ × ℕ) (plan : List (ℕ × ℕ)) (old mid now : State) (gs hs ks : List Guest) (c c' c'' : Option ℕ) (t t' t'' : Counts) (b b' b'' : Bottom) →
-    IsValid d → Stands d old gs c → Turned d turn.0 turn.1 old mid gs hs c c' t t' b b' → Followed d plan mid now hs ks c' c'' t' t'' b' b'' →
-    Followed d (turn ∷ plan) old now gs ks c c'' t t'' b b''
-Followed-next d turn plan old mid now gs hs ks c c' c'' t t' t'' b b' b'' valid stands one rest =
+pub Followed-next : (d : Desc) (turn : ℕ × ℕ) (plan : List (ℕ × ℕ)) (before between after : Machinery) (gs hs ks : List Guest) (c c' c'' : Option ℕ) →
+    IsValid d → Stands d before.state gs c → Turned d turn.0 turn.1 before between gs hs c c' → Followed d plan between after hs ks c' c'' →
+    Followed d (turn ∷ plan) before after gs ks c c''
+Followed-next d turn plan before between after gs hs ks c c' c'' valid stands one rest =
+    let old = before.state in
+    let mid = between.state in
+    let t = before.tally in
+    let t' = between.tally in
+    let t'' = after.tally in
+    let b = before.bottom in
+    let b' = between.bottom in
+    let b'' = after.bottom in
     let k = turn.0 in
     let n = turn.1 in
     let g = one.guest in
@@ -202,6 +240,9 @@ Followed-next d turn plan old mid now gs hs ks c c' c'' t t' t'' b b' b'' valid 
     let turned : cell_turns d (slice_get gs k) (slice_get ss k) n (slice_index old.cells 0) ≡ w =
     ap (λ o. cell_turns d o (slice_get ss k) n (slice_index old.cells 0)) one.is_guest
     ∙ ap (λ o. cell_turns d (Some g) o n (slice_index old.cells 0)) (virtuals-at old.cells gs k g one.is_guest) in
+    let under : psw_turns d (slice_get gs k) (slice_get ss k) n old.psw ≡ psw_after d g n v old.psw =
+    ap (λ o. psw_turns d o (slice_get ss k) n old.psw) one.is_guest
+    ∙ ap (λ o. psw_turns d (Some g) o n old.psw) (virtuals-at old.cells gs k g one.is_guest) in
     let first : direct_turns d (slice_get gs k) (slice_get ss k) n ≡ direct_among d g.base n v =
     ap (λ o. direct_turns d o (slice_get ss k) n) one.is_guest ∙ ap (λ o. direct_turns d (Some g) o n) (virtuals-at old.cells gs k g one.is_guest) in
     let others : direct_of d hs plan (virtuals mid.cells hs) ≡ direct_of d gs plan (moved d k n ss) =
@@ -223,30 +264,34 @@ Followed-next d turn plan old mid now gs hs ks c c' c'' t t' t'' b b' b'' valid 
           ∙ ap (λ xs. cell_behind d hs plan xs (slice_index mid.cells 0)) one.states
           ∙ cell_behind-grants d gs hs plan (moved d k n ss) (slice_index mid.cells 0) one.grants
           ∙ ap (cell_behind d gs plan (moved d k n ss)) (cell ∙ sym turned);
+      psw = rest.psw
+          ∙ ap (λ xs. psw_behind d hs plan xs mid.psw) one.states
+          ∙ psw_behind-grants d gs hs plan (moved d k n ss) mid.psw one.grants
+          ∙ ap (psw_behind d gs plan (moved d k n ss)) (one.psw ∙ sym under);
       tally = subst (λ x. CountsTurns (turns_of (turn ∷ plan)) (direct_of d gs (turn ∷ plan) ss) x t t'') (sym changes)
           (subst (λ x. CountsTurns (n + turns_of plan) x (changes_in k n c + changes_of plan c') t t'') (sym all)
           (CountsTurns-add n (turns_of plan) (direct_among d g.base n v) (direct_of d hs plan (virtuals mid.cells hs)) (changes_in k n c) (changes_of plan c') t t' t''
           (direct_among-most d g.base n v) (direct_of-most d hs plan (virtuals mid.cells hs)) one.tally rest.tally));
       bottom = subst (λ x. BottomTurns (n + turns_of plan) x b b'') (sym all)
           (BottomTurns-add n (turns_of plan) (direct_among d g.base n v) (direct_of d hs plan (virtuals mid.cells hs)) b b' b'' one.bottom rest.bottom);
+      room = rest.room ∙ one.room;
     }
 
 -- the turns of the pair at a place, and then those of the pairs behind it
-pub Followed-on : (d : Desc) (plan : List (ℕ × ℕ)) (i : ℕ) (e : ℕ × ℕ) (old mid now : State) (gs hs ks : List Guest) (c c' c'' : Option ℕ) (t t' t'' : Counts) (b b' b'' : Bottom) →
-    IsValid d → Stands d old gs c → i < length plan → Turned d (get_or plan i e).0 (get_or plan i e).1 old mid gs hs c c' t t' b b' →
-    Followed d (drop (i + 1) plan) mid now hs ks c' c'' t' t'' b' b'' → Followed d (drop i plan) old now gs ks c c'' t t'' b b''
-Followed-on d plan i e old mid now gs hs ks c c' c'' t t' t'' b b' b'' valid stands within one rest =
-    subst (λ l. Followed d l old now gs ks c c'' t t'' b b'') (sym (drop_more plan i e within))
-    (Followed-next d (get_or plan i e) (drop (i + 1) plan) old mid now gs hs ks c c' c'' t t' t'' b b' b'' valid stands one rest)
+pub Followed-on : (d : Desc) (plan : List (ℕ × ℕ)) (i : ℕ) (e : ℕ × ℕ) (old mid new : Machinery) (gs hs ks : List Guest) (c c' c'' : Option ℕ) →
+    IsValid d → Stands d old.state gs c → i < length plan → Turned d (get_or plan i e).0 (get_or plan i e).1 old mid gs hs c c' →
+    Followed d (drop (i + 1) plan) mid new hs ks c' c'' → Followed d (drop i plan) old new gs ks c c''
+Followed-on d plan i e old mid new gs hs ks c c' c'' valid stands within one rest =
+    subst (λ l. Followed d l old new gs ks c c'') (sym (drop_more plan i e within))
+    (Followed-next d (get_or plan i e) (drop (i + 1) plan) old mid new gs hs ks c c' c'' valid stands one rest)
 
-pub Followed-end : (d : Desc) (plan : List (ℕ × ℕ)) (i : ℕ) (s : State) (gs : List Guest) (current : Option ℕ) (t : Counts) (b : Bottom) → length plan ≤ i →
-    Followed d (drop i plan) s s gs gs current current t t b b
-Followed-end d plan i s gs current t b past =
-    subst (λ l. Followed d l s s gs gs current current t t b b) (sym (drop_all i plan past)) (Followed-none d s gs current t b)
+pub Followed-end : (d : Desc) (plan : List (ℕ × ℕ)) (i : ℕ) (h : Machinery) (gs : List Guest) (current : Option ℕ) → length plan ≤ i →
+    Followed d (drop i plan) h h gs gs current current
+Followed-end d plan i h gs current past =
+    subst (λ l. Followed d l h h gs gs current current) (sym (drop_all i plan past)) (Followed-none d h gs current)
 
-pub Turned-machine : (d e : Desc) (k n : ℕ) (old new : State) (gs hs : List Guest) (c c' : Option ℕ) (t t' : Counts) (b b' : Bottom) → e ≡ d →
-    Turned e k n old new gs hs c c' t t' b b' → Turned d k n old new gs hs c c' t t' b b'
-Turned-machine d e k n old new gs hs c c' t t' b b' same one = subst (λ x. Turned x k n old new gs hs c c' t t' b b') same one
+pub Turned-machine : (d e : Desc) (k n : ℕ) (old new : Machinery) (gs hs : List Guest) (c c' : Option ℕ) → e ≡ d → Turned e k n old new gs hs c c' → Turned d k n old new gs hs c c'
+Turned-machine d e k n old new gs hs c c' same one = subst (λ x. Turned x k n old new gs hs c c') same one
 
 pub grants-length : (gs hs : List Guest) → grants_of hs ≡ grants_of gs → length hs ≡ length gs
 grants-length gs hs e = sym (length-map hs (λ (g : Guest). (g.base, g.size))) ∙ ap length e ∙ length-map gs (λ (g : Guest). (g.base, g.size))

@@ -3,7 +3,7 @@ use Rattle.std.proofs.Common.{◌≡◌, ℕ, zero, suc, ◌+◌, ◌<◌, ◌�
 use Rattle.pg_word.specs.declared.psw.Psw.{Psw}
 use Rattle.pg_word.specs.declared.psw.Mode.{Mode}
 use Rattle.pg_word.specs.declared.psw.Mode.TheVariants.{S, U}
-use Rattle.pg_word.specs.Psw.{packed}
+use Rattle.pg_word.specs.Psw.{packed, power_on_psw}
 use Rattle.pg_ast.specs.declared.tree.Desc.{Desc}
 use Rattle.pg_type.specs.States.{State, IsState}
 use Rattle.pg_type.specs.Steps.{step, steps}
@@ -17,7 +17,6 @@ use Rattle.pg_routine.proofs.StateLaws.{with_grant-length}
 use Rattle.pg_monitor.specs.declared.guest.Guest.{Guest}
 use Rattle.pg_monitor.specs.Guests.{virtual}
 use Rattle.pg_monitor.specs.Direct.{is_direct, direct_among}
-use Rattle.pg_monitor.specs.Standing.{control_psw}
 use Rattle.pg_monitor.specs.Turns.{trap_cell, trap_word}
 use Rattle.pg_monitor.specs.Current.{Holds, Runs, with_psw}
 use Rattle.pg_monitor.proofs.CellLemmas.{with_grant-own, with_grant-again, with_grant-before, cell_of}
@@ -39,7 +38,7 @@ Holds-next d real now g s h e len now_state s_state =
     record {
       size = same ∙ h.size;
       grant = record { above = h.grant.above; least = h.grant.least; within = h.grant.within };
-      control = cell_of real.cells now.cells 1 (packed d.address (control_psw d.size)) same
+      control = cell_of real.cells now.cells 1 (packed d.address (power_on_psw d.size)) same
           (ap (λ xs. slice_index xs 1) e ∙ with_grant-before real.cells s.cells g.base 1 (omega (arith, within)) (omega (arith, h.grant.above))) h.control;
       real_state = now_state;
       virtual_state = subst (IsState d) (sym (virtual-own real.cells now.cells g.base g.size s e (omega (arith, within)) len)) s_state;

@@ -1,5 +1,5 @@
 -- Turns of the current guest: a burst, what is interpreted behind it, and turns after turns.
-use Rattle.std.proofs.Common.{◌≡◌, ℕ, zero, suc, ◌+◌, ◌-◌, ◌<◌, ◌≤◌, ◌^◌, Bool, true, false, not, ◌&&◌, min, nat_lt, if◌then◌else◌, List, ◌++◌, length, take, drop, slice_set, slice_index, slice_get, Some, All, pow_mono, refl, sym, ◌∙◌, ap, subst, arith, add-zero, add-suc}
+use Rattle.std.proofs.Common.{◌≡◌, ℕ, zero, suc, ◌+◌, ◌-◌, ◌<◌, ◌≤◌, ◌^◌, Bool, true, false, not, ◌&&◌, min, nat_lt, if◌then◌else◌, List, ◌++◌, length, take, drop, slice_set, slice_index, slice_get, Some, All, pow_mono, lit<, refl, sym, ◌∙◌, ap, subst, arith, add-zero, add-suc}
 use Rattle.std.proofs.lemmas.Bool.{ltb-true}
 use Rattle.std.proofs.lemmas.List.{set-set, get_or-set_same, length-set}
 use Rattle.std.proofs.lemmas.List.Elements.{All-append, All-take, All-drop}
@@ -7,7 +7,7 @@ use Rattle.std.proofs.lemmas.Option.{get_or_from_slice_get}
 use Rattle.pg_word.specs.declared.shape.Shape.{Shape}
 use Rattle.pg_word.specs.declared.psw.Psw.{Psw}
 use Rattle.pg_word.specs.declared.psw.Mode.TheVariants.{S, U}
-use Rattle.pg_word.specs.Psw.{IsPsw, packed, unpacked}
+use Rattle.pg_word.specs.Psw.{IsPsw, packed, power_on_psw, unpacked}
 use Rattle.pg_ast.specs.declared.tree.Desc.{Desc}
 use Rattle.pg_type.specs.States.{State, IsState, shape_of}
 use Rattle.pg_type.specs.Steps.{step, steps}
@@ -18,11 +18,11 @@ use Rattle.pg_type.proofs.StepSound.{step-state, step-length}
 use Rattle.pg_type.proofs.ValidFacts.{IsShape-of_valid}
 use Rattle.pg_hw.specs.declared.counts.Counts.{Counts}
 use Rattle.pg_hw.specs.Tallies.{Bottom, raised_by, after_steps}
+use Rattle.pg_hw.specs.Machinery.{Machinery}
 use Rattle.pg_hw.specs.Bursts.{traps, is_user, one_if, untrapped_at, untrapped_among, supervisor_among, burst_length, BottomRises}
-use Rattle.pg_hw.specs.Serving.{SameServed}
+use Rattle.pg_hw.specs.Running.{Ran}
 use Rattle.pg_hw.proofs.TallyLaws.{raised_by-zero, RisesWithin-none}
-use Rattle.pg_hw.proofs.ServingLaws.{SameServed-same, SameServed-then}
-use Rattle.pg_hw.proofs.BurstLaws.{burst_length-goes_on, burst_length-some}
+use Rattle.pg_hw.proofs.BurstLaws.{burst_length-goes_on, burst_length-some, untrapped_among-one}
 use Rattle.pg_routine.specs.Composing.{composed}
 use Rattle.pg_routine.specs.Granting.{with_grant}
 use Rattle.pg_routine.proofs.GrantLaws.{with_grant-same}
@@ -30,7 +30,6 @@ use Rattle.pg_routine.proofs.StateLaws.{with_grant-length}
 use Rattle.pg_monitor.specs.declared.guest.Guest.{Guest}
 use Rattle.pg_monitor.specs.Guests.{virtual}
 use Rattle.pg_monitor.specs.Direct.{is_direct, direct_among}
-use Rattle.pg_monitor.specs.Standing.{control_psw}
 use Rattle.pg_monitor.specs.Turns.{trap_cell, trap_word, CountsTurns, BottomTurns}
 use Rattle.pg_monitor.specs.Current.{Holds, Runs, with_psw, Interpreted, Went}
 use Rattle.pg_monitor.proofs.CellLemmas.{with_grant-again, with_grant-before, set_first-grant, set_first-guest, set_first-second, set_same, cell_of}
@@ -75,7 +74,7 @@ granted-state d real s base now real_state s_state within e fields =
 
 -- ---- a burst
 
-control-mode : (x : Psw) (q : ℕ) → x ≡ control_psw q → x.mode ≡ S
+control-mode : (x : Psw) (q : ℕ) → x ≡ power_on_psw q → x.mode ≡ S
 control-mode x q e = ap (λ (y : Psw). y.mode) e
 
 -- a burst that ended with a step that traps
@@ -119,33 +118,32 @@ Stopped-burst d k (suc m) real g accepted valid r some e control =
 
 -- ---- turns that were direct
 
-pub Went-direct : (d : Desc) (n : ℕ) (real now : State) (g h : Guest) (t t' : Counts) (b b' : Bottom) (r r' : ℕ) (s s' : Desc → Type 0) →
-    Directly d n real g → now ≡ steps d n real → h ≡ with_psw g (record g.psw { p = now.psw.p }) → t' ≡ after_steps t n (untrapped_among d n real) →
-    BottomRises d n real b b' → r' ≡ r → SameServed s s' → Went d n real now g h t t' b b' r r' s s'
-Went-direct d n real now g h t t' b b' r r' s s' run is guest counted bottom room served =
+pub Went-direct : (d : Desc) (n : ℕ) (old new : Machinery) (g h : Guest) → Directly d n old.state g → Ran d n old new →
+    h ≡ with_psw g (record g.psw { p = new.state.psw.p }) → Went d n old new g h
+Went-direct d n old new g h run ran guest =
+    let real = old.state in
     let v = virtual real.cells g in
     let vn = steps d n v in
-    let cells : now.cells ≡ with_grant real.cells g.base vn.cells = ap (λ (x : State). x.cells) is ∙ run.storage in
-    let who : h ≡ with_psw g vn.psw = guest ∙ ap (λ (x : State). with_psw g (record g.psw { p = x.psw.p })) is ∙ sym (ap (with_psw g) run.kept) in
+    let cells : new.state.cells ≡ with_grant real.cells g.base vn.cells = ap (λ (x : State). x.cells) ran.state ∙ run.storage in
+    let who : h ≡ with_psw g vn.psw = guest ∙ ap (λ (x : State). with_psw g (record g.psw { p = x.psw.p })) ran.state ∙ sym (ap (with_psw g) run.kept) in
     let first : slice_index (with_grant real.cells g.base vn.cells) 0 ≡ slice_index real.cells 0 =
     with_grant-before real.cells vn.cells g.base 0 (omega (arith, run.within)) (omega (arith, run.runs.holds.grant.above)) in
     record {
-      runs = subst (λ (x : State). Runs d x h) (sym is) (subst (Runs d (steps d n real)) (sym who) run.runs);
+      runs = subst (λ (x : State). Runs d x h) (sym ran.state) (subst (Runs d (steps d n real)) (sym who) run.runs);
       guest = who;
-      state = subst (λ (x : State). virtual x.cells h ≡ vn) (sym is) (subst (λ x. virtual (steps d n real).cells x ≡ vn) (sym who) run.state);
+      state = subst (λ (x : State). virtual x.cells h ≡ vn) (sym ran.state) (subst (λ x. virtual (steps d n real).cells x ≡ vn) (sym who) run.state);
       storage = cells ∙ sym (ap (slice_set (with_grant real.cells g.base vn.cells) 0) (run.held (slice_index real.cells 0) ∙ sym first) ∙ set_same (with_grant real.cells g.base vn.cells));
       tally = record {
-        steps = ap (λ (c : Counts). c.steps) counted;
-        untrapped = ap (λ (c : Counts). c.untrapped) counted ∙ ap (λ k. raised_by k t.untrapped) (run.untrapped ∙ sym run.direct);
-        loads = ap (λ (c : Counts). c.loads) counted ∙ omega (arith, run.direct);
-        pokes = record { at_least = omega (arith, ap (λ (c : Counts). c.pokes) counted); at_most = omega (arith, ap (λ (c : Counts). c.pokes) counted, run.direct) };
+        steps = ap (λ (c : Counts). c.steps) ran.tally;
+        untrapped = ap (λ (c : Counts). c.untrapped) ran.tally ∙ ap (λ k. raised_by k old.tally.untrapped) (run.untrapped ∙ sym run.direct);
+        loads = ap (λ (c : Counts). c.loads) ran.tally ∙ omega (arith, run.direct);
+        pokes = record { at_least = omega (arith, ap (λ (c : Counts). c.pokes) ran.tally); at_most = omega (arith, ap (λ (c : Counts). c.pokes) ran.tally, run.direct) };
       };
       bottom = record {
-        steps = bottom.steps;
-        untrapped = omega (arith, bottom.untrapped.at_least, bottom.untrapped.at_most, run.untrapped, run.supervisor, run.direct);
+        steps = ran.bottom.steps;
+        untrapped = omega (arith, ran.bottom.untrapped.at_least, ran.bottom.untrapped.at_most, run.untrapped, run.supervisor, run.direct);
       };
-      room = room;
-      served = served;
+      room = ran.room;
     }
 
 -- ---- turns that ended with one that was interpreted
@@ -169,7 +167,7 @@ Holds-trapped d now mid h word held e mid_state =
     record {
       size = same ∙ held.size;
       grant = held.grant;
-      control = cell_of now.cells mid.cells 1 (packed d.address (control_psw d.size)) same (ap (λ xs. slice_index xs 1) e ∙ set_first-second now.cells word) held.control;
+      control = cell_of now.cells mid.cells 1 (packed d.address (power_on_psw d.size)) same (ap (λ xs. slice_index xs 1) e ∙ set_first-second now.cells word) held.control;
       real_state = mid_state;
       virtual_state = subst (IsState d) (sym guest) held.virtual_state;
     }
@@ -236,10 +234,12 @@ StopCounts-of d m real g before stops turned =
       state = refl;
     }
 
-pub Went-halted : (d : Desc) (n : ℕ) (real mid now : State) (g h k : Guest) (t t' t'' : Counts) (b b' b'' : Bottom) (r r' r'' : ℕ) (s s' s'' : Desc → Type 0) →
-    IsValid d → (stopped : Stopped d n real g) → Halted d stopped.before real mid g h → Interpreted d mid now h k t' t'' → t' ≡ after_steps t n (untrapped_among d n real) →
-    BottomRises d n real b b' → b'' ≡ b' → r' ≡ r → r'' ≡ r' → SameServed s s' → SameServed s' s'' → Went d n real now g k t t'' b b'' r r'' s s''
-Went-halted d n real mid now g h k t t' t'' b b' b'' r r' r'' s s' s'' valid stopped halted done counted bottom bottom_same room room_same served served_same =
+pub Went-halted : (d : Desc) (n : ℕ) (old between new : Machinery) (g h k : Guest) → IsValid d → (stopped : Stopped d n old.state g) →
+    Halted d stopped.before old.state between.state g h → Ran d n old between → Interpreted d between new h k → Went d n old new g k
+Went-halted d n old between new g h k valid stopped halted ran done =
+    let real = old.state in
+    let mid = between.state in
+    let now = new.state in
     let m = stopped.before in
     let v = virtual real.cells g in
     let vm = steps d m v in
@@ -274,36 +274,42 @@ Went-halted d n real mid now g h k t t' t'' b b' b'' r r' r'' s s' s'' valid sto
           ∙ sym (ap (λ w. slice_set (with_grant real.cells g.base (steps d n v).cells) 0 w) (counts.cell (slice_index real.cells 0))
           ∙ ap (λ (x : State). slice_set (with_grant real.cells g.base x.cells) 0 (trap_word d g.base vm)) held);
       tally = record {
-        steps = done.steps ∙ ap (λ (c : Counts). c.steps) counted;
-        untrapped = done.untrapped ∙ ap (λ (c : Counts). c.untrapped) counted ∙ ap (λ j. raised_by j t.untrapped) (counts.untrapped ∙ sym counts.direct);
-        loads = omega (arith, done.loads, ap (λ (c : Counts). c.loads) counted, counts.direct, stopped.done);
+        steps = done.steps ∙ ap (λ (c : Counts). c.steps) ran.tally;
+        untrapped = done.untrapped ∙ ap (λ (c : Counts). c.untrapped) ran.tally ∙ ap (λ j. raised_by j old.tally.untrapped) (counts.untrapped ∙ sym counts.direct);
+        loads = omega (arith, done.loads, ap (λ (c : Counts). c.loads) ran.tally, counts.direct, stopped.done);
         pokes = record {
-          at_least = omega (arith, done.pokes.at_least, ap (λ (c : Counts). c.pokes) counted);
-          at_most = omega (arith, done.pokes.at_most, ap (λ (c : Counts). c.pokes) counted, counts.direct, stopped.done);
+          at_least = omega (arith, done.pokes.at_least, ap (λ (c : Counts). c.pokes) ran.tally);
+          at_most = omega (arith, done.pokes.at_most, ap (λ (c : Counts). c.pokes) ran.tally, counts.direct, stopped.done);
         };
       };
       bottom = record {
-        steps = ap (λ (c : Bottom). c.steps) bottom_same ∙ bottom.steps;
-        untrapped = omega (arith, ap (λ (c : Bottom). c.untrapped) bottom_same, bottom.untrapped.at_least, bottom.untrapped.at_most, counts.untrapped, counts.supervisor, counts.direct);
+        steps = ap (λ (c : Bottom). c.steps) done.bottom ∙ ran.bottom.steps;
+        untrapped = omega (arith, ap (λ (c : Bottom). c.untrapped) done.bottom, ran.bottom.untrapped.at_least, ran.bottom.untrapped.at_most, counts.untrapped, counts.supervisor, counts.direct);
       };
-      room = room_same ∙ room;
-      served = SameServed-then s s' s'' served served_same;
+      room = done.room ∙ ran.room;
     }
 
 -- ---- turns after turns
 
-pub Went-none : (d : Desc) (real : State) (g : Guest) (t : Counts) (b : Bottom) (r : ℕ) (s : Desc → Type 0) → Runs d real g → Went d 0 real real g g t t b b r r s s
+pub CountsTurns-none : (t : Counts) → CountsTurns 0 0 0 t t
+CountsTurns-none t = record { steps = sym (raised_by-zero t.steps); untrapped = sym (raised_by-zero t.untrapped); loads = sym (raised_by-zero t.loads); pokes = RisesWithin-none t.pokes }
+
+pub BottomTurns-none : (b : Bottom) → BottomTurns 0 0 b b
+BottomTurns-none b = record { steps = sym (raised_by-zero b.steps); untrapped = sym (raised_by-zero b.untrapped) }
+
+pub Went-none : (d : Desc) (h : Machinery) (g : Guest) → Runs d h.state g → Went d 0 h h g g
 unfolding steps direct_among trap_cell
-Went-none d real g t b r s runs = record {
-  runs = runs;
-  guest = refl;
-  state = refl;
-  storage = sym (ap (λ xs. slice_set xs 0 (slice_index real.cells 0)) (with_grant-same real.cells g.base g.size (Holds-within d real g runs.holds)) ∙ set_same real.cells);
-  tally = record { steps = sym (raised_by-zero t.steps); untrapped = sym (raised_by-zero t.untrapped); loads = sym (raised_by-zero t.loads); pokes = RisesWithin-none t.pokes };
-  bottom = record { steps = sym (raised_by-zero b.steps); untrapped = sym (raised_by-zero b.untrapped) };
-  room = refl;
-  served = SameServed-same s;
-}
+Went-none d h g runs =
+    let real = h.state in
+    record {
+      runs = runs;
+      guest = refl;
+      state = refl;
+      storage = sym (ap (λ xs. slice_set xs 0 (slice_index real.cells 0)) (with_grant-same real.cells g.base g.size (Holds-within d real g runs.holds)) ∙ set_same real.cells);
+      tally = CountsTurns-none h.tally;
+      bottom = BottomTurns-none h.bottom;
+      room = refl;
+    }
 
 one_if-most : (b : Bool) → one_if b ≤ 1
 one_if-most true = omega arith
@@ -344,9 +350,18 @@ set_again cells first second base w w' some within len =
     ∙ set-set (with_grant (with_grant cells base first) base second) 0 w w'
     ∙ ap (λ xs. slice_set xs 0 w') (with_grant-again cells first second base (omega (arith, within)) len)
 
-pub Went-then : (d : Desc) (m n : ℕ) (real mid now : State) (g h k : Guest) (t t' t'' : Counts) (b b' b'' : Bottom) (r r' r'' : ℕ) (s s' s'' : Desc → Type 0) →
-    IsValid d → Runs d real g → Went d m real mid g h t t' b b' r r' s s' → Went d n mid now h k t' t'' b' b'' r' r'' s' s'' → Went d (m + n) real now g k t t'' b b'' r r'' s s''
-Went-then d m n real mid now g h k t t' t'' b b' b'' r r' r'' s s' s'' valid runs one two =
+pub Went-then : (d : Desc) (m n : ℕ) (old between new : Machinery) (g h k : Guest) → IsValid d → Runs d old.state g →
+    Went d m old between g h → Went d n between new h k → Went d (m + n) old new g k
+Went-then d m n old between new g h k valid runs one two =
+    let real = old.state in
+    let mid = between.state in
+    let now = new.state in
+    let t = old.tally in
+    let t' = between.tally in
+    let t'' = new.tally in
+    let b = old.bottom in
+    let b' = between.bottom in
+    let b'' = new.bottom in
     let v = virtual real.cells g in
     let vm = steps d m v in
     let vn = steps d (m + n) v in
@@ -383,7 +398,6 @@ Went-then d m n real mid now g h k t t' t'' b b' b'' r r' r'' s s' s'' valid run
       bottom = subst (λ x. BottomTurns (m + n) x b b'') (sym all)
           (BottomTurns-add m n (direct_among d g.base m v) (direct_among d h.base n (virtual mid.cells h)) b b' b'' one.bottom two.bottom);
       room = two.room ∙ one.room;
-      served = SameServed-then s s' s'' one.served two.served;
     }
 
 -- ---- a single step
@@ -438,6 +452,16 @@ entry-own d real mid g accepted valid r is control =
     ap (λ (x : State). (unpacked d.address (slice_index x.cells 0)).p) is ∙ ap (λ (x : Psw). x.p) entry in
     ap (λ (n : ℕ). with_psw g (record g.psw { p = n })) (sym p)
 
+-- a single step of the hardware that enters the control program
+pub Stopped-once : (d : Desc) (old mid : State) (g : Guest) → ∥ IsAccepted d ∥₁ → IsValid d → Runs d old g → mid ≡ step d old → mid.psw.mode ≡ S → Stopped d 1 old g
+Stopped-once d old mid g accepted valid r is control =
+    Stopped-burst d 1 1 old g accepted valid r (lit< tt) (burst-one d old) (ap (λ (x : State). x.psw.mode) (steps-once d old ∙ sym is) ∙ control)
+
+pub Halted-once : (d : Desc) (old mid : State) (g : Guest) (stopped : Stopped d 1 old g) → ∥ IsAccepted d ∥₁ → IsValid d → Runs d old g → mid ≡ step d old → mid.psw.mode ≡ S →
+    Halted d stopped.before old mid g g
+Halted-once d old mid g stopped accepted valid r is control =
+    Halted-of d 1 old mid g g stopped valid (is ∙ sym (steps-once d old)) (entry-own d old mid g accepted valid r is control)
+
 -- the program status word at the entry of a step that trapped, as it is read from cell 0
 pub entry-read : (d : Desc) (cells : List ℕ) (shape : Shape) (word : ℕ) (x : Psw) → shape ≡ shape_of d → slice_get cells 0 ≡ Some word → x ≡ unpacked shape.a word →
     x ≡ unpacked d.address (slice_index cells 0)
@@ -445,6 +469,15 @@ entry-read d cells shape word x same is read =
     read ∙ ap (λ (s : Shape). unpacked s.a word) same ∙ ap (unpacked d.address) (sym (get_or_from_slice_get cells 0 word 0 is))
 
 -- the same number of turns
-pub Went-count : (d : Desc) (m n : ℕ) (real now : State) (g h : Guest) (t t' : Counts) (b b' : Bottom) (r r' : ℕ) (s s' : Desc → Type 0) → m ≡ n →
-    Went d m real now g h t t' b b' r r' s s' → Went d n real now g h t t' b b' r r' s s'
-Went-count d m n real now g h t t' b b' r r' s s' e went = subst (λ k. Went d k real now g h t t' b b' r r' s s') e went
+pub Went-count : (d : Desc) (m n : ℕ) (old new : Machinery) (g h : Guest) → m ≡ n → Went d m old new g h → Went d n old new g h
+Went-count d m n old new g h e went = subst (λ k. Went d k old new g h) e went
+
+-- one step, as a run of one
+pub Ran-step : (d : Desc) (old new : Machinery) → new.state ≡ step d old.state → new.tally ≡ after_steps old.tally 1 (untrapped_at d old.state) →
+    BottomRises d 1 old.state old.bottom new.bottom → new.room ≡ old.room → Ran d 1 old new
+Ran-step d old new moved counted bottom room = record {
+  state = moved ∙ sym (steps-once d old.state);
+  tally = counted ∙ ap (λ k. after_steps old.tally 1 k) (sym (untrapped_among-one d old.state));
+  bottom = bottom;
+  room = room;
+}

@@ -11,9 +11,13 @@ virtual cells g = guest_at cells g.base g.size g.psw
 abbrev pub virtuals : List ℕ → List Guest → List State
 virtuals cells gs = map (virtual cells) gs
 
--- a grant of two cells or more, behind the two cells of traps and within q
+-- the cells that a monitor keeps for traps: cell 0, where one is stored, and cell 1, which is loaded then
+abbrev pub kept_cells : ℕ
+kept_cells = 2
+
+-- a grant of two cells or more, behind the cells that are kept and within q
 pub record IsGrant (q : ℕ) (g : Guest) : Type 0 where
-  pub above : 2 ≤ g.base
+  pub above : kept_cells ≤ g.base
   pub least : 2 ≤ g.size
   pub within : g.base + g.size ≤ q
 

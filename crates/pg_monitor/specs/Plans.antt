@@ -1,13 +1,13 @@
 -- Turns by a plan: which guest is to have how many turns, in order.
 use Rattle.std.specs.Prelude.{◌≡◌, ℕ, ◌+◌, ◌<◌, ◌≤◌, ◌⊎◌, ◌==◌, if◌then◌else◌, List, [], ◌∷◌, All, Option, None, Some, slice_get, slice_index}
+use Rattle.pg_word.specs.declared.psw.Psw.{Psw}
 use Rattle.pg_ast.specs.declared.tree.Desc.{Desc}
 use Rattle.pg_type.specs.States.{State}
-use Rattle.pg_hw.specs.declared.counts.Counts.{Counts}
-use Rattle.pg_hw.specs.Tallies.{Bottom}
+use Rattle.pg_hw.specs.Machinery.{Machinery}
 use Rattle.pg_monitor.specs.declared.guest.Guest.{Guest}
 use Rattle.pg_monitor.specs.Guests.{virtuals}
 use Rattle.pg_monitor.specs.Direct.{direct_among}
-use Rattle.pg_monitor.specs.Turns.{moved, trap_cell, current_after, changes_in, CountsTurns, BottomTurns, grants_of}
+use Rattle.pg_monitor.specs.Turns.{moved, trap_cell, psw_after, current_after, changes_in, CountsTurns, BottomTurns, grants_of}
 
 -- the states after a plan: each pair moves the state of its guest
 abbrev pub after_plan : Desc → List (ℕ × ℕ) → List State → List State
@@ -48,6 +48,18 @@ cell_behind d gs [] ss held = held
 cell_behind d gs (turn ∷ plan) ss held =
     cell_behind d gs plan (moved d turn.0 turn.1 ss) (cell_turns d (slice_get gs turn.0) (slice_get ss turn.0) turn.1 held)
 
+-- the PSW of the hardware after n turns of a guest that may be missing
+abbrev pub psw_turns : Desc → Option Guest → Option State → ℕ → Psw → Psw
+psw_turns d None s n held = held
+psw_turns d (Some g) None n held = held
+psw_turns d (Some g) (Some s) n held = psw_after d g n s held
+
+-- its PSW behind a plan, of guests at these states: composed of the last guest's that had a turn, or else what it was
+abbrev pub psw_behind : Desc → List Guest → List (ℕ × ℕ) → List State → Psw → Psw
+psw_behind d gs [] ss held = held
+psw_behind d gs (turn ∷ plan) ss held =
+    psw_behind d gs plan (moved d turn.0 turn.1 ss) (psw_turns d (slice_get gs turn.0) (slice_get ss turn.0) turn.1 held)
+
 -- the guest that is current behind a plan
 abbrev pub current_of : List (ℕ × ℕ) → Option ℕ → Option ℕ
 current_of [] current = current
@@ -63,12 +75,14 @@ pub record IsOutside (gs : List Guest) (at : ℕ) : Type 0 where
   pub outside : All (λ g. (at < g.base) ⊎ (g.base + g.size ≤ at)) gs
 
 -- a plan that was followed
-pub record Followed (d : Desc) (plan : List (ℕ × ℕ)) (old new : State) (old_guests new_guests : List Guest) (old_current new_current : Option ℕ) (old_tally new_tally : Counts) (old_bottom new_bottom : Bottom) : Type 0 where
-  pub states : virtuals new.cells new_guests ≡ after_plan d plan (virtuals old.cells old_guests)
+pub record Followed (d : Desc) (plan : List (ℕ × ℕ)) (old new : Machinery) (old_guests new_guests : List Guest) (old_current new_current : Option ℕ) : Type 0 where
+  pub states : virtuals new.state.cells new_guests ≡ after_plan d plan (virtuals old.state.cells old_guests)
   pub grants : grants_of new_guests ≡ grants_of old_guests
   pub current : new_current ≡ current_of plan old_current
   -- no cell outside the grants and cell 0 changes
-  pub outside : (at : ℕ) → 1 ≤ at → IsOutside old_guests at → slice_get new.cells at ≡ slice_get old.cells at
-  pub cell_0 : slice_index new.cells 0 ≡ cell_behind d old_guests plan (virtuals old.cells old_guests) (slice_index old.cells 0)
-  pub tally : CountsTurns (turns_of plan) (direct_of d old_guests plan (virtuals old.cells old_guests)) (changes_of plan old_current) old_tally new_tally
-  pub bottom : BottomTurns (turns_of plan) (direct_of d old_guests plan (virtuals old.cells old_guests)) old_bottom new_bottom
+  pub outside : (at : ℕ) → 1 ≤ at → IsOutside old_guests at → slice_get new.state.cells at ≡ slice_get old.state.cells at
+  pub cell_0 : slice_index new.state.cells 0 ≡ cell_behind d old_guests plan (virtuals old.state.cells old_guests) (slice_index old.state.cells 0)
+  pub psw : new.state.psw ≡ psw_behind d old_guests plan (virtuals old.state.cells old_guests) old.state.psw
+  pub tally : CountsTurns (turns_of plan) (direct_of d old_guests plan (virtuals old.state.cells old_guests)) (changes_of plan old_current) old.tally new.tally
+  pub bottom : BottomTurns (turns_of plan) (direct_of d old_guests plan (virtuals old.state.cells old_guests)) old.bottom new.bottom
+  pub room : new.room ≡ old.room

@@ -1,30 +1,25 @@
 -- What a hardware under a monitor stands for.
 use Rattle.std.specs.Prelude.{◌≡◌, ℕ, List, length, All, Option, None, Some, IsSomeAnd, slice_get}
-use Rattle.pg_word.specs.declared.psw.Psw.{Psw}
-use Rattle.pg_word.specs.declared.psw.Mode.TheVariants.{S}
-use Rattle.pg_word.specs.Psw.{packed}
+use Rattle.pg_word.specs.Psw.{packed, power_on_psw}
 use Rattle.pg_ast.specs.declared.tree.Desc.{Desc}
 use Rattle.pg_type.specs.States.{State, IsState}
 use Rattle.pg_routine.specs.Composing.{composed}
 use Rattle.pg_monitor.specs.declared.guest.Guest.{Guest}
 use Rattle.pg_monitor.specs.Guests.{virtuals, IsGrant, AreDisjoint}
 
--- the PSW at which the control program is entered by a trap: supervisor mode, at 2, over the whole storage
-abbrev pub control_psw : ℕ → Psw
-control_psw q = record { mode = S; p = 2; l = 0; b = q }
-
 -- where a guest is current, the hardware has the PSW composed of the guest's virtual one
 abbrev pub IsUnder : State → List Guest → Option ℕ → Type 0
 IsUnder real gs None = Unit {0}
 IsUnder real gs (Some k) = IsSomeAnd (slice_get gs k) (λ g. real.psw ≡ composed g.psw g.base g.size)
 
--- *StandsFor*: a storage of q cells, guests, and a current guest or none, stand for these states. Nothing is said of cell 0.
+-- *StandsFor*: a storage of q cells, guests, and a current guest or none, stand for these states. A trap enters the control program
+-- at the PSW in cell 1, that of a machine which is switched on. Nothing is said of cell 0.
 pub record StandsFor (d : Desc) (real : State) (gs : List Guest) (current : Option ℕ) (states : List State) : Type 0 where
   pub size : length real.cells ≡ d.size
   pub grants : All (IsGrant d.size) gs
   pub disjoint : AreDisjoint gs
   pub guests : virtuals real.cells gs ≡ states
-  pub control : slice_get real.cells 1 ≡ Some (packed d.address (control_psw d.size))
+  pub control : slice_get real.cells 1 ≡ Some (packed d.address (power_on_psw d.size))
   pub under : IsUnder real gs current
 
 -- they stand for the states that the guests believe in, and all of these, and the hardware's own, are states of the machine

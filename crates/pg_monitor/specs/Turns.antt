@@ -1,11 +1,13 @@
 -- Turns of guests: what they leave of the states, the storage and the counts.
 use Rattle.std.specs.Prelude.{◌≡◌, ℕ, zero, suc, ◌+◌, ◌-◌, ◌*◌, ◌==◌, if◌then◌else◌, List, [], ◌∷◌, length, map, Option, None, Some, slice_get, slice_set, slice_index}
+use Rattle.pg_word.specs.declared.psw.Psw.{Psw}
 use Rattle.pg_word.specs.Psw.{packed_trap}
 use Rattle.pg_ast.specs.declared.tree.Desc.{Desc}
 use Rattle.pg_type.specs.States.{State, shape_of}
 use Rattle.pg_type.specs.Steps.{Ending, ByMemTrap, ByTrap, ByNoPattern, Done, memory_cause, trap_cause, no_pattern_cause, steps}
 use Rattle.pg_hw.specs.declared.counts.Counts.{Counts}
 use Rattle.pg_hw.specs.Tallies.{Bottom, RisesWithin, raised_by}
+use Rattle.pg_hw.specs.Machinery.{Machinery}
 use Rattle.pg_routine.specs.Composing.{composed}
 use Rattle.pg_routine.specs.Granting.{with_grant}
 use Rattle.pg_monitor.specs.declared.guest.Guest.{Guest}
@@ -39,6 +41,11 @@ trap_cell d base (suc n) s held =
 abbrev pub storage_after : Desc → ℕ → ℕ → State → List ℕ → List ℕ
 storage_after d base n s cells = slice_set (with_grant cells base (steps d n s).cells) 0 (trap_cell d base n s (slice_index cells 0))
 
+-- the PSW of the hardware after n turns of a guest from a state: composed of the guest's own; before its first turn, what it was
+abbrev pub psw_after : Desc → Guest → ℕ → State → Psw → Psw
+psw_after d g zero s held = held
+psw_after d g (suc n) s held = composed (steps d (suc n) s).psw g.base g.size
+
 -- the same grants
 abbrev pub grants_of : List Guest → List (ℕ × ℕ)
 grants_of gs = map (λ g. (g.base, g.size)) gs
@@ -71,14 +78,16 @@ pub record BottomTurns (turns direct : ℕ) (old new : Bottom) : Type 0 where
   pub untrapped : new.untrapped ≡ raised_by direct old.untrapped
 
 -- n turns of guest k, from a hardware and guests that stand to a hardware and guests that stand
-pub record Turned (d : Desc) (k n : ℕ) (old new : State) (old_guests new_guests : List Guest) (old_current new_current : Option ℕ) (old_tally new_tally : Counts) (old_bottom new_bottom : Bottom) : Type 0 where
+pub record Turned (d : Desc) (k n : ℕ) (old new : Machinery) (old_guests new_guests : List Guest) (old_current new_current : Option ℕ) : Type 0 where
   pub guest : Guest
   pub is_guest : slice_get old_guests k ≡ Some guest
   -- the guest's state is n steps on, and no other guest's has changed
-  pub states : virtuals new.cells new_guests ≡ moved d k n (virtuals old.cells old_guests)
+  pub states : virtuals new.state.cells new_guests ≡ moved d k n (virtuals old.state.cells old_guests)
   pub grants : grants_of new_guests ≡ grants_of old_guests
   pub current : new_current ≡ current_after k n old_current
   -- no cell outside the grant and cell 0 changes
-  pub storage : new.cells ≡ storage_after d guest.base n (virtual old.cells guest) old.cells
-  pub tally : CountsTurns n (direct_among d guest.base n (virtual old.cells guest)) (changes_in k n old_current) old_tally new_tally
-  pub bottom : BottomTurns n (direct_among d guest.base n (virtual old.cells guest)) old_bottom new_bottom
+  pub storage : new.state.cells ≡ storage_after d guest.base n (virtual old.state.cells guest) old.state.cells
+  pub psw : new.state.psw ≡ psw_after d guest n (virtual old.state.cells guest) old.state.psw
+  pub tally : CountsTurns n (direct_among d guest.base n (virtual old.state.cells guest)) (changes_in k n old_current) old.tally new.tally
+  pub bottom : BottomTurns n (direct_among d guest.base n (virtual old.state.cells guest)) old.bottom new.bottom
+  pub room : new.room ≡ old.room

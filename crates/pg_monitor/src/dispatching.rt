@@ -27,22 +27,20 @@ impl<'m> Monitor<'m> {
     /// One turn of a guest: its state goes one step on.
     pub fn turn<H: Hardware>(&mut self, hw: &mut H, k: usize)
         requires served { H.serves hw.old (desc_of self.old) }
-        requires stands { Stands (desc_of self.old) (H.state hw.old) self.old.guests self.old.current }
+        requires stands { Stands (desc_of self.old) (H.machinery hw.old).state self.old.guests self.old.current }
         requires known { k < length self.old.guests }
-        ensures stands { Stands (desc_of self.old) (H.state hw.new) self.new.guests self.new.current }
-        ensures turned { Turned (desc_of self.old) k 1 (H.state hw.old) (H.state hw.new) self.old.guests self.new.guests
-            self.old.current self.new.current (H.tally hw.old) (H.tally hw.new) (H.bottom hw.old) (H.bottom hw.new) }
+        ensures stands { Stands (desc_of self.old) (H.machinery hw.new).state self.new.guests self.new.current }
+        ensures turned { Turned (desc_of self.old) k 1 (H.machinery hw.old) (H.machinery hw.new) self.old.guests self.new.guests self.old.current self.new.current }
         ensures machine { self.new.accepted.machine.now ≡ self.old.accepted.machine.now }
-        ensures room { H.most_cells hw.new ≡ H.most_cells hw.old }
         ensures served { SameServed (H.serves hw.old) (H.serves hw.new) }
 
         // A direct turn of the current guest is one step of the hardware, which leaves its mode and R.
         ensures direct { (g : Guests) → slice_get self.old.guests k ≡ Some g → self.old.current ≡ Some k
-            → is_direct (desc_of self.old) g.base (virtual (H.state hw.old).cells g) ≡ true
-            → H.state hw.new ≡ step (desc_of self.old) (H.state hw.old) }
+            → is_direct (desc_of self.old) g.base (virtual (H.machinery hw.old).state.cells g) ≡ true
+            → (H.machinery hw.new).state ≡ step (desc_of self.old) (H.machinery hw.old).state }
         ensures kept { (g : Guests) → slice_get self.old.guests k ≡ Some g → self.old.current ≡ Some k
-            → is_direct (desc_of self.old) g.base (virtual (H.state hw.old).cells g) ≡ true
-            → (H.state hw.new).psw ≡ record (H.state hw.old).psw { p = (H.state hw.new).psw.p } }
+            → is_direct (desc_of self.old) g.base (virtual (H.machinery hw.old).state.cells g) ≡ true
+            → (H.machinery hw.new).state.psw ≡ record (H.machinery hw.old).state.psw { p = (H.machinery hw.new).state.psw.p } }
     {
         self.turn_told(hw, k);
     }
@@ -50,23 +48,21 @@ impl<'m> Monitor<'m> {
     /// One turn of a guest, as `turn` does it; whether the guest's own step trapped, in whatever way.
     pub fn turn_told<H: Hardware>(&mut self, hw: &mut H, k: usize) -> bool
         requires served { H.serves hw.old (desc_of self.old) }
-        requires stands { Stands (desc_of self.old) (H.state hw.old) self.old.guests self.old.current }
+        requires stands { Stands (desc_of self.old) (H.machinery hw.old).state self.old.guests self.old.current }
         requires known { k < length self.old.guests }
-        ensures told { (g : Guests) → slice_get self.old.guests k ≡ Some g → result ≡ traps (desc_of self.old) (virtual (H.state hw.old).cells g) }
-        ensures stands { Stands (desc_of self.old) (H.state hw.new) self.new.guests self.new.current }
-        ensures turned { Turned (desc_of self.old) k 1 (H.state hw.old) (H.state hw.new) self.old.guests self.new.guests
-            self.old.current self.new.current (H.tally hw.old) (H.tally hw.new) (H.bottom hw.old) (H.bottom hw.new) }
+        ensures told { (g : Guests) → slice_get self.old.guests k ≡ Some g → result ≡ traps (desc_of self.old) (virtual (H.machinery hw.old).state.cells g) }
+        ensures stands { Stands (desc_of self.old) (H.machinery hw.new).state self.new.guests self.new.current }
+        ensures turned { Turned (desc_of self.old) k 1 (H.machinery hw.old) (H.machinery hw.new) self.old.guests self.new.guests self.old.current self.new.current }
         ensures machine { self.new.accepted.machine.now ≡ self.old.accepted.machine.now }
-        ensures room { H.most_cells hw.new ≡ H.most_cells hw.old }
         ensures served { SameServed (H.serves hw.old) (H.serves hw.new) }
 
         // A direct turn of the current guest is one step of the hardware, which leaves its mode and R.
         ensures direct { (g : Guests) → slice_get self.old.guests k ≡ Some g → self.old.current ≡ Some k
-            → is_direct (desc_of self.old) g.base (virtual (H.state hw.old).cells g) ≡ true
-            → H.state hw.new ≡ step (desc_of self.old) (H.state hw.old) }
+            → is_direct (desc_of self.old) g.base (virtual (H.machinery hw.old).state.cells g) ≡ true
+            → (H.machinery hw.new).state ≡ step (desc_of self.old) (H.machinery hw.old).state }
         ensures kept { (g : Guests) → slice_get self.old.guests k ≡ Some g → self.old.current ≡ Some k
-            → is_direct (desc_of self.old) g.base (virtual (H.state hw.old).cells g) ≡ true
-            → (H.state hw.new).psw ≡ record (H.state hw.old).psw { p = (H.state hw.new).psw.p } }
+            → is_direct (desc_of self.old) g.base (virtual (H.machinery hw.old).state.cells g) ≡ true
+            → (H.machinery hw.new).state.psw ≡ record (H.machinery hw.old).state.psw { p = (H.machinery hw.new).state.psw.p } }
     {
         let machine = self.accepted.machine();
         let mut guest = self.select(hw, k);
@@ -78,13 +74,11 @@ impl<'m> Monitor<'m> {
     /// `n` turns of a guest, one after another: its state goes `n` steps on.
     pub fn turns<H: Hardware>(&mut self, hw: &mut H, k: usize, n: u64)
         requires served { H.serves hw.old (desc_of self.old) }
-        requires stands { Stands (desc_of self.old) (H.state hw.old) self.old.guests self.old.current }
+        requires stands { Stands (desc_of self.old) (H.machinery hw.old).state self.old.guests self.old.current }
         requires known { k < length self.old.guests }
-        ensures stands { Stands (desc_of self.old) (H.state hw.new) self.new.guests self.new.current }
-        ensures turned { Turned (desc_of self.old) k n (H.state hw.old) (H.state hw.new) self.old.guests self.new.guests
-            self.old.current self.new.current (H.tally hw.old) (H.tally hw.new) (H.bottom hw.old) (H.bottom hw.new) }
+        ensures stands { Stands (desc_of self.old) (H.machinery hw.new).state self.new.guests self.new.current }
+        ensures turned { Turned (desc_of self.old) k n (H.machinery hw.old) (H.machinery hw.new) self.old.guests self.new.guests self.old.current self.new.current }
         ensures machine { self.new.accepted.machine.now ≡ self.old.accepted.machine.now }
-        ensures room { H.most_cells hw.new ≡ H.most_cells hw.old }
         ensures served { SameServed (H.serves hw.old) (H.serves hw.new) }
     {
         if n == 0 {
@@ -99,16 +93,14 @@ impl<'m> Monitor<'m> {
     /// The turns of a plan, of which each pair is the number of a guest and how many turns it is to have, in order.
     pub fn run<H: Hardware>(&mut self, hw: &mut H, plan: &[(usize, u64)])
         requires served { H.serves hw.old (desc_of self.old) }
-        requires stands { Stands (desc_of self.old) (H.state hw.old) self.old.guests self.old.current }
+        requires stands { Stands (desc_of self.old) (H.machinery hw.old).state self.old.guests self.old.current }
         requires known { All (λ t. t.0 < length self.old.guests) plan.now }
-        ensures stands { Stands (desc_of self.old) (H.state hw.new) self.new.guests self.new.current }
+        ensures stands { Stands (desc_of self.old) (H.machinery hw.new).state self.new.guests self.new.current }
         // Each guest stands at the state of its own number of turns, whatever the others did.
-        ensures own { (j : ℕ) → slice_get (virtuals (H.state hw.new).cells self.new.guests) j
-            ≡ option_map (steps (desc_of self.old) (turns_for j plan.now)) (slice_get (virtuals (H.state hw.old).cells self.old.guests) j) }
-        ensures followed { Followed (desc_of self.old) plan.now (H.state hw.old) (H.state hw.new) self.old.guests self.new.guests
-            self.old.current self.new.current (H.tally hw.old) (H.tally hw.new) (H.bottom hw.old) (H.bottom hw.new) }
+        ensures own { (j : ℕ) → slice_get (virtuals (H.machinery hw.new).state.cells self.new.guests) j
+            ≡ option_map (steps (desc_of self.old) (turns_for j plan.now)) (slice_get (virtuals (H.machinery hw.old).state.cells self.old.guests) j) }
+        ensures followed { Followed (desc_of self.old) plan.now (H.machinery hw.old) (H.machinery hw.new) self.old.guests self.new.guests self.old.current self.new.current }
         ensures machine { self.new.accepted.machine.now ≡ self.old.accepted.machine.now }
-        ensures room { H.most_cells hw.new ≡ H.most_cells hw.old }
         ensures served { SameServed (H.serves hw.old) (H.serves hw.new) }
     {
         for turn in plan {
@@ -119,18 +111,18 @@ impl<'m> Monitor<'m> {
     /// Makes a guest the current one, and enters it where it was not; the guest.
     fn select<H: Hardware>(&mut self, hw: &mut H, k: usize) -> Guest
         requires served { H.serves hw.old (desc_of self.old) }
-        requires stands { Stands (desc_of self.old) (H.state hw.old) self.old.guests self.old.current }
+        requires stands { Stands (desc_of self.old) (H.machinery hw.old).state self.old.guests self.old.current }
         requires known { k < length self.old.guests }
         ensures guest { slice_get self.old.guests k ≡ Some result }
         ensures current { self.new.current ≡ Some k }
         ensures guests { self.new.guests ≡ self.old.guests }
         ensures machine { self.new.accepted.machine.now ≡ self.old.accepted.machine.now }
-        ensures runs { Runs (desc_of self.old) (H.state hw.new) result }
-        ensures cells { (H.state hw.new).cells ≡ (H.state hw.old).cells }
-        ensures same { self.old.current ≡ Some k → H.state hw.new ≡ H.state hw.old }
-        ensures tally { H.tally hw.new ≡ record (H.tally hw.old) { loads = raised_by (change_to k self.old.current) (H.tally hw.old).loads } }
-        ensures bottom { H.bottom hw.new ≡ H.bottom hw.old }
-        ensures room { H.most_cells hw.new ≡ H.most_cells hw.old }
+        ensures runs { Runs (desc_of self.old) (H.machinery hw.new).state result }
+        ensures cells { (H.machinery hw.new).state.cells ≡ (H.machinery hw.old).state.cells }
+        ensures same { self.old.current ≡ Some k → H.machinery hw.new ≡ H.machinery hw.old }
+        ensures tally { (H.machinery hw.new).tally ≡ record (H.machinery hw.old).tally { loads = raised_by (change_to k self.old.current) (H.machinery hw.old).tally.loads } }
+        ensures bottom { (H.machinery hw.new).bottom ≡ (H.machinery hw.old).bottom }
+        ensures room { (H.machinery hw.new).room ≡ (H.machinery hw.old).room }
         ensures served { SameServed (H.serves hw.old) (H.serves hw.new) }
     {
         let guest = self.guest(k);

@@ -1,14 +1,14 @@
 //! Why a guest was not loaded.
 
 ghost use Rattle.std.specs.Prelude.{◌≡◌};
-ghost use Rattle.pg_monitor.specs.declared.fault.LoadFault.TheVariants.{Memory};
+ghost use Rattle.pg_monitor.specs.declared.fault.GuestFault.TheVariants.{Memory};
 
 use std::alloc::AllocError;
 use thiserror::Error;
 
 /// Why an image was not loaded as a guest.
 #[derive(Debug, PartialEq, Eq, Drop, Error)]
-pub enum LoadFault {
+pub enum GuestFault {
     /// The storage has no room for a grant of that size.
     #[error("no room for a guest of that size")]
     NoRoom,
@@ -17,10 +17,10 @@ pub enum LoadFault {
     Memory,
 }
 
-impl From<AllocError> for LoadFault {
+impl From<AllocError> for GuestFault {
     ghost from_gives = { λ _ fault. fault ≡ Memory };
 
-    fn from(_error: AllocError) -> LoadFault {
-        LoadFault::Memory
+    fn from(_error: AllocError) -> GuestFault {
+        GuestFault::Memory
     }
 }

@@ -1,6 +1,7 @@
 //! What follows from the definitions alone, for those who read them: none of it does anything when it runs.
 
 ghost use Rattle.std.specs.Prelude.{◌≡◌, ℕ, ◌+◌, ◌<◌, ◌≤◌, List, [], None, Some, IsSomeAnd};
+ghost use Rattle.pg_monitor.specs.Guests.{kept_cells};
 ghost use Rattle.pg_monitor.specs.Loading.{free_base, IsFree};
 ghost use Rattle.pg_monitor.specs.WorkedBases.{FirstGrant, WholeStorage, OneCellTooMany, SecondGrant, FullStorage, BeforeAnother, GapBetween, GapTooSmall};
 
@@ -10,10 +11,10 @@ pub fn first_fit()
     ensures least { (q size base : ℕ) (grants : List (ℕ × ℕ)) → IsFree q grants size base → IsSomeAnd (free_base q grants size) (λ found. found ≤ base) }
 {}
 
-/// The first grant lies behind the two cells of traps, where so many cells lie there.
+/// The first grant lies behind the cells that are kept, where so many cells lie there.
 pub fn first_grant()
-    ensures placed { (q size : ℕ) → 2 + size ≤ q → free_base q [] size ≡ Some 2 }
-    ensures refused { (q size : ℕ) → q < 2 + size → free_base q [] size ≡ None }
+    ensures placed { (q size : ℕ) → kept_cells + size ≤ q → free_base q [] size ≡ Some kept_cells }
+    ensures refused { (q size : ℕ) → q < kept_cells + size → free_base q [] size ≡ None }
 {}
 
 /// Grants in a storage of 64 cells.

@@ -16,8 +16,7 @@
 //! - `turning`: turns of the guest that runs: bursts of direct steps, and steps that are interpreted.
 //! - `laws`: where the grant of a new guest is placed.
 //!
-//! Nothing here names a hardware but by its trait, nor rests on more of it than the clauses say; the tests alone name one,
-//! `Idle`, the smallest.
+//! Nothing here names a hardware but by its trait, nor rests on more of it than the clauses say.
 #![tactic(auto)]
 
 mod dispatching;
@@ -28,9 +27,6 @@ mod loading;
 mod monitor;
 mod turning;
 
-pub use fault::LoadFault;
+pub use fault::GuestFault;
 pub use guest::Guest;
-pub use monitor::Monitor;
-
-#[cfg(test)]
-mod tests;
+pub use monitor::{KEPT_CELLS, Monitor};

@@ -12,7 +12,7 @@ ghost use Rattle.pg_type.specs.Accepting.{IsAccepted};
 ghost use Rattle.pg_type.specs.Steps.{step};
 ghost use Rattle.pg_hw.specs.Bursts.{traps};
 ghost use Rattle.pg_hw.specs.Serving.{SameServed, IsServedPsw};
-ghost use Rattle.pg_hw.specs.Tallies.{after_load};
+ghost use Rattle.pg_hw.specs.Machinery.{loaded_with};
 ghost use Rattle.pg_routine.specs.Composing.{composed};
 ghost use Rattle.pg_monitor.specs.Guests.{virtual};
 ghost use Rattle.pg_monitor.specs.Direct.{is_direct};
@@ -28,10 +28,7 @@ use pg_word::{Mode, unpack};
 pub(crate) fn enter<H: Hardware>(hw: &mut H, guest: Guest)
     requires addressable { guest.base + guest.size < 2 ^ 32 }
     requires fits { IsServedPsw (H.serves hw.old) (composed guest.psw guest.base guest.size) }
-    ensures state { H.state hw.new ≡ record (H.state hw.old) { psw = composed guest.psw guest.base guest.size } }
-    ensures tally { H.tally hw.new ≡ after_load (H.tally hw.old) }
-    ensures bottom { H.bottom hw.new ≡ H.bottom hw.old }
-    ensures room { H.most_cells hw.new ≡ H.most_cells hw.old }
+    ensures entered { H.machinery hw.new ≡ loaded_with (composed guest.psw guest.base guest.size) (H.machinery hw.old) }
     ensures served { SameServed (H.serves hw.old) (H.serves hw.new) }
 {
     hw.set_psw(compose(guest.psw, guest.base, guest.size));
@@ -40,11 +37,9 @@ pub(crate) fn enter<H: Hardware>(hw: &mut H, guest: Guest)
 /// Interprets the step of a guest that trapped, and enters the guest again; whether the guest's own step trapped.
 fn interpret<H: Hardware>(m: &Machine, hw: &mut H, guest: &mut Guest) -> bool
     requires served { H.serves hw.old m.now.desc }
-    requires holds { Holds m.now.desc (H.state hw.old) guest.old }
-    ensures interpreted { Interpreted m.now.desc (H.state hw.old) (H.state hw.new) guest.old guest.new (H.tally hw.old) (H.tally hw.new) }
-    ensures told { result ≡ traps m.now.desc (virtual (H.state hw.old).cells guest.old) }
-    ensures bottom { H.bottom hw.new ≡ H.bottom hw.old }
-    ensures room { H.most_cells hw.new ≡ H.most_cells hw.old }
+    requires holds { Holds m.now.desc (H.machinery hw.old).state guest.old }
+    ensures interpreted { Interpreted m.now.desc (H.machinery hw.old) (H.machinery hw.new) guest.old guest.new }
+    ensures told { result ≡ traps m.now.desc (virtual (H.machinery hw.old).state.cells guest.old) }
     ensures served { SameServed (H.serves hw.old) (H.serves hw.new) }
 {
     let mut psw = guest.psw;
@@ -58,11 +53,11 @@ fn interpret<H: Hardware>(m: &Machine, hw: &mut H, guest: &mut Guest) -> bool
 pub(crate) fn turn_once<H: Hardware>(m: &Machine, hw: &mut H, guest: &mut Guest) -> bool
     requires accepted { ∥ IsAccepted m.now.desc ∥₁ }
     requires served { H.serves hw.old m.now.desc }
-    requires runs { Runs m.now.desc (H.state hw.old) guest.old }
-    ensures went { Went m.now.desc 1 (H.state hw.old) (H.state hw.new) guest.old guest.new (H.tally hw.old) (H.tally hw.new) (H.bottom hw.old) (H.bottom hw.new)
-        (H.most_cells hw.old) (H.most_cells hw.new) (H.serves hw.old) (H.serves hw.new) }
-    ensures told { result ≡ traps m.now.desc (virtual (H.state hw.old).cells guest.old) }
-    ensures direct { is_direct m.now.desc guest.old.base (virtual (H.state hw.old).cells guest.old) ≡ true → H.state hw.new ≡ step m.now.desc (H.state hw.old) }
+    requires runs { Runs m.now.desc (H.machinery hw.old).state guest.old }
+    ensures went { Went m.now.desc 1 (H.machinery hw.old) (H.machinery hw.new) guest.old guest.new }
+    ensures told { result ≡ traps m.now.desc (virtual (H.machinery hw.old).state.cells guest.old) }
+    ensures served { SameServed (H.serves hw.old) (H.serves hw.new) }
+    ensures direct { is_direct m.now.desc guest.old.base (virtual (H.machinery hw.old).state.cells guest.old) ≡ true → (H.machinery hw.new).state ≡ step m.now.desc (H.machinery hw.old).state }
 {
     hw.step(m);
     let psw = hw.psw();
@@ -80,12 +75,12 @@ pub(crate) fn turn_once<H: Hardware>(m: &Machine, hw: &mut H, guest: &mut Guest)
 fn turn_on<H: Hardware>(m: &Machine, hw: &mut H, guest: &mut Guest, most: u64) -> u64
     requires accepted { ∥ IsAccepted m.now.desc ∥₁ }
     requires served { H.serves hw.old m.now.desc }
-    requires runs { Runs m.now.desc (H.state hw.old) guest.old }
+    requires runs { Runs m.now.desc (H.machinery hw.old).state guest.old }
     requires some { 0 < most }
     ensures least { 1 ≤ result }
     ensures most { result ≤ most }
-    ensures went { Went m.now.desc result (H.state hw.old) (H.state hw.new) guest.old guest.new (H.tally hw.old) (H.tally hw.new) (H.bottom hw.old) (H.bottom hw.new)
-        (H.most_cells hw.old) (H.most_cells hw.new) (H.serves hw.old) (H.serves hw.new) }
+    ensures went { Went m.now.desc result (H.machinery hw.old) (H.machinery hw.new) guest.old guest.new }
+    ensures served { SameServed (H.serves hw.old) (H.serves hw.new) }
 {
     let done = hw.burst(m, most);
     let psw = hw.psw();
@@ -103,9 +98,9 @@ fn turn_on<H: Hardware>(m: &Machine, hw: &mut H, guest: &mut Guest, most: u64) -
 pub(crate) fn turn_often<H: Hardware>(m: &Machine, hw: &mut H, guest: &mut Guest, n: u64)
     requires accepted { ∥ IsAccepted m.now.desc ∥₁ }
     requires served { H.serves hw.old m.now.desc }
-    requires runs { Runs m.now.desc (H.state hw.old) guest.old }
-    ensures { Went m.now.desc n (H.state hw.old) (H.state hw.new) guest.old guest.new (H.tally hw.old) (H.tally hw.new) (H.bottom hw.old) (H.bottom hw.new)
-        (H.most_cells hw.old) (H.most_cells hw.new) (H.serves hw.old) (H.serves hw.new) }
+    requires runs { Runs m.now.desc (H.machinery hw.old).state guest.old }
+    ensures went { Went m.now.desc n (H.machinery hw.old) (H.machinery hw.new) guest.old guest.new }
+    ensures served { SameServed (H.serves hw.old) (H.serves hw.new) }
 {
     let mut left = n;
     while left > 0 {

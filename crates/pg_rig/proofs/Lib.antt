@@ -1,4 +1,2 @@
 pub mod StoreLemmas
 pub mod StepLemmas
-pub mod RunLemmas
-pub mod PokeLemmas

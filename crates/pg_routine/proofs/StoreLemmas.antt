@@ -1,16 +1,15 @@
 -- Stores made one by one, by pokes.
-use Rattle.std.proofs.Common.{◌≡◌, ℕ, ◌+◌, ◌<◌, ◌≤◌, List, ◌∷◌, length, take, drop, slice_set, refl, sym, ◌∙◌, ap, arith}
+use Rattle.std.proofs.Common.{◌≡◌, ℕ, ◌+◌, ◌<◌, ◌≤◌, List, ◌∷◌, length, take, drop, slice_set, refl, sym, ◌∙◌, ap, subst, arith}
 use Rattle.std.proofs.lemmas.List.{length-set, drop_all}
-use Rattle.pg_ast.specs.declared.tree.Desc.{Desc}
+use Rattle.pg_word.specs.declared.psw.Psw.{Psw}
 use Rattle.pg_type.specs.States.{State}
 use Rattle.pg_hw.specs.declared.counts.Counts.{Counts}
-use Rattle.pg_hw.specs.Tallies.{Bottom, raised_by, after_poke}
-use Rattle.pg_hw.specs.Serving.{SameServed}
-use Rattle.pg_hw.proofs.ServingLaws.{SameServed-same, SameServed-then}
+use Rattle.pg_hw.specs.Tallies.{raised_by, after_poke}
+use Rattle.pg_hw.specs.Machinery.{Machinery, poked_at}
 use Rattle.pg_interp.specs.declared.effect.Write.{Write}
 use Rattle.pg_interp.specs.Writes.{written}
 use Rattle.pg_interp.proofs.WriteLemmas.{written-length}
-use Rattle.pg_routine.specs.Granting.{with_grant, PokedWithin}
+use Rattle.pg_routine.specs.Granting.{with_grant, PokedWithin, GrantPoked}
 use Rattle.pg_routine.proofs.GrantLaws.{guest-length, guest-changed, with_grant-same, with_grant-over}
 
 -- ---- pokes counted
@@ -40,29 +39,23 @@ PokedWithin-more m n a b h p = record {
 pub PokedWithin-one : (n : ℕ) (a b : Counts) → 1 ≤ n → b ≡ after_poke a → PokedWithin n a b
 PokedWithin-one n a b h e = PokedWithin-more (0 + 1) n a b (omega arith) (PokedWithin-next 0 a a b (PokedWithin-none a) e)
 
+-- the same cells put into a grant
+pub GrantPoked-as : (base n : ℕ) (xs ys : List ℕ) (old new : Machinery) → xs ≡ ys → GrantPoked base xs n old new → GrantPoked base ys n old new
+GrantPoked-as base n xs ys old new e p = subst (λ l. GrantPoked base l n old new) e p
+
 -- ---- stores under way
 
--- a hardware on which the first n of the stores into a run of cells were made, and nothing else was done
-pub record Storing (from len : ℕ) (writes : List Write) (n : ℕ) (start now : State) (before after : Counts) (low high : Bottom) (most_was most : ℕ) (serves_was serves : Desc → Type 0) : Type 0 where
-  pub cells : with_grant now.cells from (written (drop n writes) (take len (drop from now.cells))) ≡ with_grant start.cells from (written writes (take len (drop from start.cells)))
-  pub size : length now.cells ≡ length start.cells
-  pub psw : now.psw ≡ start.psw
-  pub tally : PokedWithin n before after
-  pub bottom : high ≡ low
-  pub room : most ≡ most_was
-  pub served : SameServed serves_was serves
+-- a hardware on which the first n of the stores into a run of cells were made, beside which nothing changed
+pub record Storing (from len : ℕ) (writes : List Write) (n : ℕ) (old new : Machinery) : Type 0 where
+  pub cells : with_grant new.state.cells from (written (drop n writes) (take len (drop from new.state.cells))) ≡ with_grant old.state.cells from (written writes (take len (drop from old.state.cells)))
+  pub size : length new.state.cells ≡ length old.state.cells
+  pub psw : new.state.psw ≡ old.state.psw
+  pub tally : PokedWithin n old.tally new.tally
+  pub bottom : new.bottom ≡ old.bottom
+  pub room : new.room ≡ old.room
 
-pub Storing-none : (from len : ℕ) (writes : List Write) (s : State) (c : Counts) (low : Bottom) (room : ℕ) (served : Desc → Type 0) →
-    Storing from len writes 0 s s c c low low room room served served
-Storing-none from len writes s c low room served = record {
-  cells = refl;
-  size = refl;
-  psw = refl;
-  tally = PokedWithin-none c;
-  bottom = refl;
-  room = refl;
-  served = SameServed-same served;
-}
+pub Storing-none : (from len : ℕ) (writes : List Write) (h : Machinery) → Storing from len writes 0 h h
+Storing-none from len writes h = record { cells = refl; size = refl; psw = refl; tally = PokedWithin-none h.tally; bottom = refl; room = refl }
 
 -- the next store, made
 store-made : (from len : ℕ) (cells : List ℕ) (x : Write) (rest : List Write) → from + len ≤ length cells → x.at < len →
@@ -76,30 +69,32 @@ store-made from len cells x rest within inside =
     ap (λ v. with_grant (slice_set cells (from + x.at) x.cell) from (written rest v)) (guest-changed cells from len x.at x.cell inside)
     ∙ with_grant-over cells (written rest (slice_set w x.at x.cell)) from x.at x.cell (omega (arith, same, inside))
 
-pub Storing-next : (from len : ℕ) (writes : List Write) (n : ℕ) (x : Write) (start mid now : State) (a b c : Counts) (low between high : Bottom) (r r' r'' : ℕ) (s s' s'' : Desc → Type 0) →
-    Storing from len writes n start mid a b low between r r' s s' → drop n writes ≡ x ∷ drop (n + 1) writes → from + len ≤ length start.cells → x.at < len →
-    now ≡ record mid { cells = slice_set mid.cells (from + x.at) x.cell } → c ≡ after_poke b → high ≡ between → r'' ≡ r' → SameServed s' s'' →
-    Storing from len writes (n + 1) start now a c low high r r'' s s''
-Storing-next from len writes n x start mid now a b c low between high r r' r'' s s' s'' p next within inside more counted same room served = record {
-  cells = ap (λ t. with_grant t.cells from (written (drop (n + 1) writes) (take len (drop from t.cells)))) more
-      ∙ store-made from len mid.cells x (drop (n + 1) writes) (omega (arith, p.size, within)) inside
-      ∙ ap (λ ws. with_grant mid.cells from (written ws (take len (drop from mid.cells)))) (sym next) ∙ p.cells;
-  size = ap (λ t. length t.cells) more ∙ length-set mid.cells (from + x.at) x.cell ∙ p.size;
-  psw = ap (λ t. t.psw) more ∙ p.psw;
-  tally = PokedWithin-next n a b c p.tally counted;
-  bottom = same ∙ p.bottom;
-  room = room ∙ p.room;
-  served = SameServed-then s s' s'' p.served served;
+pub Storing-next : (from len : ℕ) (writes : List Write) (n : ℕ) (x : Write) (old mid new : Machinery) →
+    Storing from len writes n old mid → drop n writes ≡ x ∷ drop (n + 1) writes → from + len ≤ length old.state.cells → x.at < len →
+    new ≡ poked_at (from + x.at) x.cell mid → Storing from len writes (n + 1) old new
+Storing-next from len writes n x old mid new p next within inside more = record {
+  cells = ap (λ (h : Machinery). with_grant h.state.cells from (written (drop (n + 1) writes) (take len (drop from h.state.cells)))) more
+      ∙ store-made from len mid.state.cells x (drop (n + 1) writes) (omega (arith, p.size, within)) inside
+      ∙ ap (λ ws. with_grant mid.state.cells from (written ws (take len (drop from mid.state.cells)))) (sym next) ∙ p.cells;
+  size = ap (λ (h : Machinery). length h.state.cells) more ∙ length-set mid.state.cells (from + x.at) x.cell ∙ p.size;
+  psw = ap (λ (h : Machinery). h.state.psw) more ∙ p.psw;
+  tally = PokedWithin-next n old.tally mid.tally new.tally p.tally (ap (λ (h : Machinery). h.tally) more);
+  bottom = ap (λ (h : Machinery). h.bottom) more ∙ p.bottom;
+  room = ap (λ (h : Machinery). h.room) more ∙ p.room;
 }
 
 -- all stores, made
-pub Storing-all : (from len : ℕ) (writes : List Write) (n : ℕ) (start now : State) (a c : Counts) (low high : Bottom) (r r' : ℕ) (s s' : Desc → Type 0) →
-    Storing from len writes n start now a c low high r r' s s' → length writes ≤ n → from + len ≤ length start.cells →
-    now ≡ record start { cells = with_grant start.cells from (written writes (take len (drop from start.cells))) }
+pub Storing-all : (from len : ℕ) (writes : List Write) (n : ℕ) (old new : Machinery) → Storing from len writes n old new → n ≡ length writes → from + len ≤ length old.state.cells →
+    GrantPoked from (written writes (take len (drop from old.state.cells))) (length writes) old new
 unfolding written
-Storing-all from len writes n start now a c low high r r' s s' p all within =
-    let whole : now.cells ≡ with_grant start.cells from (written writes (take len (drop from start.cells))) =
-    sym (with_grant-same now.cells from len (omega (arith, p.size, within)))
-    ∙ sym (ap (λ ws. with_grant now.cells from (written ws (take len (drop from now.cells)))) (drop_all n writes all)) ∙ p.cells in
-    ap (λ cs. let t : State = record { cells = cs; psw = now.psw } in t) whole
-    ∙ ap (λ x. let t : State = record { cells = with_grant start.cells from (written writes (take len (drop from start.cells))); psw = x } in t) p.psw
+Storing-all from len writes n old new p all within =
+    let whole : new.state.cells ≡ with_grant old.state.cells from (written writes (take len (drop from old.state.cells))) =
+    sym (with_grant-same new.state.cells from len (omega (arith, p.size, within)))
+    ∙ sym (ap (λ ws. with_grant new.state.cells from (written ws (take len (drop from new.state.cells)))) (drop_all n writes (omega (arith, all)))) ∙ p.cells in
+    record {
+      state = ap (λ cs. let t : State = record { cells = cs; psw = new.state.psw } in t) whole
+          ∙ ap (λ (x : Psw). let t : State = record { cells = with_grant old.state.cells from (written writes (take len (drop from old.state.cells))); psw = x } in t) p.psw;
+      tally = PokedWithin-more n (length writes) old.tally new.tally (omega (arith, all)) p.tally;
+      bottom = p.bottom;
+      room = p.room;
+    }

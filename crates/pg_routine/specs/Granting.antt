@@ -4,6 +4,7 @@ use Rattle.pg_word.specs.declared.psw.Psw.{Psw}
 use Rattle.pg_type.specs.States.{State}
 use Rattle.pg_hw.specs.declared.counts.Counts.{Counts}
 use Rattle.pg_hw.specs.Tallies.{RisesWithin}
+use Rattle.pg_hw.specs.Machinery.{Machinery}
 
 -- the state of a guest: the `size` cells from `base` on, and its virtual PSW
 abbrev pub guest_at : List ℕ → ℕ → ℕ → Psw → State
@@ -19,3 +20,10 @@ pub record PokedWithin (n : ℕ) (old new : Counts) : Type 0 where
   pub untrapped : new.untrapped ≡ old.untrapped
   pub loads : new.loads ≡ old.loads
   pub pokes : RisesWithin 0 n old.pokes new.pokes
+
+-- a hardware that has other cells from `base` on, put there by at most n pokes, beside which nothing changed
+pub record GrantPoked (base : ℕ) (new_cells : List ℕ) (n : ℕ) (old new : Machinery) : Type 0 where
+  pub state : new.state ≡ record old.state { cells = with_grant old.state.cells base new_cells }
+  pub tally : PokedWithin n old.tally new.tally
+  pub bottom : new.bottom ≡ old.bottom
+  pub room : new.room ≡ old.room

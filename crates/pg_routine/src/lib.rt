@@ -17,6 +17,3 @@ mod window;
 
 pub use composing::compose;
 pub use routine::{emulate, emulate_told};
-
-#[cfg(test)]
-mod tests;

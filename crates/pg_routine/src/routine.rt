@@ -1,19 +1,19 @@
 //! One step of a guest's machine, interpreted.
 
-ghost use Rattle.std.specs.Prelude.{◌≡◌, ◌+◌, ◌<◌, ◌≤◌, ◌^◌, length, take, drop, slice_set, slice_index, All, true};
-ghost use Rattle.pg_word.specs.Psw.{IsPsw};
+ghost use Rattle.std.specs.Prelude.{◌≡◌, ◌+◌, ◌<◌, ◌≤◌, ◌^◌, length, take, drop, All, true};
+ghost use Rattle.pg_word.specs.Psw.{cause_number};
 ghost use Rattle.pg_type.specs.States.{IsState};
 ghost use Rattle.pg_type.specs.Steps.{step, trapped};
 ghost use Rattle.pg_hw.specs.Bursts.{traps};
 ghost use Rattle.pg_hw.specs.Serving.{SameServed, IsServedWord};
-ghost use Rattle.pg_interp.specs.Writes.{written, AreWrites};
-ghost use Rattle.pg_routine.specs.Granting.{guest_at, with_grant, PokedWithin};
+ghost use Rattle.pg_interp.specs.Writes.{written};
+ghost use Rattle.pg_routine.specs.Granting.{guest_at, GrantPoked};
 
 use crate::window::{Span, Window, span_of};
 use pg_hw::Hardware;
 use pg_interp::{Outcome, Write, execute};
 use pg_type::Machine;
-use pg_word::{Psw, pack_trap, unpack};
+use pg_word::{Cause, Psw, pack_trap, unpack};
 
 /// One step of a guest's machine.
 ///
@@ -22,13 +22,11 @@ use pg_word::{Psw, pack_trap, unpack};
 pub fn emulate<H: Hardware>(m: &Machine, hw: &mut H, base: u32, size: u32, psw: &mut Psw)
     requires served { H.serves hw.old m.now.desc }
     requires addressable { base + size < 2 ^ 32 }
-    requires within { base + size ≤ length (H.state hw.old).cells }
-    requires guest { IsState m.now.desc (guest_at (H.state hw.old).cells base size psw.old) }
-    ensures storage { H.state hw.new ≡ record (H.state hw.old) { cells = with_grant (H.state hw.old).cells base (step m.now.desc (guest_at (H.state hw.old).cells base size psw.old)).cells } }
-    ensures psw { psw.new ≡ (step m.now.desc (guest_at (H.state hw.old).cells base size psw.old)).psw }
-    ensures tally { PokedWithin 8 (H.tally hw.old) (H.tally hw.new) }
-    ensures bottom { H.bottom hw.new ≡ H.bottom hw.old }
-    ensures room { H.most_cells hw.new ≡ H.most_cells hw.old }
+    requires within { base + size ≤ length (H.machinery hw.old).state.cells }
+    requires guest { IsState m.now.desc (guest_at (H.machinery hw.old).state.cells base size psw.old) }
+    ensures grant { let guest = guest_at (H.machinery hw.old).state.cells base size psw.old in
+        GrantPoked base (step m.now.desc guest).cells 8 (H.machinery hw.old) (H.machinery hw.new) }
+    ensures psw { psw.new ≡ (step m.now.desc (guest_at (H.machinery hw.old).state.cells base size psw.old)).psw }
     ensures served { SameServed (H.serves hw.old) (H.serves hw.new) }
 {
     emulate_told(m, hw, base, size, psw);
@@ -44,22 +42,20 @@ pub fn emulate_told<H: Hardware>(
 ) -> bool
     requires served { H.serves hw.old m.now.desc }
     requires addressable { base + size < 2 ^ 32 }
-    requires within { base + size ≤ length (H.state hw.old).cells }
-    requires guest { IsState m.now.desc (guest_at (H.state hw.old).cells base size psw.old) }
-    ensures storage { H.state hw.new ≡ record (H.state hw.old) { cells = with_grant (H.state hw.old).cells base (step m.now.desc (guest_at (H.state hw.old).cells base size psw.old)).cells } }
-    ensures psw { psw.new ≡ (step m.now.desc (guest_at (H.state hw.old).cells base size psw.old)).psw }
-    ensures told { result ≡ traps m.now.desc (guest_at (H.state hw.old).cells base size psw.old) }
-    ensures tally { PokedWithin 8 (H.tally hw.old) (H.tally hw.new) }
-    ensures bottom { H.bottom hw.new ≡ H.bottom hw.old }
-    ensures room { H.most_cells hw.new ≡ H.most_cells hw.old }
+    requires within { base + size ≤ length (H.machinery hw.old).state.cells }
+    requires guest { IsState m.now.desc (guest_at (H.machinery hw.old).state.cells base size psw.old) }
+    ensures grant { let guest = guest_at (H.machinery hw.old).state.cells base size psw.old in
+        GrantPoked base (step m.now.desc guest).cells 8 (H.machinery hw.old) (H.machinery hw.new) }
+    ensures psw { psw.new ≡ (step m.now.desc (guest_at (H.machinery hw.old).state.cells base size psw.old)).psw }
+    ensures told { result ≡ traps m.now.desc (guest_at (H.machinery hw.old).state.cells base size psw.old) }
     ensures served { SameServed (H.serves hw.old) (H.serves hw.new) }
 {
     let span = span_of(*psw, base, size);
     let outcome = execute(m, &Window { hw, span }, *psw);
     match outcome {
-        Outcome::MemTrap => trap(m, hw, base, size, psw, 1),
-        Outcome::Trap => trap(m, hw, base, size, psw, 2),
-        Outcome::NoPattern => trap(m, hw, base, size, psw, 3),
+        Outcome::MemTrap => trap(m, hw, base, size, psw, Cause::Memory),
+        Outcome::Trap => trap(m, hw, base, size, psw, Cause::Trap),
+        Outcome::NoPattern => trap(m, hw, base, size, psw, Cause::NoPattern),
         Outcome::Done(effect) => {
             store(hw, span, &effect.writes);
             *psw = effect.psw;
@@ -71,13 +67,11 @@ pub fn emulate_told<H: Hardware>(
 /// Makes stores in order into the cells of a span, by a poke each.
 fn store<H: Hardware>(hw: &mut H, span: Span, writes: &[Write])
     requires addressable { span.from + span.len < 2 ^ 32 }
-    requires within { span.from + span.len ≤ length (H.state hw.old).cells }
+    requires within { span.from + span.len ≤ length (H.machinery hw.old).state.cells }
     requires inside { All (λ x. x.at < span.len) writes.now }
     requires words { All (λ x. IsServedWord (H.serves hw.old) x.cell) writes.now }
-    ensures storage { H.state hw.new ≡ record (H.state hw.old) { cells = with_grant (H.state hw.old).cells span.from (written writes.now (take span.len (drop span.from (H.state hw.old).cells))) } }
-    ensures tally { PokedWithin (length writes.now) (H.tally hw.old) (H.tally hw.new) }
-    ensures bottom { H.bottom hw.new ≡ H.bottom hw.old }
-    ensures room { H.most_cells hw.new ≡ H.most_cells hw.old }
+    ensures grant { let seen = take span.len (drop span.from (H.machinery hw.old).state.cells) in
+        GrantPoked span.from (written writes.now seen) (length writes.now) (H.machinery hw.old) (H.machinery hw.new) }
     ensures served { SameServed (H.serves hw.old) (H.serves hw.new) }
 {
     for write in writes {
@@ -93,25 +87,21 @@ fn trap<H: Hardware>(
     base: u32,
     size: u32,
     psw: &mut Psw,
-    cause: u8,
+    cause: Cause,
 ) -> bool
     requires served { H.serves hw.old m.now.desc }
     requires addressable { base + size < 2 ^ 32 }
-    requires within { base + size ≤ length (H.state hw.old).cells }
-    requires guest { IsState m.now.desc (guest_at (H.state hw.old).cells base size psw.old) }
-    requires cause_least { 1 ≤ cause }
-    requires cause_most { cause ≤ 3 }
-    ensures storage { H.state hw.new ≡ record (H.state hw.old) { cells = with_grant (H.state hw.old).cells base (trapped m.now.desc (guest_at (H.state hw.old).cells base size psw.old) cause).cells } }
-    ensures psw { psw.new ≡ (trapped m.now.desc (guest_at (H.state hw.old).cells base size psw.old) cause).psw }
+    requires within { base + size ≤ length (H.machinery hw.old).state.cells }
+    requires guest { IsState m.now.desc (guest_at (H.machinery hw.old).state.cells base size psw.old) }
+    ensures grant { let guest = guest_at (H.machinery hw.old).state.cells base size psw.old in
+        GrantPoked base (trapped m.now.desc guest (cause_number cause)).cells 8 (H.machinery hw.old) (H.machinery hw.new) }
+    ensures psw { psw.new ≡ (trapped m.now.desc (guest_at (H.machinery hw.old).state.cells base size psw.old) (cause_number cause)).psw }
     ensures told { result ≡ true }
-    ensures tally { PokedWithin 8 (H.tally hw.old) (H.tally hw.new) }
-    ensures bottom { H.bottom hw.new ≡ H.bottom hw.old }
-    ensures room { H.most_cells hw.new ≡ H.most_cells hw.old }
     ensures served { SameServed (H.serves hw.old) (H.serves hw.new) }
 {
     let shape = m.shape();
     let loaded = unpack(shape, hw.peek(base + 1));
-    hw.poke(base, pack_trap(shape, *psw, cause));
+    hw.poke(base, pack_trap(shape, *psw, cause.number()));
     *psw = loaded;
     true
 }

@@ -32,7 +32,7 @@ pub(crate) fn span_of(psw: Psw, base: u32, size: u32) -> Span
 pub(crate) struct Window<'h, H: Hardware> {
     pub(crate) hw: &'h H,
     pub(crate) span: Span,
-    ghost within: { span.from + span.len ≤ length (H.state hw.now).cells },
+    ghost within: { span.from + span.len ≤ length (H.machinery hw.now).state.cells },
     ghost addressable: { span.from + span.len < 2 ^ 32 },
 }
 
@@ -45,7 +45,7 @@ impl<'h, H: Hardware> Drop for Window<'h, H> {
 impl<'h, H: Hardware> Cells for Window<'h, H> {
     ghost use Rattle.std.specs.Prelude.{take, drop};
 
-    ghost window = { λ w. take w.span.len (drop w.span.from (H.state w.hw.now).cells) };
+    ghost window = { λ w. take w.span.len (drop w.span.from (H.machinery w.hw.now).state.cells) };
 
     fn cell(&self, a: u32) -> Option<u64> {
         if a < self.span.len {

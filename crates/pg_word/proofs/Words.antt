@@ -1,4 +1,4 @@
--- Words that hold a program status word, and the window that it opens.
+-- Words that hold a program status word.
 use Rattle.std.proofs.Common.{◌≡◌, ℕ, ◌+◌, ◌*◌, ◌/◌, ◌%◌, ◌^◌, ◌<◌, ◌≤◌, true, false, refl, ap, ◌∙◌, arith, inl, inr, lit<, zero-add}
 use Rattle.std.proofs.Math.Pow.{pow-add}
 use Rattle.std.proofs.lemmas.Bool.{cases_Bool}
@@ -8,7 +8,7 @@ use Rattle.pg_word.specs.declared.psw.Psw.{Psw}
 use Rattle.pg_word.specs.declared.psw.Mode.{Mode}
 use Rattle.pg_word.specs.declared.psw.Mode.TheVariants.{S, U}
 use Rattle.pg_word.specs.Shape.{IsShape}
-use Rattle.pg_word.specs.Psw.{IsPsw, bit_of, mode_of, packed, packed_trap, unpacked, window_len_of}
+use Rattle.pg_word.specs.Psw.{IsPsw, bit_of, mode_of, packed, packed_trap, unpacked}
 use Rattle.pg_word.proofs.Numbers.{below_pow_wider, mul_pow_add_below}
 
 bit_of_below : (m : Mode) → bit_of m < 2 ^ 1
@@ -60,10 +60,10 @@ pub unpacked_packed : (a : ℕ) (x : Psw) → IsPsw a x → unpacked a (packed a
 unpacked_packed a x h =
     unpacked_fields a (bit_of x.mode) x.p x.l x.b h.p h.l h.b ∙ ap (λ m. record x { mode = m }) (mode_of_bit x.mode)
 
-pub packed_trap_on : (s : Shape) (x : Psw) (c : ℕ) → s.causes ≡ true → packed_trap s x c ≡ c * 2 ^ (3 * s.a + 1) + packed s.a x
+packed_trap_on : (s : Shape) (x : Psw) (c : ℕ) → s.causes ≡ true → packed_trap s x c ≡ c * 2 ^ (3 * s.a + 1) + packed s.a x
 packed_trap_on s x c e = rw e
 
-pub packed_trap_off : (s : Shape) (x : Psw) (c : ℕ) → s.causes ≡ false → packed_trap s x c ≡ packed s.a x
+packed_trap_off : (s : Shape) (x : Psw) (c : ℕ) → s.causes ≡ false → packed_trap s x c ≡ packed s.a x
 packed_trap_off s x c e = rw e (zero-add _)
 
 pub packed_trap_below : (s : Shape) (x : Psw) (c : ℕ) → IsShape s → IsPsw s.a x → c ≤ 3 → packed_trap s x c < 2 ^ s.w
@@ -77,7 +77,7 @@ pub packed_trap_cause : (s : Shape) (x : Psw) (c : ℕ) → s.causes ≡ true �
 packed_trap_cause s x c e h = rw (packed_trap_on s x c e) (shr_high c (3 * s.a + 1) (packed s.a x) (packed_below s.a x h))
 
 -- a cause is ignored
-pub unpacked_cause_above : (a c : ℕ) (x : Psw) → IsPsw a x → unpacked a (c * 2 ^ (3 * a + 1) + packed a x) ≡ x
+unpacked_cause_above : (a c : ℕ) (x : Psw) → IsPsw a x → unpacked a (c * 2 ^ (3 * a + 1) + packed a x) ≡ x
 unpacked_cause_above a c x h =
     ap (λ t. unpacked a (c * t + packed a x)) (pow_word a)
     ∙ ap (unpacked a) (add_fields c (bit_of x.mode) (2 ^ a) x.p x.l x.b)
@@ -90,14 +90,3 @@ unpacked_packed_trap s x c h =
       | inl e ↦ ap (unpacked s.a) (packed_trap_on s x c e) ∙ unpacked_cause_above s.a c x h
       | inr e ↦ ap (unpacked s.a) (packed_trap_off s x c e) ∙ unpacked_packed s.a x h
     ]
-
--- ---- windows
-
-pub window_len_of_most : (x : Psw) (n : ℕ) → window_len_of x n ≤ n
-window_len_of_most x n = omega arith
-
-pub window_len_of_none : (x : Psw) (n : ℕ) → n ≤ x.l → window_len_of x n ≡ 0
-window_len_of_none x n h = omega arith
-
-pub window_len_of_inside : (x : Psw) (n k : ℕ) → k < window_len_of x n → x.l + k < n
-window_len_of_inside x n k h = omega arith

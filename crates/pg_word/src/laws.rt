@@ -2,7 +2,7 @@
 
 ghost use Rattle.std.specs.Prelude.{◌≡◌, ℕ, ◌+◌, ◌*◌, ◌/◌, ◌^◌, ◌<◌, ◌≤◌, true, false};
 ghost use Rattle.pg_word.specs.Shape.{IsShape};
-ghost use Rattle.pg_word.specs.Psw.{IsPsw, packed, packed_trap, unpacked, window_len_of};
+ghost use Rattle.pg_word.specs.Psw.{IsPsw, packed, packed_trap, power_on_psw, unpacked, window_len_of};
 ghost use Rattle.pg_word.specs.Bits.{product_of, left_shifted, sign_extended};
 
 use super::psw::{Mode, Psw};
@@ -66,7 +66,7 @@ pub fn window_address_is_within_size(x: Psw, size: u32)
 /// Words that can be worked out by hand, at addresses of 8 bits.
 pub fn worked_words()
     ensures user { packed 8 (record { mode = Mode.U; p = 5; l = 16; b = 32 }) ≡ 0x01051020 }
-    ensures trap { packed_trap (record { w = 32; a = 8; q = 64; causes = true }) (record { mode = Mode.S; p = 2; l = 0; b = 8 }) 3 ≡ 0x06020008 }
+    ensures trap { packed_trap (record { w = 32; a = 8; q = 64; causes = true }) (power_on_psw 8) 3 ≡ 0x06020008 }
 {}
 
 /// Numbers of 8 bits that can be worked out by hand.

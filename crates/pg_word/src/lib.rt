@@ -1,20 +1,20 @@
 //! Shapes, program status words and numbers of n bits: the arithmetic that every layer above shares.
 //!
 //! A *shape* is the numbers of a machine: word width, address width, greatest size, and whether a trap stores its
-//! cause. A *program status word* (mode, P, l, b) is packed into one word of storage and back here, and only here. The
-//! window that the relocation-bounds register (l, b) opens is measured here. The n-bit functions are those of the
+//! cause. A *program status word* (mode, P, l, b) is packed into one word of storage and back here, and only here; the one
+//! with which a machine is switched on is made here. The window that the relocation-bounds register (l, b) opens is
+//! measured here, and the three *causes* of a trap have their numbers here. The n-bit functions are those of the
 //! description language's expressions: each is the arithmetic one, for every width from 1 to 64.
 //!
 //! All of it takes no memory and refuses nothing: what a call needs of its numbers stands in its `requires`.
 #![tactic(auto)]
 
 pub mod bits;
+mod cause;
 pub mod laws;
 mod psw;
 mod shape;
 
+pub use cause::Cause;
 pub use psw::{Mode, Psw, pack, pack_trap, unpack, window_len};
 pub use shape::Shape;
-
-#[cfg(test)]
-mod tests;

@@ -10,7 +10,7 @@
 
 ghost use Rattle.std.specs.Prelude.{◌≡◌, ◌+◌, ◌*◌, ◌%◌, ◌^◌, ◌<◌, ◌≤◌};
 ghost use Rattle.pg_word.specs.Shape.{IsShape};
-ghost use Rattle.pg_word.specs.Psw.{IsPsw, bit_of, packed, packed_trap, unpacked, window_len_of};
+ghost use Rattle.pg_word.specs.Psw.{IsPsw, bit_of, packed, packed_trap, power_on_psw, unpacked, window_len_of};
 
 use super::bits::above;
 use super::shape::Shape;
@@ -38,6 +38,21 @@ pub struct Psw {
     pub b: u32,
 }
 
+impl Psw {
+    /// The program status word with which a machine of `size` cells is switched on: supervisor mode, P at 2, which is the
+    /// first cell behind those of traps, and a window of all cells.
+    pub fn power_on(size: u32) -> Psw
+        ensures { result ≡ power_on_psw size }
+    {
+        Psw {
+            mode: Mode::S,
+            p: 2,
+            l: 0,
+            b: size,
+        }
+    }
+}
+
 /// The word of a program status word. The bits above the mode are 0.
 pub fn pack(shape: &Shape, psw: Psw) -> u64
     requires shape { IsShape shape.now }
@@ -50,7 +65,8 @@ pub fn pack(shape: &Shape, psw: Psw) -> u64
     above(l, shape.a, u64::from(psw.b))
 }
 
-/// What a trap stores: the word of the program status word at entry, and where causes are on the cause above the mode.
+/// What a trap stores: the word of the program status word at entry, and where causes are on the number of the cause above
+/// the mode.
 pub fn pack_trap(shape: &Shape, psw: Psw, cause: u8) -> u64
     requires shape { IsShape shape.now }
     requires fields { IsPsw shape.now.a psw }

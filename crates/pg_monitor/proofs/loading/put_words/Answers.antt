@@ -1,9 +1,21 @@
-use Rattle.std.proofs.Common.{arith}
-use Rattle.std.proofs.lemmas.List.{take_more}
-use Rattle.pg_monitor.proofs.LoadLemmas.{Loaded-next}
+use Rattle.std.proofs.Common.{◌∙◌, ap, arith}
+use Rattle.std.proofs.lemmas.List.{take_more, take_all}
+use Rattle.pg_hw.proofs.ServingLaws.{SameServed-same, SameServed-then}
+use Rattle.pg_monitor.specs.Loading.{with_words}
+use Rattle.pg_monitor.proofs.LoadLemmas.{with_words-none, with_words-next}
 use Rattle.pg_monitor.proofs.loading.put_words.Goals as goal
 
+pub loop-at-init : goal.loop-at-init
+loop-at-init g c = record { put = with_words-none c.args.base (g.H.Hardware.machinery c.args.hw.now); served = SameServed-same _ }
+
 pub loop-at-preserved : goal.loop-at-preserved
-loop-at-preserved g c =
-    Loaded-next c.args.base c.args.words.now _ _ _ _ _ _ _ _ _ _ _ _ _ _ _ _ _ c.loop-at.invariant (omega arith) (omega arith)
-    (take_more c.args.words.now c.loop-at.at 0 (omega arith)) c.poke.ensures.state c.poke.ensures.tally c.poke.ensures.bottom c.poke.ensures.room c.poke.ensures.served
+loop-at-preserved g c = record {
+  put = with_words-next c.args.base c.args.words.now _ _ _ _ _ c.loop-at.invariant.put (omega arith) (omega arith)
+      (take_more c.args.words.now c.loop-at.at 0 (omega arith)) c.poke.ensures.poked;
+  served = SameServed-then _ _ _ c.loop-at.invariant.served c.poke.ensures.served;
+}
+
+pub returns-clause-put : goal.returns-clause-put
+returns-clause-put g c =
+    c.loop-at.invariant.put
+    ∙ ap (λ xs. with_words c.args.base xs (g.H.Hardware.machinery c.args.hw.now)) (take_all c.loop-at.at c.args.words.now (omega arith))

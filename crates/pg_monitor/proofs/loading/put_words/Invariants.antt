@@ -1,9 +1,11 @@
-use Rattle.pg_monitor.specs.Loading.{Loaded}
+use Rattle.std.proofs.Common.{◌≡◌, take}
+use Rattle.pg_hw.specs.Serving.{SameServed}
+use Rattle.pg_monitor.specs.Loading.{with_words}
 use Rattle.pg_monitor.proofs.loading.put_words.Given as goal
 
 -- the words before this one were poked
 abbrev pub invariant-loop-at : goal.invariant-loop-at
-invariant-loop-at g l =
-    Loaded l.base l.words l.at (g.H.Hardware.state l.initial.hw) (g.H.Hardware.state l.hw) (g.H.Hardware.tally l.initial.hw) (g.H.Hardware.tally l.hw)
-    (g.H.Hardware.bottom l.initial.hw) (g.H.Hardware.bottom l.hw) (g.H.Hardware.most_cells l.initial.hw) (g.H.Hardware.most_cells l.hw)
-    (g.H.Hardware.serves l.initial.hw) (g.H.Hardware.serves l.hw)
+invariant-loop-at g l = record {
+  put : g.H.Hardware.machinery l.hw ≡ with_words l.base (take l.at l.words) (g.H.Hardware.machinery l.initial.hw);
+  served : SameServed (g.H.Hardware.serves l.initial.hw) (g.H.Hardware.serves l.hw);
+}

@@ -16,7 +16,7 @@ peek-requires g c =
 pub interpret-requires-clause-holds : goal.interpret-requires-clause-holds
 interpret-requires-clause-holds g c =
     let d = c.args.m.now.desc in
-    let stopped : Stopped d c.burst-done.result (g.H.Hardware.state c.args.hw.now) c.args.guest.now =
+    let stopped : Stopped d c.burst-done.result (g.H.Hardware.machinery c.args.hw.now).state c.args.guest.now =
     Stopped-burst d _ _ _ c.args.guest.now c.requires.accepted c.args.m.now.valid c.requires.runs c.requires.some c.burst-done.ensures.count
     (sym (ap (λ (x : Psw). x.mode) (c.psw-psw.ensures ∙ ap (λ (s : State). s.psw) c.burst-done.ensures.state)) ∙ c.in-S.is) in
     (Halted-of d _ _ _ c.args.guest.now _ stopped c.args.m.now.valid c.burst-done.ensures.state
@@ -24,34 +24,35 @@ interpret-requires-clause-holds g c =
     (entry-read d _ _ _ _ c.shape.ensures.numbers c.peek.ensures c.unpack.ensures.psw))).holds
 
 pub returns-in-U-clause-least : goal.returns-in-U-clause-least
-returns-in-U-clause-least g c = omega (arith, burst_length-some c.args.m.now.desc c.args.most (g.H.Hardware.state c.args.hw.now) c.requires.some, c.burst-done.ensures.count)
+returns-in-U-clause-least g c = omega (arith, burst_length-some c.args.m.now.desc c.args.most (g.H.Hardware.machinery c.args.hw.now).state c.requires.some, c.burst-done.ensures.count)
 
 pub returns-in-U-clause-most : goal.returns-in-U-clause-most
-returns-in-U-clause-most g c = omega (arith, burst_length-most c.args.m.now.desc c.args.most (g.H.Hardware.state c.args.hw.now), c.burst-done.ensures.count)
+returns-in-U-clause-most g c = omega (arith, burst_length-most c.args.m.now.desc c.args.most (g.H.Hardware.machinery c.args.hw.now).state, c.burst-done.ensures.count)
 
 pub returns-in-U-clause-went : goal.returns-in-U-clause-went
 returns-in-U-clause-went g c =
     let d = c.args.m.now.desc in
     let run = Directly-burst d _ _ _ c.args.guest.now c.requires.accepted c.args.m.now.valid c.requires.runs c.requires.some c.burst-done.ensures.count
     (sym (ap (λ (x : Psw). x.mode) (c.psw-psw.ensures ∙ ap (λ (s : State). s.psw) c.burst-done.ensures.state)) ∙ c.in-U.is) in
-    Went-direct d _ _ _ c.args.guest.now _ _ _ _ _ _ _ _ _ run c.burst-done.ensures.state
+    Went-direct d _ _ _ c.args.guest.now _ run
+    (record { state = c.burst-done.ensures.state; tally = c.burst-done.ensures.tally; bottom = c.burst-done.ensures.bottom; room = c.burst-done.ensures.room })
     (ap (λ (x : Psw). with_psw c.args.guest.now (record c.args.guest.now.psw { p = x.p })) c.psw-psw.ensures)
-    c.burst-done.ensures.tally c.burst-done.ensures.bottom c.burst-done.ensures.room c.burst-done.ensures.served
 
 pub returns-in-S-clause-least : goal.returns-in-S-clause-least
-returns-in-S-clause-least g c = omega (arith, burst_length-some c.args.m.now.desc c.args.most (g.H.Hardware.state c.args.hw.now) c.requires.some, c.burst-done.ensures.count)
+returns-in-S-clause-least g c = omega (arith, burst_length-some c.args.m.now.desc c.args.most (g.H.Hardware.machinery c.args.hw.now).state c.requires.some, c.burst-done.ensures.count)
 
 pub returns-in-S-clause-most : goal.returns-in-S-clause-most
-returns-in-S-clause-most g c = omega (arith, burst_length-most c.args.m.now.desc c.args.most (g.H.Hardware.state c.args.hw.now), c.burst-done.ensures.count)
+returns-in-S-clause-most g c = omega (arith, burst_length-most c.args.m.now.desc c.args.most (g.H.Hardware.machinery c.args.hw.now).state, c.burst-done.ensures.count)
 
 pub returns-in-S-clause-went : goal.returns-in-S-clause-went
 returns-in-S-clause-went g c =
     let d = c.args.m.now.desc in
-    let stopped : Stopped d c.burst-done.result (g.H.Hardware.state c.args.hw.now) c.args.guest.now =
+    let stopped : Stopped d c.burst-done.result (g.H.Hardware.machinery c.args.hw.now).state c.args.guest.now =
     Stopped-burst d _ _ _ c.args.guest.now c.requires.accepted c.args.m.now.valid c.requires.runs c.requires.some c.burst-done.ensures.count
     (sym (ap (λ (x : Psw). x.mode) (c.psw-psw.ensures ∙ ap (λ (s : State). s.psw) c.burst-done.ensures.state)) ∙ c.in-S.is) in
     let halted = Halted-of d _ _ _ c.args.guest.now _ stopped c.args.m.now.valid c.burst-done.ensures.state
     (ap (λ (x : Psw). with_psw c.args.guest.now (record c.args.guest.now.psw { p = x.p }))
     (entry-read d _ _ _ _ c.shape.ensures.numbers c.peek.ensures c.unpack.ensures.psw)) in
-    Went-halted d _ _ _ _ c.args.guest.now _ _ _ _ _ _ _ _ _ _ _ _ _ _ c.args.m.now.valid stopped halted c.interpret.ensures.interpreted c.burst-done.ensures.tally
-    c.burst-done.ensures.bottom c.interpret.ensures.bottom c.burst-done.ensures.room c.interpret.ensures.room c.burst-done.ensures.served c.interpret.ensures.served
+    Went-halted d _ _ _ _ c.args.guest.now _ _ c.args.m.now.valid stopped halted
+    (record { state = c.burst-done.ensures.state; tally = c.burst-done.ensures.tally; bottom = c.burst-done.ensures.bottom; room = c.burst-done.ensures.room })
+    c.interpret.ensures.interpreted

@@ -3,8 +3,8 @@ use Rattle.pg_type.specs.States.{State}
 use Rattle.pg_type.specs.Steps.{ByMemTrap, ByTrap, ByNoPattern, Done}
 use Rattle.pg_interp.specs.Writes.{written}
 use Rattle.pg_interp.specs.Outcomes.{ending_as}
-use Rattle.pg_routine.specs.Granting.{with_grant}
 use Rattle.pg_routine.proofs.StepLemmas.{seen-words, step-of, traps-of, step-done}
+use Rattle.pg_routine.proofs.StoreLemmas.{PokedWithin-more, GrantPoked-as}
 use Rattle.pg_routine.proofs.routine.emulate_told.Goals as goal
 
 pub execute-outcome-requires-clause-words : goal.execute-outcome-requires-clause-words
@@ -12,12 +12,12 @@ execute-outcome-requires-clause-words g c =
     seen-words c.args.m.now.desc _ _ _ _ c.span_of-span.result.from c.span_of-span.result.len
     c.requires.within c.span_of-span.ensures.from c.span_of-span.ensures.len c.requires.guest
 
-pub returns-in-MemTrap-clause-storage : goal.returns-in-MemTrap-clause-storage
-returns-in-MemTrap-clause-storage g c =
-    let old = g.H.Hardware.state c.args.hw.now in
-    c.trap.ensures.storage
-    ∙ ap (λ r. let u : State = record old { cells = with_grant old.cells c.args.base r.cells } in u)
-    (step-of c.args.m.now.desc _ _ _ _ _ _ c.execute-outcome.result ByMemTrap c.requires.within c.span_of-span.ensures.from c.span_of-span.ensures.len c.execute-outcome.ensures (ap (ending_as _) c.in-MemTrap.is))
+pub returns-in-MemTrap-clause-grant : goal.returns-in-MemTrap-clause-grant
+returns-in-MemTrap-clause-grant g c =
+    GrantPoked-as c.args.base 8 _ _ _ _
+    (ap (λ (r : State). r.cells)
+    (step-of c.args.m.now.desc _ _ _ _ _ _ c.execute-outcome.result ByMemTrap c.requires.within c.span_of-span.ensures.from c.span_of-span.ensures.len c.execute-outcome.ensures (ap (ending_as _) c.in-MemTrap.is)))
+    c.trap.ensures.grant
 
 pub returns-in-MemTrap-clause-psw : goal.returns-in-MemTrap-clause-psw
 returns-in-MemTrap-clause-psw g c =
@@ -30,12 +30,12 @@ returns-in-MemTrap-clause-told g c =
     c.trap.ensures.told
     ∙ traps-of c.args.m.now.desc _ _ _ _ _ _ c.execute-outcome.result ByMemTrap c.requires.within c.span_of-span.ensures.from c.span_of-span.ensures.len c.execute-outcome.ensures (ap (ending_as _) c.in-MemTrap.is)
 
-pub returns-in-Trap-clause-storage : goal.returns-in-Trap-clause-storage
-returns-in-Trap-clause-storage g c =
-    let old = g.H.Hardware.state c.args.hw.now in
-    c.trap-in-Trap.ensures.storage
-    ∙ ap (λ r. let u : State = record old { cells = with_grant old.cells c.args.base r.cells } in u)
-    (step-of c.args.m.now.desc _ _ _ _ _ _ c.execute-outcome.result ByTrap c.requires.within c.span_of-span.ensures.from c.span_of-span.ensures.len c.execute-outcome.ensures (ap (ending_as _) c.in-Trap.is))
+pub returns-in-Trap-clause-grant : goal.returns-in-Trap-clause-grant
+returns-in-Trap-clause-grant g c =
+    GrantPoked-as c.args.base 8 _ _ _ _
+    (ap (λ (r : State). r.cells)
+    (step-of c.args.m.now.desc _ _ _ _ _ _ c.execute-outcome.result ByTrap c.requires.within c.span_of-span.ensures.from c.span_of-span.ensures.len c.execute-outcome.ensures (ap (ending_as _) c.in-Trap.is)))
+    c.trap-in-Trap.ensures.grant
 
 pub returns-in-Trap-clause-psw : goal.returns-in-Trap-clause-psw
 returns-in-Trap-clause-psw g c =
@@ -48,12 +48,12 @@ returns-in-Trap-clause-told g c =
     c.trap-in-Trap.ensures.told
     ∙ traps-of c.args.m.now.desc _ _ _ _ _ _ c.execute-outcome.result ByTrap c.requires.within c.span_of-span.ensures.from c.span_of-span.ensures.len c.execute-outcome.ensures (ap (ending_as _) c.in-Trap.is)
 
-pub returns-in-NoPattern-clause-storage : goal.returns-in-NoPattern-clause-storage
-returns-in-NoPattern-clause-storage g c =
-    let old = g.H.Hardware.state c.args.hw.now in
-    c.trap-in-NoPattern.ensures.storage
-    ∙ ap (λ r. let u : State = record old { cells = with_grant old.cells c.args.base r.cells } in u)
-    (step-of c.args.m.now.desc _ _ _ _ _ _ c.execute-outcome.result ByNoPattern c.requires.within c.span_of-span.ensures.from c.span_of-span.ensures.len c.execute-outcome.ensures (ap (ending_as _) c.in-NoPattern.is))
+pub returns-in-NoPattern-clause-grant : goal.returns-in-NoPattern-clause-grant
+returns-in-NoPattern-clause-grant g c =
+    GrantPoked-as c.args.base 8 _ _ _ _
+    (ap (λ (r : State). r.cells)
+    (step-of c.args.m.now.desc _ _ _ _ _ _ c.execute-outcome.result ByNoPattern c.requires.within c.span_of-span.ensures.from c.span_of-span.ensures.len c.execute-outcome.ensures (ap (ending_as _) c.in-NoPattern.is)))
+    c.trap-in-NoPattern.ensures.grant
 
 pub returns-in-NoPattern-clause-psw : goal.returns-in-NoPattern-clause-psw
 returns-in-NoPattern-clause-psw g c =
@@ -66,21 +66,27 @@ returns-in-NoPattern-clause-told g c =
     c.trap-in-NoPattern.ensures.told
     ∙ traps-of c.args.m.now.desc _ _ _ _ _ _ c.execute-outcome.result ByNoPattern c.requires.within c.span_of-span.ensures.from c.span_of-span.ensures.len c.execute-outcome.ensures (ap (ending_as _) c.in-NoPattern.is)
 
-pub returns-in-Done-clause-storage : goal.returns-in-Done-clause-storage
-returns-in-Done-clause-storage g c =
-    c.store.ensures.storage
-    ∙ ap (λ cs. let u : State = record (g.H.Hardware.state c.args.hw.now) { cells = cs } in u)
-    (step-done c.args.m.now.desc _ _ _ _ _ _ c.execute-outcome.result c.in-Done.effect _ c.requires.within c.span_of-span.ensures.from c.span_of-span.ensures.len c.execute-outcome.ensures c.in-Done.is c.deref.ensures.0)
+pub returns-in-Done-clause-grant : goal.returns-in-Done-clause-grant
+returns-in-Done-clause-grant g c =
+    let old = (g.H.Hardware.machinery c.args.hw.now).state in
+    record {
+      state = c.store.ensures.grant.state
+          ∙ ap (λ cs. let u : State = record old { cells = cs } in u)
+          (step-done c.args.m.now.desc _ _ _ _ _ _ c.execute-outcome.result c.in-Done.effect _ c.requires.within c.span_of-span.ensures.from c.span_of-span.ensures.len c.execute-outcome.ensures c.in-Done.is c.deref.ensures.0);
+      tally = PokedWithin-more _ 8 _ _ c.deref.ensures.1 c.store.ensures.grant.tally;
+      bottom = c.store.ensures.grant.bottom;
+      room = c.store.ensures.grant.room;
+    }
 
 pub returns-in-Done-clause-psw : goal.returns-in-Done-clause-psw
 returns-in-Done-clause-psw g c =
-    let w = take c.span_of-span.result.len (drop c.span_of-span.result.from (g.H.Hardware.state c.args.hw.now).cells) in
+    let w = take c.span_of-span.result.len (drop c.span_of-span.result.from (g.H.Hardware.machinery c.args.hw.now).state.cells) in
     let e = Done (record { window = written c.in-Done.effect.writes.items w; psw = c.in-Done.effect.psw }) in
     ap (λ r. r.psw)
     (step-of c.args.m.now.desc _ _ _ _ _ _ c.execute-outcome.result e c.requires.within c.span_of-span.ensures.from c.span_of-span.ensures.len c.execute-outcome.ensures (ap (ending_as w) c.in-Done.is))
 
 pub returns-in-Done-clause-told : goal.returns-in-Done-clause-told
 returns-in-Done-clause-told g c =
-    let w = take c.span_of-span.result.len (drop c.span_of-span.result.from (g.H.Hardware.state c.args.hw.now).cells) in
+    let w = take c.span_of-span.result.len (drop c.span_of-span.result.from (g.H.Hardware.machinery c.args.hw.now).state.cells) in
     let e = Done (record { window = written c.in-Done.effect.writes.items w; psw = c.in-Done.effect.psw }) in
     traps-of c.args.m.now.desc _ _ _ _ _ _ c.execute-outcome.result e c.requires.within c.span_of-span.ensures.from c.span_of-span.ensures.len c.execute-outcome.ensures (ap (ending_as w) c.in-Done.is)

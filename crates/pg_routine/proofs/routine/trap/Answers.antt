@@ -1,25 +1,33 @@
 use Rattle.std.proofs.Common.{◌≡◌, ◌+◌, ◌∙◌, sym, ap, slice_set, arith}
-use Rattle.pg_word.specs.Psw.{packed_trap, unpacked}
+use Rattle.pg_word.specs.Psw.{cause_number, packed_trap, unpacked}
 use Rattle.pg_type.specs.States.{State, shape_of}
+use Rattle.pg_hw.specs.Machinery.{Machinery}
 use Rattle.pg_routine.proofs.GrantLaws.{guest-length, guest-cell, guest-set}
+use Rattle.pg_routine.proofs.StoreLemmas.{PokedWithin-one}
 use Rattle.pg_routine.proofs.routine.trap.Goals as goal
 
-pub returns-clause-storage : goal.returns-clause-storage
-returns-clause-storage g c =
-    let old = g.H.Hardware.state c.args.hw.now in
+pub returns-clause-grant : goal.returns-clause-grant
+returns-clause-grant g c =
+    let old = (g.H.Hardware.machinery c.args.hw.now).state in
     let e : c.args.base + 0 ≡ c.args.base = omega arith in
     let some = guest-length old.cells c.args.base c.args.size c.requires.within in
-    let w = packed_trap (shape_of c.args.m.now.desc) c.args.psw.now c.args.cause in
-    c.poke.ensures.state
-    ∙ ap (λ k. let t : State = record old { cells = slice_set old.cells c.args.base k } in t)
-    (c.pack_trap.ensures.word ∙ ap (λ s. packed_trap s c.args.psw.now c.args.cause) c.shape-shape.ensures.numbers)
-    ∙ ap (λ k. let t : State = record old { cells = slice_set old.cells k w } in t) (sym e)
-    ∙ ap (λ cs. let t : State = record old { cells = cs } in t)
-    (sym (guest-set old.cells c.args.base c.args.size 0 w c.requires.within (omega (arith, some, c.requires.guest.size_least))))
+    let w = packed_trap (shape_of c.args.m.now.desc) c.args.psw.now (cause_number c.args.cause) in
+    record {
+      state = ap (λ (h : Machinery). h.state) c.poke.ensures.poked
+          ∙ ap (λ k. let t : State = record old { cells = slice_set old.cells c.args.base k } in t)
+          (c.pack_trap.ensures.word ∙ ap (λ s. packed_trap s c.args.psw.now c.number.result) c.shape-shape.ensures.numbers
+          ∙ ap (packed_trap (shape_of c.args.m.now.desc) c.args.psw.now) c.number.ensures.number)
+          ∙ ap (λ k. let t : State = record old { cells = slice_set old.cells k w } in t) (sym e)
+          ∙ ap (λ cs. let t : State = record old { cells = cs } in t)
+          (sym (guest-set old.cells c.args.base c.args.size 0 w c.requires.within (omega (arith, some, c.requires.guest.size_least))));
+      tally = PokedWithin-one 8 _ _ (omega arith) (ap (λ (h : Machinery). h.tally) c.poke.ensures.poked);
+      bottom = ap (λ (h : Machinery). h.bottom) c.poke.ensures.poked;
+      room = ap (λ (h : Machinery). h.room) c.poke.ensures.poked;
+    }
 
 pub returns-clause-psw : goal.returns-clause-psw
 returns-clause-psw g c =
-    let old = g.H.Hardware.state c.args.hw.now in
+    let old = (g.H.Hardware.machinery c.args.hw.now).state in
     let some = guest-length old.cells c.args.base c.args.size c.requires.within in
     c.unpack-loaded.ensures.psw
     ∙ ap (λ s. unpacked s.a c.peek.result) c.shape-shape.ensures.numbers

@@ -20,8 +20,8 @@ pub returns-clause-stands : goal.returns-clause-stands
 returns-clause-stands g c =
     let d = c.args.accepted.machine.now.desc in
     let same = shape-same _ _ _ c.shape-shape.ensures.numbers c.machine-machine.ensures.same in
-    Stands-new d _ _ c.pack-word.result c.args.accepted.machine.now.valid c.requires.state c.requires.size c.poke.ensures.state
-    (control-is d _ _ _ same c.pack-word.ensures.word c.first_psw.ensures)
+    Stands-new d _ _ c.pack-word.result c.args.accepted.machine.now.valid c.requires.state c.requires.size c.poke.ensures.poked
+    (control-is d _ _ _ same c.pack-word.ensures.word c.power_on.ensures)
     (control-word d c.pack-word.result c.args.accepted.machine.now.valid (subst (λ (s : Shape). c.pack-word.result < 2 ^ (3 * s.a + 1)) same c.pack-word.ensures.high))
 
 pub returns-clause-direct_at_every_base : goal.returns-clause-direct_at_every_base

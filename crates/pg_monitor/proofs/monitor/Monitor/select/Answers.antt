@@ -1,4 +1,5 @@
-use Rattle.std.proofs.Common.{sym, ◌∙◌}
+use Rattle.std.proofs.Common.{sym, ◌∙◌, ap}
+use Rattle.pg_hw.specs.Machinery.{Machinery}
 use Rattle.pg_hw.proofs.ServingLaws.{IsServedPsw-of}
 use Rattle.pg_monitor.proofs.GuestLemmas.{Holds-of, Runs-of, Runs-entered, current-is}
 use Rattle.pg_monitor.proofs.WentLemmas.{Holds-addressable, composed-fits}
@@ -24,4 +25,4 @@ pub returns-clause-runs : goal.returns-clause-runs
 returns-clause-runs g c =
     let m = c.args.self.now.accepted.machine.now in
     Runs-entered m.desc _ _ c.guest-guest.result m.valid
-    (Holds-of m.desc _ c.args.self.now.guests c.args.self.now.current c.args.k c.guest-guest.result c.requires.stands c.guest-guest.ensures) c.enter.ensures.state
+    (Holds-of m.desc _ c.args.self.now.guests c.args.self.now.current c.args.k c.guest-guest.result c.requires.stands c.guest-guest.ensures) (ap (λ (h : Machinery). h.state) c.enter.ensures.entered)

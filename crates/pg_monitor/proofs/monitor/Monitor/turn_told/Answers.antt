@@ -1,5 +1,6 @@
 use Rattle.std.proofs.Common.{ap, ◌∙◌, lit<, slice_set}
 use Rattle.pg_type.specs.declared.machine.Machine.{Machine}
+use Rattle.pg_hw.specs.Machinery.{Machinery}
 use Rattle.pg_hw.proofs.ServingLaws.{SameServed-then}
 use Rattle.pg_monitor.proofs.GuestLemmas.{Went-machine, moved-machine, Stands-some, Turned-some, turn-kept}
 use Rattle.pg_monitor.proofs.monitor.Monitor.turn_told.Goals as goal
@@ -7,24 +8,24 @@ use Rattle.pg_monitor.proofs.monitor.Monitor.turn_told.Goals as goal
 pub returns-clause-stands : goal.returns-clause-stands
 returns-clause-stands g c =
     let m = c.args.self.now.accepted.machine.now in
-    Stands-some m.desc c.args.k 1 _ (g.H.Hardware.state c.select-guest.new.hw) _ c.args.self.now.guests _ c.args.self.now.current _ c.select-guest.result _ _ _ _ _ _ _ _ _ m.valid c.requires.stands c.select-guest.ensures.guest
+    Stands-some m.desc c.args.k 1 _ (g.H.Hardware.machinery c.select-guest.new.hw) _ c.args.self.now.guests _ c.args.self.now.current _ c.select-guest.result _ m.valid c.requires.stands c.select-guest.ensures.guest
     c.select-guest.ensures.cells (c.set.ensures ∙ ap (λ l. slice_set l c.args.k c.turn_once-trapped.new.guest) c.select-guest.ensures.guests) c.select-guest.ensures.current
-    (Went-machine m.desc c.machine-machine.result.now.desc _ _ _ _ _ _ _ _ _ _ _ _ _ (ap (λ (x : Machine). x.desc) c.machine-machine.ensures.same) c.turn_once-trapped.ensures.went)
+    (Went-machine m.desc c.machine-machine.result.now.desc _ _ _ _ _ (ap (λ (x : Machine). x.desc) c.machine-machine.ensures.same) c.turn_once-trapped.ensures.went)
 
 pub returns-clause-turned : goal.returns-clause-turned
 returns-clause-turned g c =
     let m = c.args.self.now.accepted.machine.now in
-    Turned-some m.desc c.args.k 1 _ (g.H.Hardware.state c.select-guest.new.hw) _ c.args.self.now.guests _ c.args.self.now.current _ c.select-guest.result _ _ _ _ _ _ _ _ _ _ _ (lit< tt) c.requires.stands c.select-guest.ensures.guest
-    c.select-guest.ensures.cells c.select-guest.ensures.tally c.select-guest.ensures.bottom
+    Turned-some m.desc c.args.k 1 _ (g.H.Hardware.machinery c.select-guest.new.hw) _ c.args.self.now.guests _ c.args.self.now.current _ c.select-guest.result _ (lit< tt) c.requires.stands c.select-guest.ensures.guest
+    (record { cells = c.select-guest.ensures.cells; tally = c.select-guest.ensures.tally; bottom = c.select-guest.ensures.bottom; room = c.select-guest.ensures.room })
     (c.set.ensures ∙ ap (λ l. slice_set l c.args.k c.turn_once-trapped.new.guest) c.select-guest.ensures.guests) c.select-guest.ensures.current
-    (Went-machine m.desc c.machine-machine.result.now.desc _ _ _ _ _ _ _ _ _ _ _ _ _ (ap (λ (x : Machine). x.desc) c.machine-machine.ensures.same) c.turn_once-trapped.ensures.went)
+    (Went-machine m.desc c.machine-machine.result.now.desc _ _ _ _ _ (ap (λ (x : Machine). x.desc) c.machine-machine.ensures.same) c.turn_once-trapped.ensures.went)
 
 pub returns-clause-served : goal.returns-clause-served
-returns-clause-served g c = SameServed-then _ _ _ c.select-guest.ensures.served c.turn_once-trapped.ensures.went.served
+returns-clause-served g c = SameServed-then _ _ _ c.select-guest.ensures.served c.turn_once-trapped.ensures.served
 
 pub returns-clause-kept : goal.returns-clause-kept
 returns-clause-kept g c = λ h is current direct.
     let m = c.args.self.now.accepted.machine.now in
     turn-kept m.desc c.args.k _ _ _ c.args.self.now.guests c.args.self.now.current c.select-guest.result h c.args.self.now.accepted.accepted m.valid c.requires.stands c.select-guest.ensures.guest is
-    current (c.select-guest.ensures.same current)
+    current (ap (λ (h : Machinery). h.state) (c.select-guest.ensures.same current))
     (moved-machine m.desc c.machine-machine.result.now.desc _ _ _ (ap (λ (x : Machine). x.desc) c.machine-machine.ensures.same) c.turn_once-trapped.ensures.direct) direct

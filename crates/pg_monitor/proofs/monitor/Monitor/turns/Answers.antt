@@ -5,22 +5,22 @@ use Rattle.pg_monitor.proofs.GuestLemmas.{Went-machine, Stands-some, Turned-some
 use Rattle.pg_monitor.proofs.monitor.Monitor.turns.Goals as goal
 
 pub returns-then-n-eq0-clause-turned : goal.returns-then-n-eq0-clause-turned
-returns-then-n-eq0-clause-turned g c = Turned-zero _ _ _ _ _ _ _ _ c.requires.stands c.requires.known c.if-n-eq0.true
+returns-then-n-eq0-clause-turned g c = Turned-zero _ _ _ _ _ _ c.requires.stands c.requires.known c.if-n-eq0.true
 
 pub returns-clause-stands : goal.returns-clause-stands
 returns-clause-stands g c =
     let m = c.args.self.now.accepted.machine.now in
-    Stands-some m.desc c.args.k c.args.n _ (g.H.Hardware.state c.select-guest.new.hw) _ c.args.self.now.guests _ c.args.self.now.current _ c.select-guest.result _ _ _ _ _ _ _ _ _ m.valid c.requires.stands c.select-guest.ensures.guest
+    Stands-some m.desc c.args.k c.args.n _ (g.H.Hardware.machinery c.select-guest.new.hw) _ c.args.self.now.guests _ c.args.self.now.current _ c.select-guest.result _ m.valid c.requires.stands c.select-guest.ensures.guest
     c.select-guest.ensures.cells (c.set.ensures ∙ ap (λ l. slice_set l c.args.k c.turn_often.new.guest) c.select-guest.ensures.guests) c.select-guest.ensures.current
-    (Went-machine m.desc c.machine-machine.result.now.desc _ _ _ _ _ _ _ _ _ _ _ _ _ (ap (λ (x : Machine). x.desc) c.machine-machine.ensures.same) c.turn_often.ensures)
+    (Went-machine m.desc c.machine-machine.result.now.desc _ _ _ _ _ (ap (λ (x : Machine). x.desc) c.machine-machine.ensures.same) c.turn_often.ensures.went)
 
 pub returns-clause-turned : goal.returns-clause-turned
 returns-clause-turned g c =
     let m = c.args.self.now.accepted.machine.now in
-    Turned-some m.desc c.args.k c.args.n _ (g.H.Hardware.state c.select-guest.new.hw) _ c.args.self.now.guests _ c.args.self.now.current _ c.select-guest.result _ _ _ _ _ _ _ _ _ _ _ (omega (arith, c.if-n-eq0.false)) c.requires.stands c.select-guest.ensures.guest
-    c.select-guest.ensures.cells c.select-guest.ensures.tally c.select-guest.ensures.bottom
+    Turned-some m.desc c.args.k c.args.n _ (g.H.Hardware.machinery c.select-guest.new.hw) _ c.args.self.now.guests _ c.args.self.now.current _ c.select-guest.result _ (omega (arith, c.if-n-eq0.false)) c.requires.stands c.select-guest.ensures.guest
+    (record { cells = c.select-guest.ensures.cells; tally = c.select-guest.ensures.tally; bottom = c.select-guest.ensures.bottom; room = c.select-guest.ensures.room })
     (c.set.ensures ∙ ap (λ l. slice_set l c.args.k c.turn_often.new.guest) c.select-guest.ensures.guests) c.select-guest.ensures.current
-    (Went-machine m.desc c.machine-machine.result.now.desc _ _ _ _ _ _ _ _ _ _ _ _ _ (ap (λ (x : Machine). x.desc) c.machine-machine.ensures.same) c.turn_often.ensures)
+    (Went-machine m.desc c.machine-machine.result.now.desc _ _ _ _ _ (ap (λ (x : Machine). x.desc) c.machine-machine.ensures.same) c.turn_often.ensures.went)
 
 pub returns-clause-served : goal.returns-clause-served
 returns-clause-served g c = SameServed-then _ _ _ c.select-guest.ensures.served c.turn_often.ensures.served

@@ -1,0 +1,10 @@
+use Rattle.pg_hw.specs.Serving.{SameServed}
+use Rattle.pg_hw.specs.Running.{Poked}
+use Rattle.pg_hw.proofs.runs.poke_all.Given as goal
+
+-- the cells before this one were poked
+abbrev pub invariant-loop-at : goal.invariant-loop-at
+invariant-loop-at g l = record {
+  poked : Poked l.image l.at (g.H.Hardware.machinery l.initial.hw) (g.H.Hardware.machinery l.hw);
+  served : SameServed (g.H.Hardware.serves l.initial.hw) (g.H.Hardware.serves l.hw);
+}
