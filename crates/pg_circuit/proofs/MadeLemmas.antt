@@ -1,5 +1,5 @@
 -- What follows for the gates that are made, and for those that were there.
-use Rattle.std.proofs.Common.{Result, Ok, Err, IfOk, OnErr, ◌≡◌, ℕ, ◌+◌, ◌<◌, Bool, true, false, ◌&&◌, ◌==◌, not, if◌then◌else◌, List, [], ◌∷◌, ◌++◌, length, take, drop, get_or, slice_get, Option, None, Some, refl, sym, ap, subst, ◌∙◌, arith, length-append, zero-add}
+use Rattle.std.proofs.Common.{Result, Ok, Err, IfOk, OnErr, ◌≡◌, ℕ, ◌+◌, ◌<◌, Bool, true, false, ◌&&◌, ◌==◌, not, if◌then◌else◌, List, [], ◌∷◌, ◌++◌, length, take, drop, get_or, slice_get, Option, None, Some, IfSome, refl, sym, ap, subst, ◌∙◌, arith, length-append, zero-add}
 use Rattle.std.specs.declared.alloc.AllocError.{AllocError}
 use Rattle.std.proofs.Math.Bool.{beq}
 use Rattle.std.proofs.Math.Seq.{get_or-append_seam, take-append_seam}
@@ -12,13 +12,13 @@ use Rattle.pg_circuit.specs.declared.node.Node.TheVariants.{Constant, Input, And
 use Rattle.pg_circuit.specs.Nodes.{has_node, place_of, is_input, input_count, IsNext, IsAfter, IsCircuit}
 use Rattle.pg_circuit.specs.Values.{differ, gate_value, node_value, values_after, values_of}
 use Rattle.pg_circuit.specs.Made.{constant_gate, not_gate, not_where, and_simplified, xor_simplified, with_node, node_made, made, and_made, xor_made, input_made}
-use Rattle.pg_circuit.specs.Grown.{IsFront, IsMade, made_value}
+use Rattle.pg_circuit.specs.Grown.{GrowsTo, IsMade, made_value}
 use Rattle.pg_circuit.proofs.NodeLemmas.{place_of-there, place_of-absent, with_node-there, with_node-absent}
 use Rattle.pg_circuit.proofs.CircuitLemmas.{input_count-append, IsCircuit-push, with_node-kept, and_operands, xor_operands}
 use Rattle.pg_circuit.proofs.ValueLemmas.{values_after-append, length-values_of, values_after-front, values_after-get, value_at}
 
 -- the nodes stay in front, so their values stay
-pub values_of-front : (inputs : List Bool) (old new : List Node) → IsFront old new → take (length old) (values_of inputs new) ≡ values_of inputs old
+pub values_of-front : (inputs : List Bool) (old new : List Node) → GrowsTo old new → take (length old) (values_of inputs new) ≡ values_of inputs old
 values_of-front inputs old new front =
     let whole : new ≡ old ++ drop (length old) new = sym (take-append-drop (length old) new) ∙ ap (λ ns. ns ++ drop (length old) new) front in
     ap (λ ns. take (length old) (values_of inputs ns)) whole
@@ -26,7 +26,7 @@ values_of-front inputs old new front =
     ∙ ap (λ n. take n (values_after inputs (values_of inputs old) (drop (length old) new))) (sym (length-values_of inputs old))
     ∙ values_after-front inputs (values_of inputs old) (drop (length old) new)
 
-pub gate_value-front : (inputs : List Bool) (old new : List Node) (x : Gate) → IsFront old new → x.number < length old →
+pub gate_value-front : (inputs : List Bool) (old new : List Node) (x : Gate) → GrowsTo old new → x.number < length old →
     gate_value (values_of inputs new) x ≡ gate_value (values_of inputs old) x
 gate_value-front inputs old new x front lt =
     let whole : new ≡ old ++ drop (length old) new = sym (take-append-drop (length old) new) ∙ ap (λ ns. ns ++ drop (length old) new) front in
@@ -35,8 +35,8 @@ gate_value-front inputs old new x front lt =
     ∙ ap (λ vs. gate_value vs x) (values_after-append inputs [] old (drop (length old) new))
     ∙ ap (λ b. differ b x.negated) (values_after-get inputs (values_of inputs old) (drop (length old) new) x.number long)
 
-pub IsFront-same : (ns : List Node) → IsFront ns ns
-IsFront-same ns = ap (take (length ns)) (sym (append-nil ns)) ∙ take-append_seam ns []
+pub GrowsTo-same : (ns : List Node) → GrowsTo ns ns
+GrowsTo-same ns = ap (take (length ns)) (sym (append-nil ns)) ∙ take-append_seam ns []
 
 -- the constant
 at_first : (before ns : List Node) → IsAfter before ns → length before ≡ 0 → 0 < length ns → slice_get ns 0 ≡ Some Constant
@@ -93,7 +93,7 @@ module _ (inputs : List Bool) (ns : List Node) (n : Node) (h : IsCircuit ns) (ne
     where
       by : (b : Bool) → has_node ns n ≡ b → IsMade ns (node_made ns n)
       by true e = record {
-        front = ap (take (length ns)) (with_node-there ns n e) ∙ IsFront-same ns;
+        front = ap (take (length ns)) (with_node-there ns n e) ∙ GrowsTo-same ns;
         circuit = (with_node-kept ns n h next none).circuit;
         there = omega (arith, slice_get_within ns (place_of ns n) n (place_of-there ns n e), ap length (with_node-there ns n e));
       }
@@ -231,58 +231,56 @@ module _ (size : ℕ) (begun : 0 < size) where
   xor_simplified-there x y g lx ly = one_of_three (x.number == 0) (y.number == 0) (x.number == y.number) _ _ _ g
       (not_where-there x.negated y ly) (not_where-there y.negated x lx) begun
 
+-- what is made of a node, or of the gate that stands for it
+module _ (ns : List Node) (h : IsCircuit ns) (n : Node) (none : is_input n ≡ false) where
+  pub made-is_made : (o : Option Gate) → (o ≡ None → IsNext ns n) → ((g : Gate) → o ≡ Some g → g.number < length ns) → IsMade ns (made ns o n)
+  made-is_made None next there = node_made-there [] ns n h (next refl) none
+  made-is_made (Some g) next there = record { front = GrowsTo-same ns; circuit = h; there = there g refl }
+
+  made-inputs : (o : Option Gate) → (o ≡ None → IsNext ns n) → input_count (made ns o n).1 ≡ input_count ns
+  made-inputs None next = (with_node-kept ns n h (next refl) none).inputs
+  made-inputs (Some g) next = refl
+
+  made-value : (inputs : List Bool) (o : Option Gate) → (o ≡ None → IsNext ns n)
+      → ((g : Gate) → o ≡ Some g → gate_value (values_of inputs ns) g ≡ node_value inputs (values_of inputs ns) n)
+      → made_value inputs (made ns o n) ≡ node_value inputs (values_of inputs ns) n
+  made-value inputs None next value = node_made-value inputs ns n h (next refl)
+  made-value inputs (Some g) next value = value g refl
+
 -- the gates that the calls make
 module _ (ns : List Node) (h : IsCircuit ns) (x y : Gate) (lx : x.number < length ns) (ly : y.number < length ns) where
+  pub and_next : and_simplified x y ≡ None → IsNext ns (And x y)
+  and_next e = and_operands x y (length ns) e lx ly
+
+  pub xor_next : xor_simplified x y ≡ None → IsNext ns (Xor x y)
+  xor_next e = xor_operands x y (length ns) e lx ly
+
   pub and_made-there : IsMade ns (and_made ns x y)
   unfolding and_made
-  and_made-there = by (and_simplified x y) refl
-    where
-      by : (o : Option Gate) → and_simplified x y ≡ o → IsMade ns (made ns o (And x y))
-      by None e = node_made-there [] ns (And x y) h (and_operands x y (length ns) e lx ly) refl
-      by (Some g) e = record { front = IsFront-same ns; circuit = h; there = and_simplified-there (length ns) h.begun x y g lx ly e }
+  and_made-there = made-is_made ns h (And x y) refl (and_simplified x y) and_next (λ g e. and_simplified-there (length ns) h.begun x y g lx ly e)
 
   pub and_made-inputs : input_count (and_made ns x y).1 ≡ input_count ns
   unfolding and_made
-  and_made-inputs = by (and_simplified x y) refl
-    where
-      by : (o : Option Gate) → and_simplified x y ≡ o → input_count (made ns o (And x y)).1 ≡ input_count ns
-      by None e = (with_node-kept ns (And x y) h (and_operands x y (length ns) e lx ly) refl).inputs
-      by (Some g) e = refl
+  and_made-inputs = made-inputs ns h (And x y) refl (and_simplified x y) and_next
 
   pub and_made-value : (inputs : List Bool) → made_value inputs (and_made ns x y) ≡ gate_value (values_of inputs ns) x && gate_value (values_of inputs ns) y
   unfolding and_made
-  and_made-value inputs = by (and_simplified x y) refl
-    where
-      by : (o : Option Gate) → and_simplified x y ≡ o →
-          made_value inputs (made ns o (And x y)) ≡ gate_value (values_of inputs ns) x && gate_value (values_of inputs ns) y
-      by None e = node_made-value inputs ns (And x y) h (and_operands x y (length ns) e lx ly)
-      by (Some g) e = and_simplified-value (values_of inputs ns) (value_of_first inputs ns h) x y g e
+  and_made-value inputs = made-value ns h (And x y) refl inputs (and_simplified x y) and_next
+      (λ g e. and_simplified-value (values_of inputs ns) (value_of_first inputs ns h) x y g e)
 
   pub xor_made-there : IsMade ns (xor_made ns x y)
   unfolding xor_made
-  xor_made-there = by (xor_simplified x y) refl
-    where
-      by : (o : Option Gate) → xor_simplified x y ≡ o → IsMade ns (made ns o (Xor x y))
-      by None e = node_made-there [] ns (Xor x y) h (xor_operands x y (length ns) e lx ly) refl
-      by (Some g) e = record { front = IsFront-same ns; circuit = h; there = xor_simplified-there (length ns) h.begun x y g lx ly e }
+  xor_made-there = made-is_made ns h (Xor x y) refl (xor_simplified x y) xor_next (λ g e. xor_simplified-there (length ns) h.begun x y g lx ly e)
 
   pub xor_made-inputs : input_count (xor_made ns x y).1 ≡ input_count ns
   unfolding xor_made
-  xor_made-inputs = by (xor_simplified x y) refl
-    where
-      by : (o : Option Gate) → xor_simplified x y ≡ o → input_count (made ns o (Xor x y)).1 ≡ input_count ns
-      by None e = (with_node-kept ns (Xor x y) h (xor_operands x y (length ns) e lx ly) refl).inputs
-      by (Some g) e = refl
+  xor_made-inputs = made-inputs ns h (Xor x y) refl (xor_simplified x y) xor_next
 
   pub xor_made-value : (inputs : List Bool) →
       made_value inputs (xor_made ns x y) ≡ differ (gate_value (values_of inputs ns) x) (gate_value (values_of inputs ns) y)
   unfolding xor_made
-  xor_made-value inputs = by (xor_simplified x y) refl
-    where
-      by : (o : Option Gate) → xor_simplified x y ≡ o →
-          made_value inputs (made ns o (Xor x y)) ≡ differ (gate_value (values_of inputs ns) x) (gate_value (values_of inputs ns) y)
-      by None e = node_made-value inputs ns (Xor x y) h (xor_operands x y (length ns) e lx ly)
-      by (Some g) e = xor_simplified-value (values_of inputs ns) (value_of_first inputs ns h) x y g e
+  xor_made-value inputs = made-value ns h (Xor x y) refl inputs (xor_simplified x y) xor_next
+      (λ g e. xor_simplified-value (values_of inputs ns) (value_of_first inputs ns h) x y g e)
 
 module _ (ns : List Node) (h : IsCircuit ns) where
   pub input_made-there : IsMade ns (input_made ns)
@@ -305,6 +303,14 @@ module _ (ns : List Node) (h : IsCircuit ns) where
       ∙ ap (λ k. get_or (values_of inputs ns ++ get_or inputs (input_count ns) false ∷ []) k false) (sym (length-values_of inputs ns))
       ∙ get_or-append_seam (values_of inputs ns) (get_or inputs (input_count ns) false) [] false
 
+-- a gate that stands for a node is there
+pub some_there : (o p : Option Gate) (k : ℕ) → p ≡ o → ((g : Gate) → o ≡ Some g → g.number < k) → IfSome p (λ g. g.number < k)
+some_there o p k e there = subst (λ (q : Option Gate). IfSome q (λ g. g.number < k)) (sym e) (by o there)
+  where
+    by : (q : Option Gate) → ((g : Gate) → q ≡ Some g → g.number < k) → IfSome q (λ g. g.number < k)
+    by None at = tt
+    by (Some g) at = at g refl
+
 -- what a call that may fail says of it
 pub made-there : (r : Result Gate AllocError) (old new : List Node) (m : Gate × List Node) → IsMade old m → IfOk r (λ g. (g, new) ≡ m) →
     IfOk r (λ g. g.number < length new)
@@ -312,6 +318,6 @@ made-there (Err e) old new m h made = tt
 made-there (Ok g) old new m h made = subst (λ (p : Gate × List Node). p.0.number < length p.1) (sym made) h.there
 
 pub made-kept : (r : Result Gate AllocError) (old new : List Node) (m : Gate × List Node) → IsMade old m → IfOk r (λ g. (g, new) ≡ m) →
-    OnErr r (new ≡ old) → IsFront old new
-made-kept (Err e) old new m h made err = subst (IsFront old) (sym err) (IsFront-same old)
-made-kept (Ok g) old new m h made err = subst (λ (p : Gate × List Node). IsFront old p.1) (sym made) h.front
+    OnErr r (new ≡ old) → GrowsTo old new
+made-kept (Err e) old new m h made err = subst (GrowsTo old) (sym err) (GrowsTo-same old)
+made-kept (Ok g) old new m h made err = subst (λ (p : Gate × List Node). GrowsTo old p.1) (sym made) h.front

@@ -1,7 +1,6 @@
 -- What nodes are worth, one after the other.
-use Rattle.std.proofs.Common.{◌≡◌, ℕ, zero, suc, ◌+◌, ◌<◌, ◌≤◌, Bool, false, ◌&&◌, List, [], ◌∷◌, ◌++◌, length, take, drop, get_or, set, slice_get, Some, refl, sym, ap, subst, ◌∙◌, arith, length-append, length-take, drop-cons, add-zero}
-use Rattle.std.proofs.Math.Numerals.{add-one}
-use Rattle.std.proofs.Math.Seq.{take-suc, take-suc-set, get_or-append_seam, take-append_seam}
+use Rattle.std.proofs.Common.{◌≡◌, ℕ, zero, suc, ◌+◌, ◌<◌, ◌≤◌, Bool, false, ◌&&◌, List, [], ◌∷◌, ◌++◌, length, take, drop, get_or, slice_get, Some, refl, sym, ap, subst, ◌∙◌, arith, length-append, length-take, drop-cons, add-zero}
+use Rattle.std.proofs.Math.Seq.{get_or-append_seam, take-append_seam}
 use Rattle.std.proofs.lemmas.List.{append-nil, take-take, take-append-drop, get_or_append_left}
 use Rattle.pg_circuit.specs.declared.node.Gate.{Gate}
 use Rattle.pg_circuit.specs.declared.node.Node.{Node}
@@ -26,17 +25,6 @@ known_at ns k m p lt h inputs places =
     let rest = ap input_count (drop-cons ns k Constant lt) in
     let all = ap input_count (sym (take-append-drop k ns)) ∙ input_count-append (take k ns) (drop k ns) in
     next_known (take k ns) (get_or ns k Constant) m p (IsNext-at ns k lt h) (omega (arith, rest, all)) (omega (arith, length-take k ns))
-
--- one node further
-pub IsAfter-next : (ns : List Node) (k : ℕ) → k < length ns → IsAfter (take k ns) (drop k ns) → IsAfter (take (k + 1) ns) (drop (k + 1) ns)
-IsAfter-next ns k lt h =
-    rw (add-one, take-suc ns k Constant lt) ((subst (IsAfter (take k ns)) (drop-cons ns k Constant lt) h).1)
-
-pub values_after-next : (inputs vs : List Bool) (ns : List Node) (k : ℕ) (v : Bool) → k < length ns → k < length vs →
-    v ≡ node_value inputs (take k vs) (get_or ns k Constant) →
-    values_after inputs (take (k + 1) (set vs k v)) (drop (k + 1) ns) ≡ values_after inputs (take k vs) (drop k ns)
-values_after-next inputs vs ns k v lt long e =
-    rw (add-one, take-suc-set vs k v long, e) (sym (ap (values_after inputs (take k vs)) (drop-cons ns k Constant lt)))
 
 -- the values of a list in two parts
 pub values_after-append : (inputs before : List Bool) (ns ms : List Node) →

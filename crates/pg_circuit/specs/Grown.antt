@@ -6,12 +6,12 @@ use Rattle.pg_circuit.specs.Nodes.{IsCircuit}
 use Rattle.pg_circuit.specs.Values.{gate_value, values_of}
 
 -- the nodes that were there are the first of the new ones, so each gate keeps its number
-abbrev pub IsFront : List Node → List Node → Type 0
-IsFront old new = take (length old) new ≡ old
+abbrev pub GrowsTo : List Node → List Node → Type 0
+GrowsTo old new = take (length old) new ≡ old
 
 -- a gate of a circuit that the nodes have grown to
 pub record IsMade (old : List Node) (made : Gate × List Node) : Type 0 where
-  pub front : IsFront old made.1
+  pub front : GrowsTo old made.1
   pub circuit : IsCircuit made.1
   pub there : made.0.number < length made.1
 

@@ -9,12 +9,12 @@
 //! for those that were there, also where memory runs out. `pg_cnf` reads the nodes, and writes their clauses. `eval` is the
 //! other reader: it says what all nodes are worth on values of the inputs.
 
-ghost use Rattle.std.specs.Prelude.{◌≡◌, ◌<◌, ◌^◌, ◌∷◌, [], length, IsOk, IfOk, OnErr};
+ghost use Rattle.std.specs.Prelude.{◌≡◌, ◌<◌, ◌^◌, ◌∷◌, [], false, length, IsOk, IfOk, IfSome, OnErr, None};
 ghost use Rattle.pg_circuit.specs.declared.node.Node.TheVariants.{Constant};
-ghost use Rattle.pg_circuit.specs.Nodes.{input_count, IsCircuit, IsCircuit-prop};
+ghost use Rattle.pg_circuit.specs.Nodes.{input_count, is_input, IsNext, IsCircuit, IsCircuit-prop};
 ghost use Rattle.pg_circuit.specs.Values.{values_of};
-ghost use Rattle.pg_circuit.specs.Made.{constant_gate, not_gate, and_made, xor_made, input_made};
-ghost use Rattle.pg_circuit.specs.Grown.{IsFront};
+ghost use Rattle.pg_circuit.specs.Made.{constant_gate, not_gate, made, and_made, xor_made, input_made};
+ghost use Rattle.pg_circuit.specs.Grown.{GrowsTo};
 
 use crate::node::{Gate, Node};
 use crate::simplify::{and_simplified, constant_gate, not_gate, xor_simplified};
@@ -83,7 +83,7 @@ impl Circuit {
     pub fn input(&mut self) -> Result<Gate, AllocError>
         ensures made { IfOk result (λ gate. (gate, self.new.nodes) ≡ input_made self.old.nodes) }
         ensures there { IfOk result (λ gate. gate.number < length self.new.nodes) }
-        ensures kept { IsFront self.old.nodes self.new.nodes }
+        ensures kept { GrowsTo self.old.nodes self.new.nodes }
         ensures err { OnErr result (self.new ≡ self.old) }
     {
         let gate = self.nodes.add(Node::Input(self.inputs))?;
@@ -98,14 +98,11 @@ impl Circuit {
         requires right { y.number < length self.old.nodes }
         ensures made { IfOk result (λ gate. (gate, self.new.nodes) ≡ and_made self.old.nodes x y) }
         ensures there { IfOk result (λ gate. gate.number < length self.new.nodes) }
-        ensures kept { IsFront self.old.nodes self.new.nodes }
+        ensures kept { GrowsTo self.old.nodes self.new.nodes }
         ensures found { (and_made self.old.nodes x y).1 ≡ self.old.nodes → IsOk result }
         ensures err { OnErr result (self.new ≡ self.old) }
     {
-        match and_simplified(x, y) {
-            Some(gate) => Ok(gate),
-            None => self.nodes.place(Node::And(x, y)),
-        }
+        self.gate_of(and_simplified(x, y), Node::And(x, y))
     }
 
     /// The exclusive or of two gates of the circuit. The error is want of memory for a node that was not there, and the
@@ -115,13 +112,28 @@ impl Circuit {
         requires right { y.number < length self.old.nodes }
         ensures made { IfOk result (λ gate. (gate, self.new.nodes) ≡ xor_made self.old.nodes x y) }
         ensures there { IfOk result (λ gate. gate.number < length self.new.nodes) }
-        ensures kept { IsFront self.old.nodes self.new.nodes }
+        ensures kept { GrowsTo self.old.nodes self.new.nodes }
         ensures found { (xor_made self.old.nodes x y).1 ≡ self.old.nodes → IsOk result }
         ensures err { OnErr result (self.new ≡ self.old) }
     {
-        match xor_simplified(x, y) {
+        self.gate_of(xor_simplified(x, y), Node::Xor(x, y))
+    }
+
+    /// The gate of a node that may follow, or the gate of the circuit that stands for it where there is one. The error is
+    /// want of memory for a node that was not there, and the circuit stays.
+    fn gate_of(&mut self, simplified: Option<Gate>, node: Node) -> Result<Gate, AllocError>
+        requires there { IfSome simplified (λ gate. gate.number < length self.old.nodes) }
+        requires next { simplified ≡ None → IsNext self.old.nodes node }
+        requires no_input { is_input node ≡ false }
+        ensures made { IfOk result (λ gate. (gate, self.new.nodes) ≡ made self.old.nodes simplified node) }
+        ensures there { IfOk result (λ gate. gate.number < length self.new.nodes) }
+        ensures kept { GrowsTo self.old.nodes self.new.nodes }
+        ensures found { (made self.old.nodes simplified node).1 ≡ self.old.nodes → IsOk result }
+        ensures err { OnErr result (self.new ≡ self.old) }
+    {
+        match simplified {
             Some(gate) => Ok(gate),
-            None => self.nodes.place(Node::Xor(x, y)),
+            None => self.nodes.place(node),
         }
     }
 

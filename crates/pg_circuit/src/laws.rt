@@ -4,19 +4,19 @@ ghost use Rattle.std.specs.Prelude.{◌≡◌, ◌+◌, ◌<◌, ◌&&◌, not, 
 ghost use Rattle.pg_circuit.specs.Nodes.{input_count, IsCircuit};
 ghost use Rattle.pg_circuit.specs.Values.{differ, gate_value, values_of};
 ghost use Rattle.pg_circuit.specs.Made.{constant_gate, not_gate, and_made, xor_made, input_made};
-ghost use Rattle.pg_circuit.specs.Grown.{IsFront, IsMade, made_value};
+ghost use Rattle.pg_circuit.specs.Grown.{GrowsTo, IsMade, made_value};
 
 use crate::{Gate, Node};
 
 /// Where nodes stay in front, they keep their values.
 pub fn values_stay(old: &[Node], new: &[Node], inputs: &[bool])
-    requires { IsFront old.now new.now }
+    requires { GrowsTo old.now new.now }
     ensures { take (length old.now) (values_of inputs.now new.now) ≡ values_of inputs.now old.now }
 {}
 
 /// And so does each gate on them.
 pub fn gate_stays(old: &[Node], new: &[Node], inputs: &[bool], x: Gate)
-    requires front { IsFront old.now new.now }
+    requires front { GrowsTo old.now new.now }
     requires there { x.number < length old.now }
     ensures { gate_value (values_of inputs.now new.now) x ≡ gate_value (values_of inputs.now old.now) x }
 {}

@@ -16,6 +16,3 @@ mod value;
 
 pub use circuit::Circuit;
 pub use node::{Gate, Node};
-
-#[cfg(test)]
-mod tests;

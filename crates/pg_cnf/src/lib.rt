@@ -13,6 +13,3 @@ pub mod rows;
 
 pub use clause::{Clause, Cnf};
 pub use encoding::encode;
-
-#[cfg(test)]
-mod tests;

@@ -1,16 +1,18 @@
 -- What the words ask for, by whether the line has a fault at them.
 use Rattle.std.proofs.Common.{◌≡◌, ◌≢◌, ◌∙◌, ◌⊎◌, ap, sym, subst, refl, Bool, true, false, true≢false, List, [], ◌∷◌, Option, None, inl, inr}
-use Rattle.std.specs.Prelude.{◌↔◌, Err, IsErrOf, Ok, Result, Some, codes, option_and_then}
+use Rattle.std.specs.Prelude.{◌↔◌, Err, IsErrOf, Ok, Result, Some, option_and_then}
 use Rattle.std.specs.Option.{is_some}
-use Rattle.clap.specs.Walk.{Row, Text, first_of}
+use Rattle.clap.specs.Walk.{Row, Text}
 use Rattle.clap.specs.Simple.{subcommand_of}
 use Rattle.clap.specs.Kinds.{IsAmong, Kinds}
 use Rattle.clap.specs.Faults.{fault_of}
 use Rattle.clap.specs.declared.error.kind.ErrorKind.{ErrorKind}
 use Rattle.clap.specs.declared.error.kind.ErrorKind.TheVariants.{OutOfMemory}
-use Rattle.pg_command.specs.Asked.{Asked, AskedPrint, AskedRun, AsksBare, AsksPrint, AsksRun, asked_of, named_as, print_of, request_of, run_of, unless_fault, with_number}
-use Rattle.pg_command.specs.Reads.{HoldsCommand, HoldsOne, HoldsPrint, HoldsRun}
+use Rattle.pg_command.specs.Asked.{Asked, AsksBare, AsksPrint, AsksRun, asked_of, named_as, print_of, request_of, run_of, unless_fault}
+use Rattle.pg_command.specs.Reads.{HoldsCommand, HoldsOne}
 use Rattle.pg_command.proofs.LineLaws.{line_holds}
+use Rattle.pg_command.proofs.PrintLaws.{print_asks}
+use Rattle.pg_command.proofs.RunningLaws.{run_asks}
 use Rattle.pg_command.specs.Line.{line}
 use Rattle.pg_command.specs.declared.ask.Request.{Request}
 use Rattle.pg_command.specs.declared.ask.Fault.{Fault}
@@ -29,25 +31,6 @@ hidden (k ∷ ks) asked some = refl
 pub asks_nothing : (words : List Text) → fault_of line words ≢ [] → request_of words ≡ None
 unfolding request_of
 asks_nothing words some = hidden (fault_of line words) (named_as (subcommand_of line words)) some
-
--- what the arguments of a command that runs an image hold is something to ask for
-run_asks : (rows : List Row) → HoldsRun rows → is_some (run_of rows) ≡ true
-run_asks rows h = go (first_of (codes "DESC") rows) (first_of (codes "IMAGE") rows) h.desc h.image
-  where
-    go : (desc image : Option Text) → is_some desc ≡ true → is_some image ≡ true
-        → is_some {T = AskedRun} (option_and_then (λ (d : Text). option_and_then (λ (i : Text). with_number (codes "grant") rows (λ g. with_number (codes "steps") rows (λ n.
-        Some (record { desc = d; image = i; grant = g; steps = n })))) image) desc) ≡ true
-    go None image d i = d
-    go (Some x) None d i = i
-    go (Some x) (Some y) d i = rw (h.grant.is_value, h.steps.is_value) refl
-
--- what the arguments of `print` hold is something to ask for
-print_asks : (rows : List Row) → HoldsPrint rows → is_some (print_of rows) ≡ true
-print_asks rows h = go (first_of (codes "DESC") rows) h.desc
-  where
-    go : (desc : Option Text) → is_some desc ≡ true → is_some {T = AskedPrint} (option_and_then (λ (d : Text). Some (record { desc = d })) desc) ≡ true
-    go None d = d
-    go (Some x) d = refl
 
 -- a request made of what the arguments of a command give
 request_made : {X : Type 0} (make : X → Asked) (given : Option X) → is_some given ≡ true → is_some (option_and_then (λ x. Some (make x)) given) ≡ true

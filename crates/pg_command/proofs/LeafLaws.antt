@@ -12,6 +12,7 @@ use Rattle.clap.specs.Simple.{Shape}
 use Rattle.clap.specs.Takes.{is_given, value_passes}
 use Rattle.clap.specs.Kinds.{Kinds, check_kinds}
 use Rattle.clap.specs.Faults.{check_fault, level_fault, settle_fault, walk_fault}
+use Rattle.pg_command.specs.Arguments.{HasText}
 use Rattle.pg_command.proofs.RowLaws.{AllFit, AreSingle, Fits, IsSingle, fault_absurd, no_fault}
 use Rattle.pg_command.proofs.WalkLaws.{settle_fits, walk_fits}
 
@@ -95,6 +96,10 @@ given_value rules rows a own fits given = go (find (λ r. bytes_eq r.id a.id) ro
           is_first = ap (option_and_then (λ (x : Row). slice_get x.values 0)) is ∙ first;
           is_one = ap (option_and_then row_text) is ∙ ap (Rattle.std.specs.Prelude.option_map (read_as r.reading)) first ∙ ap (λ how. Some (read_as how f.first)) f.reading;
         }
+
+-- so it has a text
+pub has_text : (a : Rule) (rows : List Row) → IsGiven a rows → HasText a.id rows
+has_text a rows g = ap is_some g.is_first
 
 -- ---- all of a command
 

@@ -1,19 +1,16 @@
 -- What a command of the line holds where its words have no fault.
-use Rattle.std.proofs.Common.{◌≡◌, ◌∷◌, ap, sym, refl, cond, Bool, true, false, true≢false, List, [], Option, Some, None, codes, arith, inl, inr}
-use Rattle.std.specs.Prelude.{find, option_map, pos}
+use Rattle.std.proofs.Common.{◌≡◌, ◌∷◌, sym, refl, cond, Bool, true, false, true≢false, List, [], Option, Some, None, codes, inl, inr}
+use Rattle.std.specs.Prelude.{find, option_map}
 use Rattle.std.specs.Option.{is_some, option_map_or}
-use Rattle.clap.specs.Walk.{Row, Rule, Text, answers_to, nothing_held, rows_after, stop_after}
-use Rattle.clap.specs.Simple.{App, Shape, argument_words, built, built_leaf, entered, filled, inherited, is_simple, label_of, names_of, rows_at, subcommand_of, with_index}
+use Rattle.clap.specs.Walk.{Text, answers_to, nothing_held, rows_after, stop_after}
+use Rattle.clap.specs.Simple.{App, Shape, argument_words, built, entered, is_simple, label_of, names_of, rows_at, subcommand_of}
 use Rattle.clap.specs.Faults.{entered_fault, fault_of, is_simple_and_free, level_fault}
 use Rattle.clap.proofs.OnLiterals.{clap_on_literals}
-use Rattle.clap.proofs.ValueTestLemmas.{accepts-Accepts}
-use Rattle.clap.specs.declared.builder.value_parser.ValueParser.TheVariants as parser
-use Rattle.pg_command.specs.Line as line_spec
 use Rattle.pg_command.specs.Line.{line}
-use Rattle.pg_command.specs.Reads.{HasText, HoldsCommand, HoldsOne, HoldsPrint, HoldsRun}
-use Rattle.pg_command.proofs.RowLaws.{AreSingle}
-use Rattle.pg_command.proofs.LeafLaws.{IsGiven, command_met, leaf_given}
-use Rattle.pg_command.proofs.NumberLaws.{signed_number, unsigned_number}
+use Rattle.pg_command.specs.Reads.{HoldsCommand, HoldsOne}
+use Rattle.pg_command.proofs.LeafLaws.{command_met}
+use Rattle.pg_command.proofs.PrintLaws.{print_holds}
+use Rattle.pg_command.proofs.RunningLaws.{running_holds}
 
 -- the line is one of which clap's model gives the matches and the faults
 pub line_simple : is_simple_and_free line ≡ true
@@ -23,65 +20,6 @@ line_simple = refl
 pub line_plain : is_simple line ≡ true
 unfolding clap_on_literals
 line_plain = refl
-
--- ---- a command that runs an image
-
--- the command as it is built
-abbrev built_running : Text → Shape
-built_running name = built_leaf (inherited line_spec.program (line_spec.running name))
-
-abbrev desc : Rule
-desc = with_index 1 (filled (line_spec.place (codes "DESC")))
-
-abbrev image : Rule
-image = with_index 2 (filled (line_spec.place (codes "IMAGE")))
-
-abbrev grant : Rule
-grant = filled line_spec.grant
-
-abbrev steps : Rule
-steps = filled line_spec.steps
-
-running_single : (name : Text) → AreSingle (built_running name).rules (built_running name).rules
-running_single name = (
-  record { own = refl; action = refl; range = refl; defaults = refl },
-  (
-    record { own = refl; action = refl; range = refl; defaults = refl },
-    (
-      record { own = refl; action = refl; range = refl; defaults = refl },
-      (record { own = refl; action = refl; range = refl; defaults = refl }, tt),
-    ),
-  ),
-)
-
-has_text : (a : Rule) (rows : List Row) → IsGiven a rows → HasText a.id rows
-has_text a rows g = ap is_some g.is_first
-
-running_holds : (name : Text) (words : List Text) → level_fault (built_running name) [] nothing_held words false [] ≡ []
-    → HoldsRun (rows_after (built_running name).rules [] words)
-running_holds name words none =
-    let given = leaf_given (built_running name) words (running_single name) none in
-    let rows = rows_after (built_running name).rules [] words in
-    let cells = given grant refl refl in
-    let most = given steps refl refl in
-    record {
-      desc = has_text desc rows (given desc refl refl);
-      image = has_text image rows (given image refl refl);
-      grant = signed_number (codes "grant") 2 1048575 rows cells.text (omega arith) cells.is_one (accepts-Accepts false (parser.Signed (pos 2) (pos 1048575)) cells.text cells.passes);
-      steps = unsigned_number (codes "steps") 0 1000000 rows most.text most.is_one (accepts-Accepts false (parser.Unsigned 0 1000000) most.text most.passes);
-    }
-
--- ---- print
-
-abbrev built_print : Shape
-built_print = built_leaf (inherited line_spec.program line_spec.print)
-
-print_single : AreSingle built_print.rules built_print.rules
-print_single = (record { own = refl; action = refl; range = refl; defaults = refl }, tt)
-
-print_holds : (words : List Text) → level_fault built_print [] nothing_held words false [] ≡ [] → HoldsPrint (rows_after built_print.rules [] words)
-print_holds words none =
-    record { desc = has_text desc (rows_after built_print.rules [] words) (leaf_given built_print words print_single none desc refl refl) }
 
 -- ---- the whole line
 

@@ -7,8 +7,7 @@ use Rattle.clap.specs.Lexer.{without_minus}
 use Rattle.clap.specs.Matches.{ReadsOne}
 use Rattle.clap.specs.Values.{IsSignedIn, IsUnsignedIn}
 use Rattle.clap.specs.Walk.{Row, Text, one_of}
-use Rattle.pg_command.specs.Asked.{number_of}
-use Rattle.pg_command.specs.Reads.{HasNumber}
+use Rattle.pg_command.specs.Arguments.{HasNumber, number_of}
 
 without_minus-cond : (t : List ℕ) → without_minus t ≡ cond (starts_with_minus t) (drop 1 t) t
 without_minus-cond [] = refl

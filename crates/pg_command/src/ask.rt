@@ -1,6 +1,8 @@
 //! What a command line asks for, and why there is nothing that it asks for.
 //!
 //! A request owns its texts, so that it outlives the words that it was read from.
+use crate::print::PrintWords;
+use crate::running::RunWords;
 
 /// What the words ask for.
 #[derive(Drop)]
@@ -11,26 +13,6 @@ pub enum Request {
     Run(RunWords),
     /// `print`: print a description.
     Print(PrintWords),
-}
-
-/// The words of a command that runs an image, `bare` or `run`.
-#[derive(Drop)]
-pub struct RunWords {
-    /// The name of the file with the machine's description.
-    pub desc: String,
-    /// The name of the file with the image.
-    pub image: String,
-    /// How many cells are granted, to the machine or to the guest: 2 to 1,048,575.
-    pub grant: u32,
-    /// How many steps are done, exactly: 0 to 1,000,000.
-    pub steps: u64,
-}
-
-/// The words of `print`.
-#[derive(Drop)]
-pub struct PrintWords {
-    /// The name of the file with the description to print.
-    pub desc: String,
 }
 
 /// Why there is no request.

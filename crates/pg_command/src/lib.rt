@@ -10,8 +10,11 @@
 //! line which was taken has each of its arguments, and numbers within their bounds, is proved of `clap`'s
 //! rules and not tested again, so the only other answer is that there was no memory.
 //!
-//! A command is added by its description beside the others in the definitions, what its arguments hold, and what
-//! they ask for, and in the code by a variant, a builder and a reader.
+//! A command is a module of its own, as [`print`](PrintWords): what it adds to the line, and what its arguments ask for. A
+//! command more is such a module in the code, in the definitions and among the laws, a variant of [`Request`] and of
+//! `Asked`, and a line in each place where commands are told apart: `line.rt`; `commands` (`specs/Line.antt`), `asked_of`
+//! (`specs/Asked.antt`), `HoldsOne` (`specs/Reads.antt`); `all_hold` (`proofs/LineLaws.antt`) and `holds_request`
+//! (`proofs/AnswerLaws.antt`).
 #![tactic(auto)]
 
 ghost use Rattle.std.specs.Prelude.{◌≡◌, ◌≢◌, ◌↔◌, IfOk, IsErrOf, Some, None, [], map, string_bytes};
@@ -21,16 +24,19 @@ ghost use Rattle.pg_command.specs.Asked.{IsBounded, asked_as, request_of};
 ghost use Rattle.pg_command.specs.Line.{line};
 ghost use Rattle.pg_command.specs.declared.ask.Fault.TheVariants.{Memory, Refused};
 
+mod arguments;
 mod ask;
+mod bare;
 mod line;
-mod read;
-#[cfg(test)]
-mod tests;
+mod print;
+mod run;
+mod running;
 
-pub use ask::{Fault, PrintWords, Request, RunWords};
+pub use ask::{Fault, Request};
 use clap::error::ErrorKind;
-use line::command_line;
-use read::asked;
+use line::{asked, command_line};
+pub use print::PrintWords;
+pub use running::RunWords;
 use std::alloc::Global;
 
 /// What the words ask for, of which the first is the program's name.

@@ -1,84 +1,46 @@
-//! The command line, as `clap` builds it.
+//! The whole command line: one line for each command.
 //!
-//! Each function makes what the definition of its name describes, argument by argument, so that the whole
-//! is the command line of the definitions.
-ghost use Rattle.std.specs.Prelude.{◌≡◌, IfOk, false};
-ghost use Rattle.clap.specs.Words.{app_of, rule_of, with_subcommand};
-ghost use Rattle.pg_command.specs.Line as spec;
+//! Each command has a module of its own, which adds it to the program and reads what its arguments ask for. Here they are
+//! joined, in the order of the definitions: a command more is a line in each of the two functions.
+ghost use Rattle.std.specs.Prelude.{◌≡◌, IfOk, Some};
+ghost use Rattle.clap.specs.Words.{app_of, subcommand_rows_of};
+ghost use Rattle.pg_command.specs.Line.{line};
+ghost use Rattle.pg_command.specs.Asked.{IsBounded, asked_as, named_as};
+ghost use Rattle.pg_command.specs.Reads.{HoldsCommand};
 
-use clap::builder::ValueParser;
-use clap::{Arg, Command, value_parser};
+use crate::ask::Request;
+use crate::{bare, print, run};
+use clap::{ArgMatches, Command};
 use std::alloc::{AllocError, Global};
 
-/// The whole command line.
+/// The whole command line, as `clap` builds it.
 pub(crate) fn command_line<'a>(alloc: Global) -> Result<Command<'a>, AllocError>
-    ensures { IfOk result (λ c. app_of c ≡ spec.line) }
+    ensures { IfOk result (λ c. app_of c ≡ line) }
 {
     let program = Command::new(alloc, "pgv")
         .disable_help_flag(true)
         .disable_help_subcommand(true)
         .disable_version_flag(true)
         .subcommand_required(true);
-    let with_bare = with_running(alloc, "bare", program)?;
-    let with_run = with_running(alloc, "run", with_bare)?;
-    with_print(alloc, with_run)
+    let with_bare = bare::added(alloc, program)?;
+    let with_run = run::added(alloc, with_bare)?;
+    print::added(alloc, with_run)
 }
 
-/// The program with the command `NAME DESC IMAGE --grant G --steps N`, which runs an image.
-fn with_running<'a>(
-    alloc: Global,
-    name: &'a str,
-    program: Command<'a>,
-) -> Result<Command<'a>, AllocError>
-    ensures { IfOk result (λ c. app_of c ≡ with_subcommand (app_of program.entry) (spec.running name.entry.now)) }
+/// What the command that was named asks for.
+pub(crate) fn asked(alloc: Global, matches: &ArgMatches<'_>) -> Result<Request, AllocError>
+    requires { HoldsCommand (subcommand_rows_of matches.now) }
+    ensures value { IfOk result (λ r. named_as (subcommand_rows_of matches.now) ≡ Some (asked_as r)) }
+    ensures bounds { IfOk result (λ r. IsBounded (asked_as r)) }
 {
-    let running = Command::new(alloc, name)
-        .arg(place(alloc, "DESC"))?
-        .arg(place(alloc, "IMAGE"))?
-        .arg(grant(alloc))?
-        .arg(steps(alloc))?;
-    program.subcommand(running)
-}
-
-/// The program with the command `print DESC`.
-fn with_print<'a>(alloc: Global, program: Command<'a>) -> Result<Command<'a>, AllocError>
-    ensures { IfOk result (λ c. app_of c ≡ with_subcommand (app_of program.entry) spec.print) }
-{
-    let print = Command::new(alloc, "print").arg(place(alloc, "DESC"))?;
-    program.subcommand(print)
-}
-
-/// A text in its place, which has to be there.
-fn place<'a>(alloc: Global, name: &'a str) -> Arg<'a>
-    ensures rule { rule_of result ≡ spec.place name.entry.now }
-    ensures local { result.global ≡ false }
-{
-    Arg::new(alloc, name).required(true)
-}
-
-/// A number after `--name`, which has to be there and to pass the parser.
-fn number<'a>(alloc: Global, name: &'a str, numbers: ValueParser<'a>) -> Arg<'a>
-    ensures rule { rule_of result ≡ spec.number name.entry.now numbers.entry }
-    ensures local { result.global ≡ false }
-{
-    Arg::new(alloc, name)
-        .long(name)
-        .required(true)
-        .value_parser(numbers)
-}
-
-/// How many cells are granted, to a machine or to a guest: 2 to 1,048,575.
-fn grant<'a>(alloc: Global) -> Arg<'a>
-    ensures rule { rule_of result ≡ spec.grant }
-    ensures local { result.global ≡ false }
-{
-    number(alloc, "grant", value_parser!(u32).range(2..1_048_576))
-}
-
-/// How many steps are done, exactly: 0 to 1,000,000.
-fn steps<'a>(alloc: Global) -> Arg<'a>
-    ensures rule { rule_of result ≡ spec.steps }
-    ensures local { result.global ≡ false }
-{
-    number(alloc, "steps", value_parser!(u64).range(0..1_000_001))
+    if let Some(found) = matches.subcommand_matches("bare") {
+        return bare::asked(alloc, found);
+    }
+    if let Some(found) = matches.subcommand_matches("run") {
+        return run::asked(alloc, found);
+    }
+    if let Some(found) = matches.subcommand_matches("print") {
+        return print::asked(alloc, found);
+    }
+    unreachable!()
 }

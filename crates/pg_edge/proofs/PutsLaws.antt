@@ -67,10 +67,3 @@ Puts-stopped was now before after piece rest fault error a = record {
   later = a.later;
   cause = a.cause;
 }
-
--- the same puts under a result of another type
-pub Puts-ok : {T U D E : Type 0} (was now : Option (List ℕ)) (before after : ℕ) (piece : List ℕ) (done : T) (other : U) → Puts {E = D} was now before after piece (Ok done) → Puts {E = E} was now before after piece (Ok other)
-Puts-ok was now before after piece done other a = record { whole = a.whole; front = tt; later = a.later; cause = tt }
-
-pub Puts-err : {T U D E : Type 0} (was now : Option (List ℕ)) (before after : ℕ) (piece : List ℕ) (fault : D) (error : E) → Puts {T = T} was now before after piece (Err fault) → Puts {T = U} was now before after piece (Err error)
-Puts-err was now before after piece fault error a = record { whole = tt; front = a.front; later = a.later; cause = a.cause }

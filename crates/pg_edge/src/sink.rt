@@ -23,7 +23,8 @@ pub trait Sink {
     /// Appends `bytes` to what was written.
     ///
     /// # Errors
-    /// `Failed` where not all of the piece went through. A front of it may have.
+    /// `Failed` where not all of the piece went through. A front of it may have. A put of no bytes may fail too, and
+    /// counts like any other.
     fn put(&mut self, bytes: &[u8]) -> Result<(), Failed>
         ensures puts { Puts (written self.old) (written self.new) (faults self.old) (faults self.new)
             bytes.now result };

@@ -8,7 +8,7 @@ use Rattle.pg_circuit.specs.Nodes.{IsCircuit}
 use Rattle.pg_circuit.specs.Values.{differ, gate_value, values_of, IsThere}
 use Rattle.pg_circuit.specs.Made.{not_gate, and_made, xor_made}
 use Rattle.pg_vec.specs.Number.{bit_of, number}
-use Rattle.pg_circuit.specs.Grown.{IsFront}
+use Rattle.pg_circuit.specs.Grown.{GrowsTo}
 use Rattle.pg_vec.specs.There.{AreThere}
 use Rattle.pg_vec.specs.Gates.{or_made, choice_made}
 use Rattle.pg_vec.specs.Strings.{flipped, each_made, bits_and_made, bits_or_made, bits_xor_made, mux_made}
@@ -28,7 +28,7 @@ number-below values (g ∷ gs) =
     omega (arith, pow-more (length gs))
 
 -- a string that is there keeps its number
-pub number-kept : (inputs : List Bool) (nodes later : List Node) (gs : List Gate) → IsFront nodes later → AreThere (length nodes) gs → number (values_of inputs later) gs ≡ number (values_of inputs nodes) gs
+pub number-kept : (inputs : List Bool) (nodes later : List Node) (gs : List Gate) → GrowsTo nodes later → AreThere (length nodes) gs → number (values_of inputs later) gs ≡ number (values_of inputs nodes) gs
 number-kept inputs nodes later [] f t = refl
 number-kept inputs nodes later (g ∷ gs) f t =
     let e : gate_value (values_of inputs later) g ≡ gate_value (values_of inputs nodes) g = gate_value-front inputs nodes later g f (All-head (IsThere (length nodes)) g gs t) in
@@ -51,10 +51,10 @@ flipped-there places gs h = All-map (IsThere places) not_gate gs h
 -- A function of two numbers that is made bit by bit, where a gate is made of each two bits; what the gates are made with is
 -- there in `base`.
 pub each-makes : (make : List Node → Gate → Gate → Gate × List Node) (base : List Node) (most : ℕ) (f : List Bool → Bool → Bool → Bool) (F : List Bool → ℕ → ℕ → ℕ) →
-    ((n : List Node) (x y : Gate) → IsCircuit n → IsFront base n → IsThere (length n) x → IsThere (length n) y → MakesGate n (make n x y) most (λ v. f v (gate_value v x) (gate_value v y))) →
+    ((n : List Node) (x y : Gate) → IsCircuit n → GrowsTo base n → IsThere (length n) x → IsThere (length n) y → MakesGate n (make n x y) most (λ v. f v (gate_value v x) (gate_value v y))) →
     ((v : List Bool) → F v 0 0 ≡ 0) →
     ((v : List Bool) (x y : ℕ) (a b : Bool) → F v (x * 2 + bit_of a) (y * 2 + bit_of b) ≡ F v x y * 2 + bit_of (f v a b)) →
-    (xs ys : List Gate) (nodes : List Node) → IsCircuit nodes → IsFront base nodes → AreThere (length nodes) xs → AreThere (length nodes) ys → length xs ≡ length ys →
+    (xs ys : List Gate) (nodes : List Node) → IsCircuit nodes → GrowsTo base nodes → AreThere (length nodes) xs → AreThere (length nodes) ys → length xs ≡ length ys →
     MakesBits nodes (each_made make nodes xs ys) (length xs) (length xs * most) (λ v. F v (number v xs) (number v ys))
 unfolding each_made
 each-makes make base most f F law none more [] [] nodes h g txs tys e = record {

@@ -9,10 +9,10 @@ use Rattle.pg_circuit.specs.Nodes.{has_node, IsCircuit}
 use Rattle.pg_circuit.specs.Values.{differ, gate_value, values_of, IsThere}
 use Rattle.pg_circuit.specs.Made.{constant_gate, and_simplified, xor_simplified, with_node, made, and_made, xor_made}
 use Rattle.std.specs.Prelude.{if◌then◌else◌, IfOk, OnErr}
-use Rattle.pg_circuit.specs.Grown.{IsFront}
+use Rattle.pg_circuit.specs.Grown.{GrowsTo}
 use Rattle.pg_vec.specs.There.{AreThere, AreValues}
 use Rattle.pg_vec.specs.Makes.{MakesGate}
-use Rattle.pg_vec.specs.Adds.{Adds}
+use Rattle.pg_vec.specs.AddsNodes.{AddsNodes}
 use Rattle.std.proofs.Math.Nat.{suc-mul}
 use Rattle.std.proofs.lemmas.Nat.{mul-le}
 use Rattle.pg_circuit.specs.declared.circuit.Circuit.{Circuit}
@@ -21,60 +21,60 @@ use Rattle.pg_circuit.proofs.MadeLemmas.{values_of-front, constant_value, and_ma
 
 -- ---- a circuit that grows
 
-pub front_same : (nodes : List Node) → IsFront nodes nodes
+pub front_same : (nodes : List Node) → GrowsTo nodes nodes
 front_same nodes = take_all (length nodes) nodes (omega arith)
 
-pub front_length : (before after : List Node) → IsFront before after → length before ≤ length after
+pub front_length : (before after : List Node) → GrowsTo before after → length before ≤ length after
 front_length before after h =
     let e : length (take (length before) after) ≡ length before = ap length h in
     omega (arith, length-take (length before) after)
 
-pub front_then : (a b c : List Node) → IsFront a b → IsFront b c → IsFront a c
+pub front_then : (a b c : List Node) → GrowsTo a b → GrowsTo b c → GrowsTo a c
 front_then a b c h k =
     let l : length a ≤ length b = front_length a b h in
     sym (take-take (length a) (length b) c l) ∙ ap (take (length a)) k ∙ h
 
-pub there_later : (before after : List Node) (g : Gate) → IsFront before after → IsThere (length before) g → IsThere (length after) g
+pub there_later : (before after : List Node) (g : Gate) → GrowsTo before after → IsThere (length before) g → IsThere (length after) g
 there_later before after g h t =
     let l : length before ≤ length after = front_length before after h in
     omega arith
 
-pub all_there_later : (before after : List Node) (gs : List Gate) → IsFront before after → AreThere (length before) gs → AreThere (length after) gs
+pub all_there_later : (before after : List Node) (gs : List Gate) → GrowsTo before after → AreThere (length before) gs → AreThere (length after) gs
 all_there_later before after gs h t =
     All-weaker (IsThere (length before)) (IsThere (length after)) (λ g k. there_later before after g h k) gs t
 
 -- ---- what is added
 
-pub adds_none : (nodes : List Node) → Adds nodes nodes 0
+pub adds_none : (nodes : List Node) → AddsNodes nodes nodes 0
 adds_none nodes = record { front = front_same nodes; few = omega arith; inputs = refl }
 
-pub adds_then : (a b c : List Node) (m n : ℕ) → Adds a b m → Adds b c n → Adds a c (m + n)
+pub adds_then : (a b c : List Node) (m n : ℕ) → AddsNodes a b m → AddsNodes b c n → AddsNodes a c (m + n)
 adds_then a b c m n h k = record { front = front_then a b c h.front k.front; few = let p = h.few in let q = k.few in omega arith; inputs = k.inputs ∙ h.inputs }
 
-pub adds_more : (old new : List Node) (m n : ℕ) → Adds old new m → m ≤ n → Adds old new n
+pub adds_more : (old new : List Node) (m n : ℕ) → AddsNodes old new m → m ≤ n → AddsNodes old new n
 adds_more old new m n h l = record { front = h.front; few = let p = h.few in omega arith; inputs = h.inputs }
 
 -- one more round
-pub adds_next : (old nodes new : List Node) (count each : ℕ) → Adds old nodes (count * each) → Adds nodes new each → Adds old new ((count + 1) * each)
+pub adds_next : (old nodes new : List Node) (count each : ℕ) → AddsNodes old nodes (count * each) → AddsNodes nodes new each → AddsNodes old new ((count + 1) * each)
 adds_next old nodes new count each h k =
     let e : (count + 1) * each ≡ count * each + each = ap (λ n. n * each) (add-one count) ∙ suc-mul count each in
-    subst (λ n. Adds old new n) (sym e) (adds_then old nodes new (count * each) each h k)
+    subst (λ n. AddsNodes old new n) (sym e) (adds_then old nodes new (count * each) each h k)
 
 -- all rounds
-pub adds_rounds : (old new : List Node) (count all each : ℕ) → Adds old new (count * each) → count ≤ all → Adds old new (all * each)
+pub adds_rounds : (old new : List Node) (count all each : ℕ) → AddsNodes old new (count * each) → count ≤ all → AddsNodes old new (all * each)
 adds_rounds old new count all each h l = adds_more old new (count * each) (all * each) h (mul-le count each all each l (omega arith))
 
 -- at most six rounds
-pub adds_six : (old new : List Node) (count each : ℕ) → Adds old new (count * each) → count ≤ 6 → Adds old new (6 * each)
+pub adds_six : (old new : List Node) (count each : ℕ) → AddsNodes old new (count * each) → count ≤ 6 → AddsNodes old new (6 * each)
 adds_six old new count each h l = adds_rounds old new count 6 each h l
 
 -- ---- values
 
 -- the values of a circuit are values of each that it grew from
-pub values_later : (inputs : List Bool) (before after : List Node) → IsFront before after → AreValues inputs before (values_of inputs after)
+pub values_later : (inputs : List Bool) (before after : List Node) → GrowsTo before after → AreValues inputs before (values_of inputs after)
 values_later inputs before after h = record { begun = values_of-front inputs before after h }
 
-pub values_earlier : (inputs values : List Bool) (before after : List Node) → IsFront before after → AreValues inputs after values → AreValues inputs before values
+pub values_earlier : (inputs values : List Bool) (before after : List Node) → GrowsTo before after → AreValues inputs after values → AreValues inputs before values
 values_earlier inputs values before after h v =
     let l : length before ≤ length after = front_length before after h in
     record { begun = sym (take-take (length before) (length after) values l) ∙ ap (take (length before)) v.begun ∙ values_of-front inputs before after h }
@@ -149,15 +149,15 @@ xor-makes nodes x y h tx ty =
 -- ---- what the circuit's calls add
 
 pub and_adds : (r : Result Gate AllocError) (old new : Circuit) (x y : Gate) → IsThere (length old.nodes) x → IsThere (length old.nodes) y →
-    IfOk r (λ g. (g, new.nodes) ≡ and_made old.nodes x y) → OnErr r (new ≡ old) → Adds old.nodes new.nodes 1
+    IfOk r (λ g. (g, new.nodes) ≡ and_made old.nodes x y) → OnErr r (new ≡ old) → AddsNodes old.nodes new.nodes 1
 and_adds (Ok g) old new x y tx ty e f =
     let m = and-makes old.nodes x y old.circuit tx ty in
-    subst (λ (k : Gate × List Node). Adds old.nodes k.1 1) (sym e) (record { front = m.grown; few = m.few; inputs = m.inputs })
-and_adds (Err e') old new x y tx ty e f = subst (λ (m : Circuit). Adds old.nodes m.nodes 1) (sym f) (adds_more _ _ 0 1 (adds_none old.nodes) (omega arith))
+    subst (λ (k : Gate × List Node). AddsNodes old.nodes k.1 1) (sym e) (record { front = m.grown; few = m.few; inputs = m.inputs })
+and_adds (Err e') old new x y tx ty e f = subst (λ (m : Circuit). AddsNodes old.nodes m.nodes 1) (sym f) (adds_more _ _ 0 1 (adds_none old.nodes) (omega arith))
 
 pub xor_adds : (r : Result Gate AllocError) (old new : Circuit) (x y : Gate) → IsThere (length old.nodes) x → IsThere (length old.nodes) y →
-    IfOk r (λ g. (g, new.nodes) ≡ xor_made old.nodes x y) → OnErr r (new ≡ old) → Adds old.nodes new.nodes 1
+    IfOk r (λ g. (g, new.nodes) ≡ xor_made old.nodes x y) → OnErr r (new ≡ old) → AddsNodes old.nodes new.nodes 1
 xor_adds (Ok g) old new x y tx ty e f =
     let m = xor-makes old.nodes x y old.circuit tx ty in
-    subst (λ (k : Gate × List Node). Adds old.nodes k.1 1) (sym e) (record { front = m.grown; few = m.few; inputs = m.inputs })
-xor_adds (Err e') old new x y tx ty e f = subst (λ (m : Circuit). Adds old.nodes m.nodes 1) (sym f) (adds_more _ _ 0 1 (adds_none old.nodes) (omega arith))
+    subst (λ (k : Gate × List Node). AddsNodes old.nodes k.1 1) (sym e) (record { front = m.grown; few = m.few; inputs = m.inputs })
+xor_adds (Err e') old new x y tx ty e f = subst (λ (m : Circuit). AddsNodes old.nodes m.nodes 1) (sym f) (adds_more _ _ 0 1 (adds_none old.nodes) (omega arith))

@@ -1,8 +1,8 @@
 -- What loops over bits keep.
-use Rattle.std.proofs.Common.{◌≡◌, ℕ, ◌+◌, ◌*◌, ◌<◌, ◌≤◌, false, List, [], ◌∷◌, ◌++◌, length, take, drop, get_or, refl, sym, ap, ◌∙◌, subst, append_assoc}
+use Rattle.std.proofs.Common.{◌≡◌, ℕ, ◌+◌, ◌*◌, ◌<◌, ◌≤◌, false, List, [], ◌∷◌, ◌++◌, length, take, drop, get_or, sym, ap, ◌∙◌, subst, append_assoc}
 use Rattle.std.proofs.lemmas.List.{drop_more, drop_all, append-nil, length_push, length-replicate}
 use Rattle.std.proofs.Math.Nat.{zero-mul}
-use Rattle.std.proofs.lemmas.List.Elements.{All-nil, All-push}
+use Rattle.std.proofs.lemmas.List.Elements.{All-push}
 use Rattle.pg_circuit.specs.declared.node.Gate.{Gate}
 use Rattle.pg_circuit.specs.declared.node.Node.{Node}
 use Rattle.pg_circuit.specs.Values.{IsThere}
@@ -14,7 +14,7 @@ use Rattle.pg_vec.specs.declared.shift.Direction.TheVariants.{Up, Down}
 use Rattle.pg_vec.specs.Direction.{move_of}
 use Rattle.pg_vec.proofs.Strings.{length-moved_up, length-moved_down, zeros-there}
 use Rattle.pg_vec.specs.Strings.{zeros, shift_made, moved_up, carry_into_made, each_made, sum_made, add_made, carry_out_made, same_made, any_made, mux_made, stages_made, row_made, rows_made, mul_made}
-use Rattle.pg_vec.specs.Adds.{Adds}
+use Rattle.pg_vec.specs.AddsNodes.{AddsNodes}
 use Rattle.pg_vec.proofs.Kept.{adds_none, adds_next, all_there_later}
 
 -- a bit of a string
@@ -26,8 +26,8 @@ pub rest_of : (xs : List Gate) (i : ℕ) → i < length xs → drop i xs ≡ bit
 rest_of xs i l = drop_more xs i (constant_gate false) l
 
 -- before the first round
-pub no_round : (nodes : List Node) (each : ℕ) → Adds nodes nodes (0 * each)
-no_round nodes each = subst (λ n. Adds nodes nodes n) (sym (zero-mul each)) (adds_none nodes)
+pub no_round : (nodes : List Node) (each : ℕ) → AddsNodes nodes nodes (0 * each)
+no_round nodes each = subst (λ n. AddsNodes nodes nodes n) (sym (zero-mul each)) (adds_none nodes)
 
 -- ---- strings that grow bit by bit
 
@@ -37,15 +37,12 @@ with_front front made = (front ++ made.0, made.1)
 -- so many bits were made, and with what is made of the rest they are what is due
 pub record Built (old : List Node) (due : List Gate × List Node) (each count : ℕ) (bits : List Gate) (nodes : List Node) (rest : List Gate × List Node) : Type 0 where
   pub made : with_front bits rest ≡ due
-  pub kept : Adds old nodes (count * each)
+  pub kept : AddsNodes old nodes (count * each)
   pub there : AreThere (length nodes) bits
   pub wide : length bits ≡ count
 
-pub built_none : (old : List Node) (due : List Gate × List Node) (each : ℕ) → Built old due each 0 [] old due
-built_none old due each = record { made = refl; kept = no_round old each; there = All-nil (IsThere (length old)); wide = refl }
-
 pub built_next : (old : List Node) (due : List Gate × List Node) (each count : ℕ) (bits : List Gate) (nodes : List Node) (rest : List Gate × List Node) (bit : Gate) (new : List Node) (left : List Gate × List Node) →
-    Built old due each count bits nodes rest → Adds nodes new each → bit.number < length new → with_front (bit ∷ []) left ≡ rest →
+    Built old due each count bits nodes rest → AddsNodes nodes new each → bit.number < length new → with_front (bit ∷ []) left ≡ rest →
     Built old due each (count + 1) (bits ++ bit ∷ []) new left
 built_next old due each count bits nodes rest bit new left b f t e = record {
   made = ap (λ gs. (gs, left.1)) (append_assoc bits (bit ∷ []) left.0) ∙ ap (with_front bits) e ∙ b.made;
@@ -100,11 +97,11 @@ sum_next nodes carry xs ys i half bit next n m new lx ly e1 e2 e3 =
 -- a gate was made, and with what is made of the rest it is what is due
 pub record Folded (old : List Node) (due : Gate × List Node) (each count : ℕ) (gate : Gate) (nodes : List Node) (rest : Gate × List Node) : Type 0 where
   pub made : rest ≡ due
-  pub kept : Adds old nodes (count * each)
+  pub kept : AddsNodes old nodes (count * each)
   pub there : gate.number < length nodes
 
 pub folded_next : (old : List Node) (due : Gate × List Node) (each count : ℕ) (gate : Gate) (nodes : List Node) (rest : Gate × List Node) (next : Gate) (new : List Node) (left : Gate × List Node) →
-    Folded old due each count gate nodes rest → Adds nodes new each → next.number < length new → left ≡ rest → Folded old due each (count + 1) next new left
+    Folded old due each count gate nodes rest → AddsNodes nodes new each → next.number < length new → left ≡ rest → Folded old due each (count + 1) next new left
 folded_next old due each count gate nodes rest next new left b f t e = record { made = e ∙ b.made; kept = adds_next old nodes new count each b.kept f; there = t }
 
 pub folded_all : (old : List Node) (due : Gate × List Node) (each count : ℕ) (gate : Gate) (nodes : List Node) (rest : Gate × List Node) → Folded old due each count gate nodes rest → rest ≡ (gate, nodes) → (gate, nodes) ≡ due
@@ -166,12 +163,12 @@ any_next nodes so_far xs i next new l e =
 -- a string was made, and with what is made of the rest it is what is due
 pub record Staged (old : List Node) (due : List Gate × List Node) (each count width : ℕ) (bits : List Gate) (nodes : List Node) (rest : List Gate × List Node) : Type 0 where
   pub made : rest ≡ due
-  pub kept : Adds old nodes (count * each)
+  pub kept : AddsNodes old nodes (count * each)
   pub there : AreThere (length nodes) bits
   pub wide : length bits ≡ width
 
 pub staged_next : (old : List Node) (due : List Gate × List Node) (each count width : ℕ) (bits : List Gate) (nodes : List Node) (rest : List Gate × List Node) (next : List Gate) (new : List Node) (left : List Gate × List Node) →
-    Staged old due each count width bits nodes rest → Adds nodes new each → AreThere (length new) next → length next ≡ width → left ≡ rest → Staged old due each (count + 1) width next new left
+    Staged old due each count width bits nodes rest → AddsNodes nodes new each → AreThere (length new) next → length next ≡ width → left ≡ rest → Staged old due each (count + 1) width next new left
 staged_next old due each count width bits nodes rest next new left b f t w e = record { made = e ∙ b.made; kept = adds_next old nodes new count each b.kept f; there = t; wide = w }
 
 pub staged_all : (old : List Node) (due : List Gate × List Node) (each count width : ℕ) (bits : List Gate) (nodes : List Node) (rest : List Gate × List Node) → Staged old due each count width bits nodes rest → rest ≡ (bits, nodes) → (bits, nodes) ≡ due

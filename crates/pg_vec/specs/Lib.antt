@@ -1,6 +1,6 @@
 pub mod Number
 pub mod There
-pub mod Adds
+pub mod AddsNodes
 pub mod Gates
 pub mod Strings
 pub mod Makes

@@ -6,7 +6,7 @@
 ghost use Rattle.std.specs.Prelude.{◌≡◌, ◌*◌, ◌<◌, true, length, IfOk};
 ghost use Rattle.pg_circuit.specs.Made.{constant_gate};
 ghost use Rattle.pg_vec.specs.There.{AreThere};
-ghost use Rattle.pg_vec.specs.Adds.{Adds};
+ghost use Rattle.pg_vec.specs.AddsNodes.{AddsNodes};
 ghost use Rattle.pg_vec.specs.Strings.{carry_out_made, same_made};
 
 use crate::gate::{and, carry_out, xor};
@@ -26,7 +26,7 @@ pub fn last_carry(
     requires same_width { length x.now ≡ length y.now }
     ensures made { IfOk result (λ gate. (gate, circuit.new.nodes) ≡ carry_out_made circuit.old.nodes carry_in x.now y.now) }
     ensures there { IfOk result (λ gate. gate.number < length circuit.new.nodes) }
-    ensures kept { Adds circuit.old.nodes circuit.new.nodes (length x.now * 4) }
+    ensures kept { AddsNodes circuit.old.nodes circuit.new.nodes (length x.now * 4) }
 {
     let mut carry = carry_in;
     for (i, left) in x.iter().enumerate() {
@@ -43,7 +43,7 @@ pub fn same(circuit: &mut Circuit, x: &[Gate], y: &[Gate]) -> Result<Gate, Alloc
     requires same_width { length x.now ≡ length y.now }
     ensures made { IfOk result (λ gate. (gate, circuit.new.nodes) ≡ same_made circuit.old.nodes (constant_gate true) x.now y.now) }
     ensures there { IfOk result (λ gate. gate.number < length circuit.new.nodes) }
-    ensures kept { Adds circuit.old.nodes circuit.new.nodes (length x.now * 2) }
+    ensures kept { AddsNodes circuit.old.nodes circuit.new.nodes (length x.now * 2) }
 {
     let mut so_far = circuit.constant(true);
     for (i, left) in x.iter().enumerate() {

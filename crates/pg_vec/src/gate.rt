@@ -7,7 +7,7 @@
 
 ghost use Rattle.std.specs.Prelude.{◌≡◌, ◌<◌, length, IfOk};
 ghost use Rattle.pg_circuit.specs.Made.{and_made, xor_made};
-ghost use Rattle.pg_vec.specs.Adds.{Adds};
+ghost use Rattle.pg_vec.specs.AddsNodes.{AddsNodes};
 ghost use Rattle.pg_vec.specs.Gates.{or_made, choice_made, carry_made};
 ghost use Rattle.pg_vec.specs.Strings.{carry_into_made};
 
@@ -20,7 +20,7 @@ pub fn and(circuit: &mut Circuit, x: Gate, y: Gate) -> Result<Gate, AllocError>
     requires right { y.number < length circuit.old.nodes }
     ensures made { IfOk result (λ gate. (gate, circuit.new.nodes) ≡ and_made circuit.old.nodes x y) }
     ensures there { IfOk result (λ gate. gate.number < length circuit.new.nodes) }
-    ensures kept { Adds circuit.old.nodes circuit.new.nodes 1 }
+    ensures kept { AddsNodes circuit.old.nodes circuit.new.nodes 1 }
 {
     circuit.and(x, y)
 }
@@ -31,7 +31,7 @@ pub fn xor(circuit: &mut Circuit, x: Gate, y: Gate) -> Result<Gate, AllocError>
     requires right { y.number < length circuit.old.nodes }
     ensures made { IfOk result (λ gate. (gate, circuit.new.nodes) ≡ xor_made circuit.old.nodes x y) }
     ensures there { IfOk result (λ gate. gate.number < length circuit.new.nodes) }
-    ensures kept { Adds circuit.old.nodes circuit.new.nodes 1 }
+    ensures kept { AddsNodes circuit.old.nodes circuit.new.nodes 1 }
 {
     circuit.xor(x, y)
 }
@@ -42,7 +42,7 @@ pub fn or(circuit: &mut Circuit, x: Gate, y: Gate) -> Result<Gate, AllocError>
     requires right { y.number < length circuit.old.nodes }
     ensures made { IfOk result (λ gate. (gate, circuit.new.nodes) ≡ or_made circuit.old.nodes x y) }
     ensures there { IfOk result (λ gate. gate.number < length circuit.new.nodes) }
-    ensures kept { Adds circuit.old.nodes circuit.new.nodes 1 }
+    ensures kept { AddsNodes circuit.old.nodes circuit.new.nodes 1 }
 {
     let not_x = circuit.not(x);
     let not_y = circuit.not(y);
@@ -57,7 +57,7 @@ pub fn choose(circuit: &mut Circuit, choice: Gate, x: Gate, y: Gate) -> Result<G
     requires right { y.number < length circuit.old.nodes }
     ensures made { IfOk result (λ gate. (gate, circuit.new.nodes) ≡ choice_made choice circuit.old.nodes x y) }
     ensures there { IfOk result (λ gate. gate.number < length circuit.new.nodes) }
-    ensures kept { Adds circuit.old.nodes circuit.new.nodes 3 }
+    ensures kept { AddsNodes circuit.old.nodes circuit.new.nodes 3 }
 {
     let left = and(circuit, choice, x)?;
     let not_choice = circuit.not(choice);
@@ -80,7 +80,7 @@ pub fn carry_out(
     requires carry { carry.number < length circuit.old.nodes }
     ensures made { IfOk result (λ gate. (gate, circuit.new.nodes) ≡ carry_made circuit.old.nodes x y half carry) }
     ensures there { IfOk result (λ gate. gate.number < length circuit.new.nodes) }
-    ensures kept { Adds circuit.old.nodes circuit.new.nodes 3 }
+    ensures kept { AddsNodes circuit.old.nodes circuit.new.nodes 3 }
 {
     let both = and(circuit, x, y)?;
     let passed = and(circuit, half, carry)?;
@@ -102,7 +102,7 @@ pub fn carry_into(
     requires carry { carry.number < length circuit.old.nodes }
     ensures made { IfOk result (λ gate. (gate, circuit.new.nodes) ≡ carry_into_made rest.now circuit.old.nodes x y half carry) }
     ensures there { IfOk result (λ gate. gate.number < length circuit.new.nodes) }
-    ensures kept { Adds circuit.old.nodes circuit.new.nodes 3 }
+    ensures kept { AddsNodes circuit.old.nodes circuit.new.nodes 3 }
 {
     if rest.is_empty() {
         Ok(carry)

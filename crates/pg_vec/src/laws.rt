@@ -2,7 +2,7 @@
 
 ghost use Rattle.std.specs.Prelude.{◌≡◌, ◌^◌, ◌<◌, ◌∷◌, [], true, false, length};
 ghost use Rattle.pg_circuit.specs.Values.{values_of};
-ghost use Rattle.pg_circuit.specs.Grown.{IsFront};
+ghost use Rattle.pg_circuit.specs.Grown.{GrowsTo};
 ghost use Rattle.pg_circuit.specs.Made.{gate_at, constant_gate};
 ghost use Rattle.pg_vec.specs.Number.{number};
 ghost use Rattle.pg_vec.specs.There.{AreThere, AreValues};
@@ -12,13 +12,13 @@ use pg_circuit::{Gate, Node};
 
 /// The values of a circuit are values of each that it grew from.
 pub fn later_values_are_values(nodes: &[Node], later: &[Node], inputs: &[bool])
-    requires { IsFront nodes.now later.now }
+    requires { GrowsTo nodes.now later.now }
     ensures { AreValues inputs.now nodes.now (values_of inputs.now later.now) }
 {}
 
 /// Where nodes stay in front, a string over them stays there, and keeps its number.
 pub fn string_stays(nodes: &[Node], later: &[Node], inputs: &[bool], gates: &[Gate])
-    requires front { IsFront nodes.now later.now }
+    requires front { GrowsTo nodes.now later.now }
     requires there { AreThere (length nodes.now) gates.now }
     ensures there { AreThere (length later.now) gates.now }
     ensures number { number (values_of inputs.now later.now) gates.now ≡ number (values_of inputs.now nodes.now) gates.now }

@@ -22,6 +22,3 @@ mod shift;
 mod sum;
 
 pub use bits::Bits;
-
-#[cfg(test)]
-mod tests;

@@ -5,16 +5,15 @@
 //! every circuit that begins with the nodes that there are then.
 //!
 //! The error is want of memory, for the string or for a node. The circuit may hold further nodes then. In any case those
-//! that it held stay, and so does what they are worth (`kept`); at most `2^15` are added (`within`), and no input
-//! (`inputs`). Five operations need no node, and leave the circuit as it was in any case (`same`).
+//! that it held stay, and so does what they are worth; at most `2^15` are added, and no input (`kept`). Five operations
+//! need no node, and leave the circuit as it was in any case (`same`).
 
 ghost use Rattle.std.specs.Prelude.{◌≡◌, ℕ, ◌+◌, ◌-◌, ◌*◌, ◌^◌, ◌<◌, ◌≤◌, Bool, true, false, cond, length, IfOk, List, bit_and, bit_or, bit_xor};
-ghost use Rattle.pg_circuit.specs.Nodes.{input_count};
-ghost use Rattle.pg_circuit.specs.Grown.{IsFront};
 ghost use Rattle.pg_circuit.specs.Values.{gate_value};
 ghost use Rattle.pg_word.specs.Bits.{sum_of, difference_of, product_of, complement_of, left_shifted, right_shifted, equal_bit, below_bit, joined, bits_between, sign_extended};
 ghost use Rattle.pg_vec.specs.Number.{number};
 ghost use Rattle.pg_vec.specs.There.{AreThere};
+ghost use Rattle.pg_vec.specs.AddsNodes.{AddsNodes};
 ghost use Rattle.pg_vec.specs.Makes.{MakesBits};
 ghost use Rattle.pg_vec.specs.Strings.{bits_not_made, cat_made, cut_made, ext_made, sext_made, bits_and_made, bits_or_made, bits_xor_made, mux_made, add_made, sub_made, mul_made, lt_made, eq_made, shl_made, shr_made};
 
@@ -34,9 +33,7 @@ pub fn add(alloc: Global, circuit: &mut Circuit, x: &Bits, y: &Bits) -> Result<B
     requires same_width { length x.now ≡ length y.now }
     ensures made { IfOk result (λ bits. (bits, circuit.new.nodes) ≡ add_made circuit.old.nodes x.now y.now) }
     ensures worth { IfOk result (λ bits. MakesBits circuit.old.nodes (bits, circuit.new.nodes) (length x.now) (2 ^ 15) (λ v. sum_of (length x.now) (number v x.now) (number v y.now))) }
-    ensures kept { IsFront circuit.old.nodes circuit.new.nodes }
-    ensures within { length circuit.new.nodes ≤ length circuit.old.nodes + 2 ^ 15 }
-    ensures inputs { input_count circuit.new.nodes ≡ input_count circuit.old.nodes }
+    ensures kept { AddsNodes circuit.old.nodes circuit.new.nodes (2 ^ 15) }
 {
     let zero = circuit.constant(false);
     let bits = sum(alloc, circuit, zero, x.as_slice(), y.as_slice())?;
@@ -50,9 +47,7 @@ pub fn sub(alloc: Global, circuit: &mut Circuit, x: &Bits, y: &Bits) -> Result<B
     requires same_width { length x.now ≡ length y.now }
     ensures made { IfOk result (λ bits. (bits, circuit.new.nodes) ≡ sub_made circuit.old.nodes x.now y.now) }
     ensures worth { IfOk result (λ bits. MakesBits circuit.old.nodes (bits, circuit.new.nodes) (length x.now) (2 ^ 15) (λ v. difference_of (length x.now) (number v x.now) (number v y.now))) }
-    ensures kept { IsFront circuit.old.nodes circuit.new.nodes }
-    ensures within { length circuit.new.nodes ≤ length circuit.old.nodes + 2 ^ 15 }
-    ensures inputs { input_count circuit.new.nodes ≡ input_count circuit.old.nodes }
+    ensures kept { AddsNodes circuit.old.nodes circuit.new.nodes (2 ^ 15) }
 {
     let one = circuit.constant(true);
     let flipped = flip(alloc, circuit, y.as_slice())?;
@@ -68,9 +63,7 @@ pub fn mul(alloc: Global, circuit: &mut Circuit, x: &Bits, y: &Bits) -> Result<B
     requires same_width { length x.now ≡ length y.now }
     ensures made { IfOk result (λ bits. (bits, circuit.new.nodes) ≡ mul_made circuit.old.nodes x.now y.now) }
     ensures worth { IfOk result (λ bits. MakesBits circuit.old.nodes (bits, circuit.new.nodes) (length x.now) (2 ^ 15) (λ v. product_of (length x.now) (number v x.now) (number v y.now))) }
-    ensures kept { IsFront circuit.old.nodes circuit.new.nodes }
-    ensures within { length circuit.new.nodes ≤ length circuit.old.nodes + 2 ^ 15 }
-    ensures inputs { input_count circuit.new.nodes ≡ input_count circuit.old.nodes }
+    ensures kept { AddsNodes circuit.old.nodes circuit.new.nodes (2 ^ 15) }
 {
     let bits = product(alloc, circuit, x.as_slice(), y.as_slice())?;
     Ok(Bits::from_vec(bits))
@@ -94,9 +87,7 @@ pub fn and(alloc: Global, circuit: &mut Circuit, x: &Bits, y: &Bits) -> Result<B
     requires same_width { length x.now ≡ length y.now }
     ensures made { IfOk result (λ bits. (bits, circuit.new.nodes) ≡ bits_and_made circuit.old.nodes x.now y.now) }
     ensures worth { IfOk result (λ bits. MakesBits circuit.old.nodes (bits, circuit.new.nodes) (length x.now) (2 ^ 15) (λ v. bit_and (number v x.now) (number v y.now))) }
-    ensures kept { IsFront circuit.old.nodes circuit.new.nodes }
-    ensures within { length circuit.new.nodes ≤ length circuit.old.nodes + 2 ^ 15 }
-    ensures inputs { input_count circuit.new.nodes ≡ input_count circuit.old.nodes }
+    ensures kept { AddsNodes circuit.old.nodes circuit.new.nodes (2 ^ 15) }
 {
     let bits = pairwise(alloc, circuit, Pairing::And, x.as_slice(), y.as_slice())?;
     Ok(Bits::from_vec(bits))
@@ -109,9 +100,7 @@ pub fn or(alloc: Global, circuit: &mut Circuit, x: &Bits, y: &Bits) -> Result<Bi
     requires same_width { length x.now ≡ length y.now }
     ensures made { IfOk result (λ bits. (bits, circuit.new.nodes) ≡ bits_or_made circuit.old.nodes x.now y.now) }
     ensures worth { IfOk result (λ bits. MakesBits circuit.old.nodes (bits, circuit.new.nodes) (length x.now) (2 ^ 15) (λ v. bit_or (number v x.now) (number v y.now))) }
-    ensures kept { IsFront circuit.old.nodes circuit.new.nodes }
-    ensures within { length circuit.new.nodes ≤ length circuit.old.nodes + 2 ^ 15 }
-    ensures inputs { input_count circuit.new.nodes ≡ input_count circuit.old.nodes }
+    ensures kept { AddsNodes circuit.old.nodes circuit.new.nodes (2 ^ 15) }
 {
     let bits = pairwise(alloc, circuit, Pairing::Or, x.as_slice(), y.as_slice())?;
     Ok(Bits::from_vec(bits))
@@ -124,9 +113,7 @@ pub fn xor(alloc: Global, circuit: &mut Circuit, x: &Bits, y: &Bits) -> Result<B
     requires same_width { length x.now ≡ length y.now }
     ensures made { IfOk result (λ bits. (bits, circuit.new.nodes) ≡ bits_xor_made circuit.old.nodes x.now y.now) }
     ensures worth { IfOk result (λ bits. MakesBits circuit.old.nodes (bits, circuit.new.nodes) (length x.now) (2 ^ 15) (λ v. bit_xor (number v x.now) (number v y.now))) }
-    ensures kept { IsFront circuit.old.nodes circuit.new.nodes }
-    ensures within { length circuit.new.nodes ≤ length circuit.old.nodes + 2 ^ 15 }
-    ensures inputs { input_count circuit.new.nodes ≡ input_count circuit.old.nodes }
+    ensures kept { AddsNodes circuit.old.nodes circuit.new.nodes (2 ^ 15) }
 {
     let bits = pairwise(alloc, circuit, Pairing::Xor, x.as_slice(), y.as_slice())?;
     Ok(Bits::from_vec(bits))
@@ -147,9 +134,7 @@ pub fn mux(
     requires same_width { length x.now ≡ length y.now }
     ensures made { IfOk result (λ bits. (bits, circuit.new.nodes) ≡ mux_made circuit.old.nodes choice x.now y.now) }
     ensures worth { IfOk result (λ bits. MakesBits circuit.old.nodes (bits, circuit.new.nodes) (length x.now) (2 ^ 15) (λ v. cond (gate_value v choice) (number v x.now) (number v y.now))) }
-    ensures kept { IsFront circuit.old.nodes circuit.new.nodes }
-    ensures within { length circuit.new.nodes ≤ length circuit.old.nodes + 2 ^ 15 }
-    ensures inputs { input_count circuit.new.nodes ≡ input_count circuit.old.nodes }
+    ensures kept { AddsNodes circuit.old.nodes circuit.new.nodes (2 ^ 15) }
 {
     let make = Pairing::Choose(choice);
     let bits = pairwise(alloc, circuit, make, x.as_slice(), y.as_slice())?;
@@ -163,9 +148,7 @@ pub fn eq(alloc: Global, circuit: &mut Circuit, x: &Bits, y: &Bits) -> Result<Bi
     requires same_width { length x.now ≡ length y.now }
     ensures made { IfOk result (λ bits. (bits, circuit.new.nodes) ≡ eq_made circuit.old.nodes x.now y.now) }
     ensures worth { IfOk result (λ bits. MakesBits circuit.old.nodes (bits, circuit.new.nodes) 1 (2 ^ 15) (λ v. equal_bit (number v x.now) (number v y.now))) }
-    ensures kept { IsFront circuit.old.nodes circuit.new.nodes }
-    ensures within { length circuit.new.nodes ≤ length circuit.old.nodes + 2 ^ 15 }
-    ensures inputs { input_count circuit.new.nodes ≡ input_count circuit.old.nodes }
+    ensures kept { AddsNodes circuit.old.nodes circuit.new.nodes (2 ^ 15) }
 {
     let gate = same(circuit, x.as_slice(), y.as_slice())?;
     Bits::one(alloc, gate)
@@ -179,9 +162,7 @@ pub fn lt(alloc: Global, circuit: &mut Circuit, x: &Bits, y: &Bits) -> Result<Bi
     requires same_width { length x.now ≡ length y.now }
     ensures made { IfOk result (λ bits. (bits, circuit.new.nodes) ≡ lt_made circuit.old.nodes x.now y.now) }
     ensures worth { IfOk result (λ bits. MakesBits circuit.old.nodes (bits, circuit.new.nodes) 1 (2 ^ 15) (λ v. below_bit (number v x.now) (number v y.now))) }
-    ensures kept { IsFront circuit.old.nodes circuit.new.nodes }
-    ensures within { length circuit.new.nodes ≤ length circuit.old.nodes + 2 ^ 15 }
-    ensures inputs { input_count circuit.new.nodes ≡ input_count circuit.old.nodes }
+    ensures kept { AddsNodes circuit.old.nodes circuit.new.nodes (2 ^ 15) }
 {
     let carry_in = circuit.constant(true);
     let flipped = flip(alloc, circuit, y.as_slice())?;
@@ -196,9 +177,7 @@ pub fn shl(alloc: Global, circuit: &mut Circuit, x: &Bits, y: &Bits) -> Result<B
     requires right { AreThere (length circuit.old.nodes) y.now }
     ensures made { IfOk result (λ bits. (bits, circuit.new.nodes) ≡ shl_made circuit.old.nodes x.now y.now) }
     ensures worth { IfOk result (λ bits. MakesBits circuit.old.nodes (bits, circuit.new.nodes) (length x.now) (2 ^ 15) (λ v. left_shifted (length x.now) (number v x.now) (number v y.now))) }
-    ensures kept { IsFront circuit.old.nodes circuit.new.nodes }
-    ensures within { length circuit.new.nodes ≤ length circuit.old.nodes + 2 ^ 15 }
-    ensures inputs { input_count circuit.new.nodes ≡ input_count circuit.old.nodes }
+    ensures kept { AddsNodes circuit.old.nodes circuit.new.nodes (2 ^ 15) }
 {
     let bits = shift(alloc, circuit, Direction::Up, x.as_slice(), y.as_slice())?;
     Ok(Bits::from_vec(bits))
@@ -211,9 +190,7 @@ pub fn shr(alloc: Global, circuit: &mut Circuit, x: &Bits, y: &Bits) -> Result<B
     requires right { AreThere (length circuit.old.nodes) y.now }
     ensures made { IfOk result (λ bits. (bits, circuit.new.nodes) ≡ shr_made circuit.old.nodes x.now y.now) }
     ensures worth { IfOk result (λ bits. MakesBits circuit.old.nodes (bits, circuit.new.nodes) (length x.now) (2 ^ 15) (λ v. right_shifted (length x.now) (number v x.now) (number v y.now))) }
-    ensures kept { IsFront circuit.old.nodes circuit.new.nodes }
-    ensures within { length circuit.new.nodes ≤ length circuit.old.nodes + 2 ^ 15 }
-    ensures inputs { input_count circuit.new.nodes ≡ input_count circuit.old.nodes }
+    ensures kept { AddsNodes circuit.old.nodes circuit.new.nodes (2 ^ 15) }
 {
     let bits = shift(alloc, circuit, Direction::Down, x.as_slice(), y.as_slice())?;
     Ok(Bits::from_vec(bits))

@@ -5,7 +5,7 @@
 
 ghost use Rattle.std.specs.Prelude.{◌≡◌, ◌*◌, ◌<◌, length, IfOk};
 ghost use Rattle.pg_vec.specs.There.{AreThere};
-ghost use Rattle.pg_vec.specs.Adds.{Adds};
+ghost use Rattle.pg_vec.specs.AddsNodes.{AddsNodes};
 ghost use Rattle.pg_vec.specs.Pairing.{pair_made, IsReady};
 ghost use Rattle.pg_vec.specs.Strings.{each_made};
 
@@ -33,7 +33,7 @@ fn pair(circuit: &mut Circuit, make: Pairing, x: Gate, y: Gate) -> Result<Gate, 
     requires right { y.number < length circuit.old.nodes }
     ensures made { IfOk result (λ gate. (gate, circuit.new.nodes) ≡ pair_made make circuit.old.nodes x y) }
     ensures there { IfOk result (λ gate. gate.number < length circuit.new.nodes) }
-    ensures kept { Adds circuit.old.nodes circuit.new.nodes 3 }
+    ensures kept { AddsNodes circuit.old.nodes circuit.new.nodes 3 }
 {
     match make {
         Pairing::And => and(circuit, x, y),
@@ -58,7 +58,7 @@ pub fn pairwise(
     ensures made { IfOk result (λ bits. (bits.items, circuit.new.nodes) ≡ each_made (pair_made make) circuit.old.nodes x.now y.now) }
     ensures there { IfOk result (λ bits. AreThere (length circuit.new.nodes) bits.items) }
     ensures width { IfOk result (λ bits. length bits.items ≡ length x.now) }
-    ensures kept { Adds circuit.old.nodes circuit.new.nodes (length x.now * 3) }
+    ensures kept { AddsNodes circuit.old.nodes circuit.new.nodes (length x.now * 3) }
 {
     let mut bits = Vec::with_capacity(alloc, x.len())?;
     for (i, left) in x.iter().enumerate() {

@@ -6,7 +6,7 @@
 
 ghost use Rattle.std.specs.Prelude.{◌≡◌, ◌*◌, ◌<◌, length, IfOk};
 ghost use Rattle.pg_vec.specs.There.{AreThere};
-ghost use Rattle.pg_vec.specs.Adds.{Adds};
+ghost use Rattle.pg_vec.specs.AddsNodes.{AddsNodes};
 ghost use Rattle.pg_vec.specs.Strings.{row_made, mul_made};
 
 use crate::gate::and;
@@ -22,7 +22,7 @@ fn row(alloc: Global, circuit: &mut Circuit, y: Gate, x: &[Gate]) -> Result<Vec<
     ensures made { IfOk result (λ bits. (bits.items, circuit.new.nodes) ≡ row_made circuit.old.nodes y x.now) }
     ensures there { IfOk result (λ bits. AreThere (length circuit.new.nodes) bits.items) }
     ensures width { IfOk result (λ bits. length bits.items ≡ length x.now) }
-    ensures kept { Adds circuit.old.nodes circuit.new.nodes (length x.now) }
+    ensures kept { AddsNodes circuit.old.nodes circuit.new.nodes (length x.now) }
 {
     let mut bits = Vec::with_capacity(alloc, x.len())?;
     for bit in x {
@@ -44,7 +44,7 @@ pub fn product(
     ensures made { IfOk result (λ bits. (bits.items, circuit.new.nodes) ≡ mul_made circuit.old.nodes x.now y.now) }
     ensures there { IfOk result (λ bits. AreThere (length circuit.new.nodes) bits.items) }
     ensures width { IfOk result (λ bits. length bits.items ≡ length x.now) }
-    ensures kept { Adds circuit.old.nodes circuit.new.nodes (length y.now * (length x.now * 6)) }
+    ensures kept { AddsNodes circuit.old.nodes circuit.new.nodes (length y.now * (length x.now * 6)) }
 {
     let zero = circuit.constant(false);
     let mut total = vec![in alloc; zero; x.len()]?;

@@ -12,7 +12,7 @@
 ghost use Rattle.std.specs.Prelude.{◌≡◌, ◌*◌, ◌+◌, ◌<◌, ◌≤◌, ◌^◌, length, take, IfOk, false};
 ghost use Rattle.pg_circuit.specs.Made.{constant_gate};
 ghost use Rattle.pg_vec.specs.There.{AreThere};
-ghost use Rattle.pg_vec.specs.Adds.{Adds};
+ghost use Rattle.pg_vec.specs.AddsNodes.{AddsNodes};
 ghost use Rattle.pg_vec.specs.Direction.{move_of};
 ghost use Rattle.pg_vec.specs.Strings.{moved_up, moved_down, any_made, stages_made, shift_made};
 
@@ -83,7 +83,7 @@ fn stages(
     ensures made { IfOk result (λ bits. (bits.items, circuit.new.nodes) ≡ stages_made (move_of way) circuit.old.nodes 1 x.now by.now) }
     ensures there { IfOk result (λ bits. AreThere (length circuit.new.nodes) bits.items) }
     ensures width { IfOk result (λ bits. length bits.items ≡ length x.now) }
-    ensures kept { Adds circuit.old.nodes circuit.new.nodes (length by.now * (length x.now * 3)) }
+    ensures kept { AddsNodes circuit.old.nodes circuit.new.nodes (length by.now * (length x.now * 3)) }
 {
     let mut bits = Vec::from_slice(alloc, x)?;
     let mut step = 1;
@@ -101,7 +101,7 @@ fn any(circuit: &mut Circuit, x: &[Gate]) -> Result<Gate, AllocError>
     requires { AreThere (length circuit.old.nodes) x.now }
     ensures made { IfOk result (λ gate. (gate, circuit.new.nodes) ≡ any_made circuit.old.nodes (constant_gate false) x.now) }
     ensures there { IfOk result (λ gate. gate.number < length circuit.new.nodes) }
-    ensures kept { Adds circuit.old.nodes circuit.new.nodes (length x.now) }
+    ensures kept { AddsNodes circuit.old.nodes circuit.new.nodes (length x.now) }
 {
     let mut so_far = circuit.constant(false);
     for bit in x {
@@ -124,7 +124,7 @@ pub fn shift(
     ensures made { IfOk result (λ bits. (bits.items, circuit.new.nodes) ≡ shift_made (move_of way) circuit.old.nodes x.now by.now) }
     ensures there { IfOk result (λ bits. AreThere (length circuit.new.nodes) bits.items) }
     ensures width { IfOk result (λ bits. length bits.items ≡ length x.now) }
-    ensures kept { Adds circuit.old.nodes circuit.new.nodes (length x.now * 21 + length by.now) }
+    ensures kept { AddsNodes circuit.old.nodes circuit.new.nodes (length x.now * 21 + length by.now) }
 {
     let (low, high) = by.split_at(by.len().min(6));
     let near = stages(alloc, circuit, way, x, low)?;

@@ -6,7 +6,7 @@
 
 ghost use Rattle.std.specs.Prelude.{◌≡◌, ◌*◌, ◌<◌, length, IfOk};
 ghost use Rattle.pg_vec.specs.There.{AreThere};
-ghost use Rattle.pg_vec.specs.Adds.{Adds};
+ghost use Rattle.pg_vec.specs.AddsNodes.{AddsNodes};
 ghost use Rattle.pg_vec.specs.Strings.{flipped, sum_made};
 
 use crate::gate::{carry_into, xor};
@@ -28,7 +28,7 @@ pub fn sum(
     ensures made { IfOk result (λ bits. (bits.items, circuit.new.nodes) ≡ sum_made circuit.old.nodes carry_in x.now y.now) }
     ensures there { IfOk result (λ bits. AreThere (length circuit.new.nodes) bits.items) }
     ensures width { IfOk result (λ bits. length bits.items ≡ length x.now) }
-    ensures kept { Adds circuit.old.nodes circuit.new.nodes (length x.now * 5) }
+    ensures kept { AddsNodes circuit.old.nodes circuit.new.nodes (length x.now * 5) }
 {
     let mut bits = Vec::with_capacity(alloc, x.len())?;
     let mut carry = carry_in;

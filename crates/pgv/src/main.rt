@@ -1,19 +1,11 @@
 //! The program: real files and standard output below, and the command line above.
 //!
-//! All that the program means stands in the crates below, over the traits `Shelf` and `Sink` of `pg_edge`. Here the
-//! two are given their real form: [`dir_shelf`] is files of the system by their paths, [`std_sink`] is a writer of
-//! the system. Both are made of the loops in [`streams`], and are the only code that opens, reads or writes. Where
-//! there is no memory for the words, `tool` is not called, and the program ends with the same status, 10, as it does where
-//! `tool` has none.
+//! All that the program means stands in the crates below, over the traits `Shelf`, `Sink` and `Hardware`. Here their real
+//! forms are made, of `pg_host` and `pg_rig`, and lent to `tool`. Where there is no memory for the words, `tool` is not
+//! called, and the program ends with the same status, 10, as it does where `tool` has none.
 #![tactic(auto)]
 
-mod dir_shelf;
-mod std_sink;
-mod streams;
-#[cfg(test)]
-mod tests;
-
-use dir_shelf::DirShelf;
+use pg_host::{DirShelf, StdSink};
 use pg_rig::Rig;
 use pg_tool::{Status, tool};
 use std::alloc::AllocError;
@@ -21,7 +13,6 @@ use std::env;
 use std::io::ErrorKind;
 use std::process::ExitCode;
 use std::rt::Env;
-use std_sink::StdSink;
 
 /// Runs the command that the words ask for on real files, standard output and a hardware in memory, and ends with the
 /// number of its status.

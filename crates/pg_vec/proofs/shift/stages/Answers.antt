@@ -2,7 +2,7 @@
 use Rattle.std.proofs.Common.{◌*◌, length, arith, subst, sym, ap, ◌∙◌}
 use Rattle.std.proofs.lemmas.Nat.{pow-add}
 use Rattle.pg_vec.specs.Direction.{move_of}
-use Rattle.pg_vec.specs.Adds.{Adds}
+use Rattle.pg_vec.specs.AddsNodes.{AddsNodes}
 use Rattle.pg_vec.proofs.Loops.{staged_next, staged_all, stages_none, stages_next, moved_wide}
 use Rattle.pg_vec.proofs.shift.stages.Goals as goal
 
@@ -13,7 +13,7 @@ loop-choice-preserved c =
     let moved = c.in_ok-far.ensures ∙ ap (move_of c.args.way step) c.as_slice.ensures.value in
     let far = ap length c.as_slice-in-loop-choice.ensures.value ∙ ap length moved ∙ moved_wide c.args.way step bits ∙ c.loop-choice.invariant.0.wide in
     let wide = c.in_ok-bits-2.ensures.width ∙ far in
-    let kept = subst (λ n. Adds c.loop-choice.circuit.nodes c.pairwise.new.circuit.nodes (n * 3)) far c.pairwise.ensures.kept in (
+    let kept = subst (λ n. AddsNodes c.loop-choice.circuit.nodes c.pairwise.new.circuit.nodes (n * 3)) far c.pairwise.ensures.kept in (
       staged_next _ _ (length c.args.x.now * 3) _ _ _ _ _ c.in_ok-bits-2.bits.items _ _ c.loop-choice.invariant.0 kept c.in_ok-bits-2.ensures.there wide
           (stages_next (move_of c.args.way) _ step bits c.args.by.now c.loop-choice.choice-index c.in_ok-far.far.items c.as_slice-in-loop-choice.result.now c.as_slice-in-loop-choice-2.result.now
           c.in_ok-bits-2.bits.items _ (omega arith) moved c.as_slice-in-loop-choice.ensures.value c.as_slice-in-loop-choice-2.ensures.value c.in_ok-bits-2.ensures.made),

@@ -1,48 +1,23 @@
-use Rattle.std.proofs.Common.{length, [], refl, ap, sym, ◌∙◌}
-use Rattle.pg_circuit.specs.declared.node.Node.TheVariants.{And}
-use Rattle.pg_circuit.specs.Made.{node_made, and_made, made}
-use Rattle.pg_circuit.proofs.CircuitLemmas.{and_operands, placed-kept, has_of_same}
-use Rattle.pg_circuit.proofs.MadeLemmas.{and_simplified-there, node_made-there, made-there, made-kept}
+-- The gate that stands for the And, or its node.
+use Rattle.std.proofs.Common.{length, sym, ◌∙◌}
+use Rattle.pg_circuit.specs.Made.{and_made, and_simplified}
+use Rattle.pg_circuit.proofs.MadeLemmas.{and_next, and_simplified-there, some_there}
 use Rattle.pg_circuit.proofs.circuit.Circuit.and.Goals as goal
 
-pub invariant_of-self : goal.invariant_of-self
-invariant_of-self c =
+pub gate_of-requires-clause-there : goal.gate_of-requires-clause-there
+gate_of-requires-clause-there c =
     let old = c.args.self.now in
-    let kept = placed-kept c.place.result old.nodes c.place.new.self (And c.args.x c.args.y) old.circuit
-    (and_operands c.args.x c.args.y _ (sym c.in-None.ensures) c.requires.left c.requires.right) refl c.place.ensures.made c.place.ensures.err in
-    record { circuit = kept.circuit; counted = old.counted ∙ sym kept.inputs; bound = c.place.ensures.bound }
+    some_there (and_simplified c.args.x c.args.y) c.and_simplified.result (length old.nodes) c.and_simplified.ensures
+    (λ g e. and_simplified-there (length old.nodes) old.circuit.begun c.args.x c.args.y g c.requires.left c.requires.right e)
 
-pub returns-in-Some-clause-made : goal.returns-in-Some-clause-made
+pub gate_of-requires-clause-next : goal.gate_of-requires-clause-next
+gate_of-requires-clause-next c =
+    λ none. and_next c.args.self.now.nodes c.args.self.now.circuit c.args.x c.args.y c.requires.left c.requires.right (sym c.and_simplified.ensures ∙ none)
+
+pub returns-clause-made : goal.returns-clause-made
 unfolding and_made
-returns-in-Some-clause-made c = ap (λ o. made c.args.self.now.nodes o (And c.args.x c.args.y)) c.in-Some.ensures
+returns-clause-made c = rw (sym c.and_simplified.ensures) c.gate_of.ensures.made
 
-pub returns-in-None-clause-made : goal.returns-in-None-clause-made
+pub returns-clause-found : goal.returns-clause-found
 unfolding and_made
-returns-in-None-clause-made c = rw (sym c.in-None.ensures) c.place.ensures.made
-
-pub returns-in-None-clause-found : goal.returns-in-None-clause-found
-unfolding and_made
-returns-in-None-clause-found c =
-    let e = ap (λ o. (made c.args.self.now.nodes o (And c.args.x c.args.y)).1) c.in-None.ensures in
-    λ same. c.place.ensures.found (has_of_same c.args.self.now.nodes (And c.args.x c.args.y) (e ∙ same))
-
-pub returns-in-Some-clause-there : goal.returns-in-Some-clause-there
-returns-in-Some-clause-there c =
-    and_simplified-there (length c.args.self.now.nodes) c.args.self.now.circuit.begun c.args.x c.args.y c.in-Some.gate c.requires.left c.requires.right
-    (sym c.in-Some.ensures)
-
-pub returns-in-None-clause-there : goal.returns-in-None-clause-there
-returns-in-None-clause-there c =
-    let old = c.args.self.now in
-    made-there c.place.result old.nodes c.place.new.self (node_made old.nodes (And c.args.x c.args.y))
-    (node_made-there [] old.nodes (And c.args.x c.args.y) old.circuit
-    (and_operands c.args.x c.args.y _ (sym c.in-None.ensures) c.requires.left c.requires.right) refl)
-    c.place.ensures.made
-
-pub returns-in-None-clause-kept : goal.returns-in-None-clause-kept
-returns-in-None-clause-kept c =
-    let old = c.args.self.now in
-    made-kept c.place.result old.nodes c.place.new.self (node_made old.nodes (And c.args.x c.args.y))
-    (node_made-there [] old.nodes (And c.args.x c.args.y) old.circuit
-    (and_operands c.args.x c.args.y _ (sym c.in-None.ensures) c.requires.left c.requires.right) refl)
-    c.place.ensures.made c.place.ensures.err
+returns-clause-found c = rw (sym c.and_simplified.ensures) c.gate_of.ensures.found

@@ -1,0 +1,43 @@
+-- The arguments that commands are made of: their rules, their values, and what they hold once their words were taken.
+use Rattle.std.specs.Prelude.{◌≡◌, ◌≤◌, ℕ, List, Option, Some, true, is_some, option_and_then}
+use Rattle.std.specs.Str.Parse.{IsNumeral, digits_value, without_leading_plus}
+use Rattle.clap.specs.Walk.{Row, Rule, Text, first_of, one_of}
+use Rattle.clap.specs.Simple.{new_rule}
+use Rattle.clap.specs.declared.builder.value_parser.ValueParser.{ValueParser}
+
+-- ---- rules
+
+-- a text in its place, which has to be there
+abbrev pub place : Text → Rule
+place name = record (new_rule name) { required = true }
+
+-- a number after `--name`, which has to be there and to pass the parser
+abbrev pub number : Text → ValueParser → Rule
+number name numbers = record (new_rule name) { long = Some name; parser = Some numbers; required = true }
+
+-- ---- values
+
+-- the number that a text writes in decimal digits
+abbrev pub number_of : Text → ℕ
+number_of text = digits_value 10 (without_leading_plus text)
+
+-- what is made of the value of an argument, where it has one
+abbrev pub with_text : {X : Type 0} → Text → List Row → (Text → Option X) → Option X
+with_text id rows make = option_and_then make (first_of id rows)
+
+abbrev pub with_number : {X : Type 0} → Text → List Row → (ℕ → Option X) → Option X
+with_number id rows make = option_and_then (λ text. make (number_of text)) (one_of id rows)
+
+-- ---- what they hold
+
+-- the argument has a value
+abbrev pub HasText : Text → List Row → Type 0
+HasText id rows = is_some (first_of id rows) ≡ true
+
+-- the value of an argument is a number of the range
+pub record HasNumber (id : Text) (least most : ℕ) (rows : List Row) : Type 0 where
+  pub text : Text
+  pub is_value : one_of id rows ≡ Some text
+  pub is_numeral : IsNumeral 10 (without_leading_plus text)
+  pub is_least : least ≤ number_of text
+  pub is_most : number_of text ≤ most

@@ -1,0 +1,38 @@
+//! The arguments that commands are made of: how `clap` is told of one, and how its value is read.
+//!
+//! A parse that succeeds has given each argument of the command a value, and each number passed its range. What is read
+//! here requires that of the matches, and takes the values without a test.
+ghost use Rattle.std.specs.Prelude.{◌≡◌, IfOk, Some, false, string_bytes};
+ghost use Rattle.clap.specs.Words.{found_of, rows_of, rule_of, first_of};
+ghost use Rattle.pg_command.specs.Arguments as spec;
+
+use clap::builder::ValueParser;
+use clap::{Arg, ArgMatches};
+use std::alloc::{AllocError, Global};
+
+/// A text in its place, which has to be there.
+pub(crate) fn place<'a>(alloc: Global, name: &'a str) -> Arg<'a>
+    ensures rule { rule_of result ≡ spec.place name.entry.now }
+    ensures local { result.global ≡ false }
+{
+    Arg::new(alloc, name).required(true)
+}
+
+/// A number after `--name`, which has to be there and to pass the parser.
+pub(crate) fn number<'a>(alloc: Global, name: &'a str, numbers: ValueParser<'a>) -> Arg<'a>
+    ensures rule { rule_of result ≡ spec.number name.entry.now numbers.entry }
+    ensures local { result.global ≡ false }
+{
+    Arg::new(alloc, name)
+        .long(name)
+        .required(true)
+        .value_parser(numbers)
+}
+
+/// The text of an argument.
+pub(crate) fn text(alloc: Global, matches: &ArgMatches<'_>, id: &str) -> Result<String, AllocError>
+    requires { spec.HasText id.now (rows_of (found_of matches.now)) }
+    ensures { IfOk result (λ s. first_of id.now (rows_of (found_of matches.now)) ≡ Some (string_bytes s)) }
+{
+    String::from_str(alloc, matches.get_str(id).unwrap())
+}

@@ -1,0 +1,16 @@
+//! Tests of the outside: shelves, sinks and streams, in memory and real, and the command line.
+//!
+//! Nothing but tests stands here, of public calls alone. A shelf in memory and one over files are asked the same questions,
+//! and have to give the same answers; so have the sinks. What a test says is a row of a table: the call, and what is to
+//! come of it. Most of that the clauses say already of an implementation that tells its content; of the real edges no
+//! clause can, and here they are seen to do it once.
+#![tactic(auto)]
+
+#[cfg(test)]
+mod lines;
+#[cfg(test)]
+mod shelves;
+#[cfg(test)]
+mod sinks;
+#[cfg(test)]
+mod streams;

@@ -1,0 +1,108 @@
+//! Lines as a user types them, with what they ask for. In the tables the words stand with a bar between them.
+
+use pg_command::{Fault, Request, request};
+use std::alloc::{AllocError, Global};
+use std::test::Fail;
+
+/// What the words of a line ask for.
+fn asked(alloc: Global, line: &str) -> Result<Result<Request, Fault>, AllocError> {
+    let mut words = Vec::new(alloc);
+    for word in line.split('|') {
+        words.push(String::from_str(alloc, word)?)?;
+    }
+    match request(alloc, &words) {
+        Err(Fault::Memory) => Err(AllocError),
+        other => Ok(other),
+    }
+}
+
+/// Lines that are taken, with the command, the grant and the steps that they ask for. The description is `d`, and the
+/// image, where the command has one, `i`.
+const TAKEN: [(&str, &str, u32, u64); 9] = [
+    ("pgv|bare|d|i|--grant|8|--steps|0", "bare", 8, 0),
+    ("pgv|bare|--steps=1000000|d|--grant=8|i", "bare", 8, 1_000_000),
+    ("x|bare|--grant|2|--steps|7|--|d|i", "bare", 2, 7),
+    ("pgv|bare|d|i|--grant|1048575|--steps|+7", "bare", 1_048_575, 7),
+    ("pgv|bare|d|i|--grant|+008|--steps|00", "bare", 8, 0),
+    ("pgv|run|d|i|--grant|8|--steps|3", "run", 8, 3),
+    ("pgv|run|--steps=1000000|d|i|--grant=1048575", "run", 1_048_575, 1_000_000),
+    ("pgv|print|d", "print", 0, 0),
+    ("x|print|--|d", "print", 0, 0),
+];
+
+#[test]
+fn lines_that_are_taken(rt: HostRuntime) -> Result<(), Fail> {
+    for (line, command, grant, steps) in TAKEN {
+        let (name, words) = match asked(rt.alloc(), line)? {
+            Ok(Request::Bare(words)) => ("bare", Some(words)),
+            Ok(Request::Run(words)) => ("run", Some(words)),
+            Ok(Request::Print(words)) => {
+                assert!(rt; words.desc.as_str() == "d", "{line}");
+                ("print", None)
+            }
+            Err(_) => ("refused", None),
+        };
+        assert!(rt; name == command, "{line}");
+        if let Some(words) = words {
+            assert!(rt; words.desc.as_str() == "d", "{line}");
+            assert!(rt; words.image.as_str() == "i", "{line}");
+            assert!(rt; (words.grant, words.steps) == (grant, steps), "{line}");
+        }
+    }
+    Ok(())
+}
+
+/// Lines that are refused.
+const REFUSED: [&str; 41] = [
+    "pgv",
+    "pgv|verify",
+    "pgv|--help",
+    "pgv|-h",
+    "pgv|help",
+    "pgv|--version",
+    "pgv|-V",
+    "pgv|bare|d|i|--grant=8|--steps=0|--help",
+    "pgv|bare|d|i|--grant=8|--steps=0|-h",
+    "pgv|bare|d|i|--grant=8|--steps=0|help",
+    "pgv|bare|d|i|--grant=8|--steps=0|--version",
+    "pgv|bare|d|i|--grant=8|--steps=0|-V",
+    "pgv|bare|d|--grant=8|--steps=0",
+    "pgv|bare|d|i|--grant=8",
+    "pgv|bare|d|i|--steps=0",
+    "pgv|bare|d|i|e|--grant=8|--steps=0",
+    "pgv|bare|d|i|--grant=8|--grant=8|--steps=0",
+    "pgv|bare|d|i|--steps=0|--grant|1",
+    "pgv|bare|d|i|--steps=0|--grant|1048576",
+    "pgv|bare|d|i|--steps=0|--grant|-8",
+    "pgv|bare|d|i|--steps=0|--grant|",
+    "pgv|bare|d|i|--steps=0|--grant|0x8",
+    "pgv|bare|d|i|--steps=0|--grant|8 ",
+    "pgv|bare|d|i|--grant=8|--steps=1000001",
+    "pgv|bare|d|i|--grant=8|--steps=-1",
+    "pgv|bare|d|i|--grant=8|--steps=1e3",
+    "pgv|bare|d|i|--grant=8|--steps",
+    "pgv|run",
+    "pgv|run|d|i|--grant=1|--steps=3",
+    "pgv|run|d|i|--grant=1048576|--steps=3",
+    "pgv|run|d|i|--grant=8|--steps=1000001",
+    "pgv|run|d|i|--grant=8",
+    "pgv|run|d|i|--steps=3",
+    "pgv|run|d|i|e|--grant=8|--steps=3",
+    "pgv|run|d|--grant=8|--steps=3",
+    "pgv|print",
+    "pgv|print|d|e",
+    "pgv|print|d|--grant=8",
+    "pgv|print|d|--steps=0",
+    "",
+    "pgv|",
+];
+
+#[test]
+fn lines_that_are_refused(rt: HostRuntime) -> Result<(), Fail> {
+    for line in REFUSED {
+        assert!(rt; matches!(asked(rt.alloc(), line)?, Err(Fault::Refused)), "{line}");
+    }
+    let none = Vec::new(rt.alloc());
+    assert!(rt; matches!(request(rt.alloc(), &none), Err(Fault::Refused)));
+    Ok(())
+}
