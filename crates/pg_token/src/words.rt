@@ -13,14 +13,14 @@ ghost use Rattle.std.specs.List.{list_all};
 ghost use Rattle.pg_token.specs.Words.{is_letter, is_word_byte, is_word, is_reserved, is_name, is_pattern_byte};
 
 /// A letter of either case.
-fn is_letter(byte: u8) -> bool
+pub fn is_letter(byte: u8) -> bool
     ensures { result ≡ is_letter byte }
 {
     byte.is_ascii_alphabetic()
 }
 
 /// A letter, a digit or `_`.
-fn is_word_byte(byte: u8) -> bool
+pub fn is_word_byte(byte: u8) -> bool
     ensures { result ≡ is_word_byte byte }
 {
     is_letter(byte) || byte.is_ascii_digit() || byte == b'_'

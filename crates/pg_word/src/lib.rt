@@ -9,6 +9,7 @@
 #![tactic(auto)]
 
 pub mod bits;
+pub mod bytes;
 pub mod laws;
 mod psw;
 mod shape;
