@@ -10,7 +10,7 @@ use Rattle.pg_ast.specs.declared.name.PatternText.{PatternText}
 use Rattle.pg_ast.specs.declared.tree.Stmt.{Stmt}
 use Rattle.pg_ast.specs.declared.tree.Instr.{Instr}
 use Rattle.pg_ast.specs.declared.tree.Desc.{Desc}
-use Rattle.pg_ast.specs.Levels.{greatest, block_levels, expr_levels}
+use Rattle.pg_ast.specs.Levels.{most_block_levels, most_expr_levels, greatest, block_levels, expr_levels}
 use Rattle.pg_ast.specs.Tokens.{instr_tokens, head_tokens, tokens_of, flat}
 use Rattle.pg_ast.specs.Reading.{pattern_when, pattern_of, past_pattern, instr_when, instr_of, past_causes, cons_read, with_instrs, read_expr, read_block, read_instr, read_instrs, read_desc, read_tokens}
 use Rattle.pg_ast.proofs.Exact.{read_at, then_read-holds, past_found-holds, past_sign-holds, past_word-holds, past_number-holds, past_name-holds}
@@ -41,7 +41,7 @@ pub record HasParts (n : Names) (p : PatternText) (body : List Stmt) (i : Instr)
   pub pattern : i.pattern ≡ p
   pub body_is : i.body ≡ body
 
-instr_when-holds : (n : Names) (p : PatternText) (body : List Stmt) (b c : Bool) (d : nat_le (1 + greatest (map block_levels body)) 16 ≡ b) (e : nat_le (greatest (map expr_levels body)) 32 ≡ c) →
+instr_when-holds : (n : Names) (p : PatternText) (body : List Stmt) (b c : Bool) (d : nat_le (1 + greatest (map block_levels body)) most_block_levels ≡ b) (e : nat_le (greatest (map expr_levels body)) most_expr_levels ≡ c) →
     IfSome (instr_when n p body b c d e) (HasParts n p body)
 instr_when-holds n p body true true d e = record { name = refl; pattern = refl; body_is = refl }
 instr_when-holds n p body true false d e = tt
@@ -51,7 +51,7 @@ instr_when-holds n p body false false d e = tt
 -- the instruction that was found has these parts
 pub instr_of-holds : (n : Names) (p : PatternText) (body : List Stmt) → IfSome (instr_of n p body) (HasParts n p body)
 unfolding instr_of
-instr_of-holds n p body = instr_when-holds n p body (nat_le (1 + greatest (map block_levels body)) 16) (nat_le (greatest (map expr_levels body)) 32) refl refl
+instr_of-holds n p body = instr_when-holds n p body (nat_le (1 + greatest (map block_levels body)) most_block_levels) (nat_le (greatest (map expr_levels body)) most_expr_levels) refl refl
 
 -- the tokens are those of the instruction, and then the rest
 abbrev pub IsInstrFront : List Tok → Instr × List Tok → Type 0
@@ -153,4 +153,4 @@ read_desc-exact n ts =
 -- reading answers with a description exactly for its tokens
 pub read_exactly : (ts : List Tok) (d : Desc) → (read_tokens ts ≡ Some d) ↔ (ts ≡ tokens_of d)
 unfolding read_tokens
-read_exactly ts d = (λ e. read_at (λ c. ts ≡ tokens_of c) (read_tokens ts) d (read_desc-exact (32 + length ts) ts) e, λ e. ap read_tokens e ∙ read_back d)
+read_exactly ts d = (λ e. read_at (λ c. ts ≡ tokens_of c) (read_tokens ts) d (read_desc-exact (most_expr_levels + length ts) ts) e, λ e. ap read_tokens e ∙ read_back d)

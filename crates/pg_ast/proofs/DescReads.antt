@@ -13,7 +13,7 @@ use Rattle.pg_ast.specs.declared.name.PatternText.{PatternText}
 use Rattle.pg_ast.specs.declared.tree.Stmt.{Stmt}
 use Rattle.pg_ast.specs.declared.tree.Instr.{Instr}
 use Rattle.pg_ast.specs.declared.tree.Desc.{Desc}
-use Rattle.pg_ast.specs.Levels.{IsShallow, greatest, block_levels, expr_levels}
+use Rattle.pg_ast.specs.Levels.{IsShallow, most_block_levels, most_expr_levels, greatest, block_levels, expr_levels}
 use Rattle.pg_ast.specs.Tokens.{stmt_tokens, instr_tokens, head_tokens, tokens_of, flat}
 use Rattle.pg_ast.specs.Reading.{pattern_when, pattern_of, instr_when, instr_of, read_expr, read_block, read_instr, read_instrs, read_desc, read_tokens}
 use Rattle.pg_ast.proofs.ExprReads.{name_of-bytes}
@@ -33,7 +33,7 @@ pattern_of-bytes p = pattern_when-known p (list_all is_pattern_byte p.bytes) ref
 pub IsShallow-prop : (body : List Stmt) → IsProp (IsShallow body)
 IsShallow-prop body x y = λ i. record { blocks = le_prop x.blocks y.blocks i; exprs = le_prop x.exprs y.exprs i }
 
-instr_when-known : (i : Instr) (b c : Bool) (p : nat_le (1 + greatest (map block_levels i.body)) 16 ≡ b) (q : nat_le (greatest (map expr_levels i.body)) 32 ≡ c) → instr_when i.name i.pattern i.body b c p q ≡ Some i
+instr_when-known : (i : Instr) (b c : Bool) (p : nat_le (1 + greatest (map block_levels i.body)) most_block_levels ≡ b) (q : nat_le (greatest (map expr_levels i.body)) most_expr_levels ≡ c) → instr_when i.name i.pattern i.body b c p q ≡ Some i
 instr_when-known i true true p q = ap (λ s. Some (record { name = i.name; pattern = i.pattern; body = i.body; shallow = s })) (IsShallow-prop i.body _ i.shallow)
 instr_when-known i false c p q = cc (le-leb _ _ i.shallow.blocks)
 instr_when-known i true false p q = cc (le-leb _ _ i.shallow.exprs)
@@ -41,7 +41,7 @@ instr_when-known i true false p q = cc (le-leb _ _ i.shallow.exprs)
 -- an instruction is found by its parts
 pub instr_of-parts : (i : Instr) → instr_of i.name i.pattern i.body ≡ Some i
 unfolding instr_of
-instr_of-parts i = instr_when-known i (nat_le (1 + greatest (map block_levels i.body)) 16) (nat_le (greatest (map expr_levels i.body)) 32) refl refl
+instr_of-parts i = instr_when-known i (nat_le (1 + greatest (map block_levels i.body)) most_block_levels) (nat_le (greatest (map expr_levels i.body)) most_expr_levels) refl refl
 
 pub instr_front : (i : Instr) (rest : List Tok) → instr_tokens i ++ rest ≡ Word (codes "instr") ∷ Word i.name.bytes ∷ Pattern i.pattern.bytes ∷ Sign OpenBrace ∷ (flat (map stmt_tokens i.body) ++ (Sign CloseBrace ∷ rest))
 unfolding instr_tokens
@@ -65,7 +65,7 @@ unfolding instr_tokens
 instr-length i = simp length-append (omega arith)
 
 -- the tokens of instructions, read with fuel for their expressions and their tokens, give them back
-pub read_instrs-tokens : (instrs : List Instr) (n m k : ℕ) → 32 ≤ n → length (flat (map instr_tokens instrs)) ≤ m → length (flat (map instr_tokens instrs)) + 1 ≤ k →
+pub read_instrs-tokens : (instrs : List Instr) (n m k : ℕ) → most_expr_levels ≤ n → length (flat (map instr_tokens instrs)) ≤ m → length (flat (map instr_tokens instrs)) + 1 ≤ k →
     read_instrs (read_block (read_expr n) m) k (flat (map instr_tokens instrs)) ≡ Some instrs
 unfolding read_instrs
 read_instrs-tokens [] n m zero deep fuel more = absurd (omega arith)
@@ -89,7 +89,7 @@ unfolding head_tokens
 head-some d = simp length-append (omega arith)
 
 -- the tokens of a description, read with fuel for the levels of its expressions and for its tokens, give it back
-pub read_desc-tokens : (d : Desc) (n : ℕ) → 32 ≤ n → length (tokens_of d) ≤ n → read_desc n (tokens_of d) ≡ Some d
+pub read_desc-tokens : (d : Desc) (n : ℕ) → most_expr_levels ≤ n → length (tokens_of d) ≤ n → read_desc n (tokens_of d) ≡ Some d
 unfolding tokens_of
 read_desc-tokens d n deep fuel =
     let total = length-append (head_tokens d) (flat (map instr_tokens d.instrs)) in
@@ -99,7 +99,7 @@ read_desc-tokens d n deep fuel =
 -- the tokens of a description give it back
 pub read_back : (d : Desc) → read_tokens (tokens_of d) ≡ Some d
 unfolding read_tokens
-read_back d = read_desc-tokens d (32 + length (tokens_of d)) (omega arith) (omega arith)
+read_back d = read_desc-tokens d (most_expr_levels + length (tokens_of d)) (omega arith) (omega arith)
 
 -- the tokens determine the description
 pub tokens_determine : (c d : Desc) → tokens_of c ≡ tokens_of d → c ≡ d

@@ -13,12 +13,12 @@ use Rattle.pg_ast.proofs.Exact.{same_word, read_at, cond-holds, then_read-holds,
 use Rattle.pg_ast.proofs.ExprFronts as fronts
 
 -- the tokens are those of the expression, and then the rest
-abbrev pub IsFront : List Tok → Expr × List Tok → Type 0
-IsFront ts p = ts ≡ expr_tokens p.0 ++ p.1
+abbrev pub IsExprFront : List Tok → Expr × List Tok → Type 0
+IsExprFront ts p = ts ≡ expr_tokens p.0 ++ p.1
 
 -- whatever this reader reads, these were its tokens
-abbrev pub IsExact : (List Tok → Option (Expr × List Tok)) → Type 0
-IsExact read = (ts : List Tok) → IfSome (read ts) (IsFront ts)
+abbrev pub IsExactExpr : (List Tok → Option (Expr × List Tok)) → Type 0
+IsExactExpr read = (ts : List Tok) → IfSome (read ts) (IsExprFront ts)
 
 op_of-holds : (s : Signs) → IfSome (op_of s) (λ op. sign_of op ≡ s)
 op_of-holds OpenBrace = tt
@@ -52,14 +52,14 @@ past_op-holds P (Sign s ∷ ts) go h =
     past_found-holds P (op_of s) ts go (λ op e. h op ts (ap (λ u. Sign u ∷ ts) (sym (read_at (λ o. sign_of o ≡ s) (op_of s) op (op_of-holds s) e))))
 
 -- one level, where r reads each expression inside
-module _ (r : List Tok → Option (Expr × List Tok)) (exact : IsExact r) where
+module _ (r : List Tok → Option (Expr × List Tok)) (exact : IsExactExpr r) where
   part : (us : List Tok) (e : Expr) (vs : List Tok) → r us ≡ Some (e, vs) → us ≡ expr_tokens e ++ vs
-  part us e vs q = read_at (IsFront us) (r us) (e, vs) (exact us) q
+  part us e vs q = read_at (IsExprFront us) (r us) (e, vs) (exact us) q
 
-  keyword-exact : (w : List ℕ) (ts : List Tok) → IfSome (read_keyword r w ts) (IsFront (Word w ∷ ts))
+  keyword-exact : (w : List ℕ) (ts : List Tok) → IfSome (read_keyword r w ts) (IsExprFront (Word w ∷ ts))
   unfolding read_keyword
   keyword-exact w ts =
-      let all : Expr × List Tok → Type 0 = IsFront (Word w ∷ ts) in
+      let all : Expr × List Tok → Type 0 = IsExprFront (Word w ∷ ts) in
       cond-holds all (bytes_eq w (codes "pc")) _ _ (λ same.
       cc (fronts.expr_front-pc ts, same_word w (codes "pc") same)) (λ other.
       cond-holds all (bytes_eq w (codes "mode")) _ _ (λ same.
@@ -114,15 +114,15 @@ module _ (r : List Tok → Option (Expr × List Tok)) (exact : IsExact r) where
       cc (fronts.expr_front-sel c x y t7, same_word w (codes "sel") same, p1, part t1 c t2 p2, p3, part t3 x t4 p4, p5, part t5 y t6 p6, p7))))))))) (λ other.
       tt))))))))))
 
-  name-exact : (w : List ℕ) (ts : List Tok) (found : Option Names) → name_of w ≡ found → IfSome (read_word r w ts found) (IsFront (Word w ∷ ts))
+  name-exact : (w : List ℕ) (ts : List Tok) (found : Option Names) → name_of w ≡ found → IfSome (read_word r w ts found) (IsExprFront (Word w ∷ ts))
   name-exact w ts None e = keyword-exact w ts
   name-exact w ts (Some n) e = cc (fronts.expr_front-name n ts, read_at (λ m. m.bytes ≡ w) (name_of w) n (name_of-holds w) e)
 
-  sign-exact : (s : Signs) (ts : List Tok) → IfSome (read_sign r s ts) (IsFront (Sign s ∷ ts))
+  sign-exact : (s : Signs) (ts : List Tok) → IfSome (read_sign r s ts) (IsExprFront (Sign s ∷ ts))
   sign-exact OpenBrace ts = tt
   sign-exact CloseBrace ts = tt
   sign-exact OpenParen ts =
-      let all : Expr × List Tok → Type 0 = IsFront (Sign OpenParen ∷ ts) in
+      let all : Expr × List Tok → Type 0 = IsExprFront (Sign OpenParen ∷ ts) in
       then_read-holds all (r ts) _ (λ x t1 p1.
       past_op-holds all t1 _ (λ op t2 p2.
       then_read-holds all (r t2) _ (λ y t3 p3.
@@ -137,7 +137,7 @@ module _ (r : List Tok → Option (Expr × List Tok)) (exact : IsExact r) where
   sign-exact Equals ts = tt
   sign-exact DoubleEquals ts = tt
   sign-exact Tilde ts =
-      let all : Expr × List Tok → Type 0 = IsFront (Sign Tilde ∷ ts) in
+      let all : Expr × List Tok → Type 0 = IsExprFront (Sign Tilde ∷ ts) in
       then_read-holds all (r ts) _ (λ e t1 p1.
       cc (fronts.expr_front-not e t1, part ts e t1 p1))
   sign-exact Plus ts = tt
@@ -150,12 +150,12 @@ module _ (r : List Tok → Option (Expr × List Tok)) (exact : IsExact r) where
   sign-exact DoubleLess ts = tt
   sign-exact DoubleGreater ts = tt
 
-  level-exact : IsExact (read_level r)
+  level-exact : IsExactExpr (read_level r)
   unfolding read_level
   level-exact [] = tt
   level-exact (Word w ∷ ts) = name-exact w ts (name_of w) refl
   level-exact (Number v ∷ ts) =
-      let all : Expr × List Tok → Type 0 = IsFront (Number v ∷ ts) in
+      let all : Expr × List Tok → Type 0 = IsExprFront (Number v ∷ ts) in
       past_sign-holds all Colon ts _ (λ t1 p1.
       past_number-holds all t1 _ (λ w t2 p2.
       cc (fronts.expr_front-lit v w t2, p1, p2)))
@@ -163,7 +163,7 @@ module _ (r : List Tok → Option (Expr × List Tok)) (exact : IsExact r) where
   level-exact (Sign s ∷ ts) = sign-exact s ts
 
 -- what was read as an expression are its tokens
-pub read_expr-exact : (n : ℕ) → IsExact (read_expr n)
+pub read_expr-exact : (n : ℕ) → IsExactExpr (read_expr n)
 unfolding read_expr
 read_expr-exact zero ts = tt
 read_expr-exact (suc n) ts = level-exact (read_expr n) (read_expr-exact n) ts

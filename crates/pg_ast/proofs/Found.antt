@@ -7,7 +7,7 @@ use Rattle.pg_ast.specs.declared.name.Name.{Name as Names}
 use Rattle.pg_ast.specs.declared.name.PatternText.{PatternText}
 use Rattle.pg_ast.specs.declared.tree.Stmt.{Stmt}
 use Rattle.pg_ast.specs.declared.tree.Instr.{Instr}
-use Rattle.pg_ast.specs.Levels.{IsShallow, greatest, block_levels, expr_levels}
+use Rattle.pg_ast.specs.Levels.{IsShallow, most_block_levels, most_expr_levels, greatest, block_levels, expr_levels}
 use Rattle.pg_ast.specs.Reading.{name_when, name_of, pattern_when, pattern_of, instr_when, instr_of}
 use Rattle.pg_ast.proofs.ExprReads.{name_of-bytes}
 use Rattle.pg_ast.proofs.DescReads.{pattern_of-bytes, instr_of-parts}
@@ -38,7 +38,7 @@ pub pattern_of-found : (r : Option PatternText) (w : List ℕ) → (IsSome r ↔
 pattern_of-found (Some p) w some bytes = cc (pattern_of-bytes p)
 pattern_of-found None w some bytes = sym (pattern_of-none w (λ h. let no = some.1 h in cc))
 
-instr_when-none : (n : Names) (p : PatternText) (body : List Stmt) (b c : Bool) (d : nat_le (1 + greatest (map block_levels body)) 16 ≡ b) (e : nat_le (greatest (map expr_levels body)) 32 ≡ c) →
+instr_when-none : (n : Names) (p : PatternText) (body : List Stmt) (b c : Bool) (d : nat_le (1 + greatest (map block_levels body)) most_block_levels ≡ b) (e : nat_le (greatest (map expr_levels body)) most_expr_levels ≡ c) →
     ¬ IsShallow body → instr_when n p body b c d e ≡ None
 instr_when-none n p body true true d e h = absurd (h (record { blocks = leb-true _ _ d; exprs = leb-true _ _ e }))
 instr_when-none n p body true false d e h = refl
@@ -47,7 +47,7 @@ instr_when-none n p body false false d e h = refl
 
 pub instr_of-none : (n : Names) (p : PatternText) (body : List Stmt) → ¬ IsShallow body → instr_of n p body ≡ None
 unfolding instr_of
-instr_of-none n p body h = instr_when-none n p body (nat_le (1 + greatest (map block_levels body)) 16) (nat_le (greatest (map expr_levels body)) 32) refl refl h
+instr_of-none n p body h = instr_when-none n p body (nat_le (1 + greatest (map block_levels body)) most_block_levels) (nat_le (greatest (map expr_levels body)) most_expr_levels) refl refl h
 
 -- what Instr::try_new ensures says that it answers instr_of
 pub instr_of-found : (r : Option Instr) (n : Names) (p : PatternText) (body : List Stmt) → (IsSome r ↔ IsShallow body) →

@@ -10,20 +10,20 @@ use Rattle.pg_ast.specs.ExprTokens.{expr_tokens}
 use Rattle.pg_ast.specs.Tokens.{stmt_tokens, flat}
 use Rattle.pg_ast.specs.Reading.{past_close, past_else, sign_number, read_else, read_stmt_word, read_stmt, read_first, read_block}
 use Rattle.pg_ast.proofs.Exact.{same_word, same_sign, read_at, cond-holds, then_read-holds, past_sign-holds, past_name-holds}
-use Rattle.pg_ast.proofs.ExprExact.{IsFront as IsExprFront, IsExact as IsExactExpr}
+use Rattle.pg_ast.proofs.ExprExact.{IsExprFront, IsExactExpr}
 use Rattle.pg_ast.proofs.StmtFronts as fronts
 
 -- the tokens are those of the statement, and then the rest
-abbrev pub IsFront : List Tok → Stmt × List Tok → Type 0
-IsFront ts p = ts ≡ stmt_tokens p.0 ++ p.1
+abbrev pub IsStmtFront : List Tok → Stmt × List Tok → Type 0
+IsStmtFront ts p = ts ≡ stmt_tokens p.0 ++ p.1
 
 -- the tokens are those of the statements, a closing brace, and then the rest
 abbrev pub IsBlockFront : List Tok → List Stmt × List Tok → Type 0
 IsBlockFront ts p = ts ≡ flat (map stmt_tokens p.0) ++ (Sign CloseBrace ∷ p.1)
 
 -- whatever this reader reads, these were its tokens
-abbrev pub IsExact : (List Tok → Option (Stmt × List Tok)) → Type 0
-IsExact read = (ts : List Tok) → IfSome (read ts) (IsFront ts)
+abbrev pub IsExactStmt : (List Tok → Option (Stmt × List Tok)) → Type 0
+IsExactStmt read = (ts : List Tok) → IfSome (read ts) (IsStmtFront ts)
 
 -- the same of a reader of blocks
 abbrev pub IsExactBlock : (List Tok → Option (List Stmt × List Tok)) → Type 0
@@ -54,17 +54,17 @@ module _ (x : List Tok → Option (Expr × List Tok)) (b : List Tok → Option (
 
   else-exact : (all : List Tok) (c : Expr) (held : List Stmt) (ts : List Tok) (found : Option (List Tok)) → past_else ts ≡ found →
       all ≡ Word (codes "if") ∷ (expr_tokens c ++ (Sign OpenBrace ∷ (flat (map stmt_tokens held) ++ (Sign CloseBrace ∷ ts)))) →
-      IfSome (read_else b c held ts found) (IsFront all)
+      IfSome (read_else b c held ts found) (IsStmtFront all)
   else-exact all c held ts None e before = cc (fronts.stmt_front-if c held ts)
   else-exact all c held ts (Some us) e before =
-      past_sign-holds (IsFront all) OpenBrace us _ (λ t1 p1.
-      then_read-holds (IsFront all) (b t1) _ (λ other t2 p2.
+      past_sign-holds (IsStmtFront all) OpenBrace us _ (λ t1 p1.
+      then_read-holds (IsStmtFront all) (b t1) _ (λ other t2 p2.
       cc (fronts.stmt_front-if_else c held other t2, read_at (λ rest. ts ≡ Word (codes "else") ∷ rest) (past_else ts) us (past_else-holds ts) e, p1, block-part t1 other t2 p2)))
 
-  word-exact : (w : List ℕ) (ts : List Tok) → IfSome (read_stmt_word x b w ts) (IsFront (Word w ∷ ts))
+  word-exact : (w : List ℕ) (ts : List Tok) → IfSome (read_stmt_word x b w ts) (IsStmtFront (Word w ∷ ts))
   unfolding read_stmt_word
   word-exact w ts =
-      let all : Stmt × List Tok → Type 0 = IsFront (Word w ∷ ts) in
+      let all : Stmt × List Tok → Type 0 = IsStmtFront (Word w ∷ ts) in
       cond-holds all (bytes_eq w (codes "let")) _ _ (λ same.
       past_name-holds all ts _ (λ n t1 p1.
       past_sign-holds all Equals t1 _ (λ t2 p2.
@@ -110,7 +110,7 @@ module _ (x : List Tok → Option (Expr × List Tok)) (b : List Tok → Option (
       tt))))))))
 
   -- what was read as a statement are its tokens
-  pub stmt-exact : IsExact (read_stmt x b)
+  pub stmt-exact : IsExactStmt (read_stmt x b)
   unfolding read_stmt
   stmt-exact [] = tt
   stmt-exact (Word w ∷ ts) = word-exact w ts
@@ -124,7 +124,7 @@ module _ (x : List Tok → Option (Expr × List Tok)) (b : List Tok → Option (
   first-exact ts None e =
       then_read-holds (IsBlockFront ts) (read_stmt x b ts) _ (λ s t1 p1.
       then_read-holds (IsBlockFront ts) (b t1) _ (λ more t2 p2.
-      cc (append_assoc (stmt_tokens s) (flat (map stmt_tokens more)) (Sign CloseBrace ∷ t2), read_at (IsFront ts) (read_stmt x b ts) (s, t1) (stmt-exact ts) p1, block-part t1 more t2 p2)))
+      cc (append_assoc (stmt_tokens s) (flat (map stmt_tokens more)) (Sign CloseBrace ∷ t2), read_at (IsStmtFront ts) (read_stmt x b ts) (s, t1) (stmt-exact ts) p1, block-part t1 more t2 p2)))
 
 -- what was read as a block are its tokens and its closing brace
 pub read_block-exact : (x : List Tok → Option (Expr × List Tok)) → IsExactExpr x → (k : ℕ) → IsExactBlock (read_block x k)
@@ -133,5 +133,5 @@ read_block-exact x exact zero ts = tt
 read_block-exact x exact (suc k) ts = first-exact x (read_block x k) exact (read_block-exact x exact k) ts (past_close ts) refl
 
 -- what was read as a statement are its tokens
-pub read_stmt-exact : (x : List Tok → Option (Expr × List Tok)) → IsExactExpr x → (k : ℕ) → IsExact (read_stmt x (read_block x k))
+pub read_stmt-exact : (x : List Tok → Option (Expr × List Tok)) → IsExactExpr x → (k : ℕ) → IsExactStmt (read_stmt x (read_block x k))
 read_stmt-exact x exact k = stmt-exact x (read_block x k) exact (read_block-exact x exact k)

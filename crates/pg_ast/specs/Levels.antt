@@ -65,7 +65,14 @@ block_level_step (If c held other) = 1 + max (greatest held) (greatest_of other)
 unfoldable pub block_levels : Stmt → ℕ
 block_levels = fold-Stmt ℕ block_level_step
 
--- the limits that a body keeps: its own block is level 1 of at most 16, an expression has at most 32 levels
+-- the most levels of an expression, itself being the first, and of blocks, a body itself being the first
+abbrev pub most_expr_levels : ℕ
+most_expr_levels = 32
+
+abbrev pub most_block_levels : ℕ
+most_block_levels = 16
+
+-- the limits that a body keeps
 pub record IsShallow (body : List Stmt) : Type 0 where
-  pub blocks : 1 + greatest (map block_levels body) ≤ 16
-  pub exprs : greatest (map expr_levels body) ≤ 32
+  pub blocks : 1 + greatest (map block_levels body) ≤ most_block_levels
+  pub exprs : greatest (map expr_levels body) ≤ most_expr_levels

@@ -20,7 +20,7 @@ use Rattle.pg_ast.specs.declared.tree.Stmt.{Stmt}
 use Rattle.pg_ast.specs.declared.tree.Stmt.TheVariants.{Let, Store, Pc as ToPc, Mode as ToMode, Rel as ToRel, Bound as ToBound, Trap, If}
 use Rattle.pg_ast.specs.declared.tree.Instr.{Instr}
 use Rattle.pg_ast.specs.declared.tree.Desc.{Desc}
-use Rattle.pg_ast.specs.Levels.{greatest, block_levels, expr_levels}
+use Rattle.pg_ast.specs.Levels.{most_block_levels, most_expr_levels, greatest, block_levels, expr_levels}
 
 -- what was read, and then the rest
 abbrev pub then_read : {A B : Type 0} → Option (A × List Tok) → (A → List Tok → Option B) → Option B
@@ -218,14 +218,14 @@ unfoldable pub read_block : (List Tok → Option (Expr × List Tok)) → ℕ →
 read_block expr zero ts = None
 read_block expr (suc k) ts = read_first expr (read_block expr k) ts (past_close ts)
 
-abbrev pub instr_when : (n : Names) (p : PatternText) (body : List Stmt) (b c : Bool) → nat_le (1 + greatest (map block_levels body)) 16 ≡ b → nat_le (greatest (map expr_levels body)) 32 ≡ c → Option Instr
+abbrev pub instr_when : (n : Names) (p : PatternText) (body : List Stmt) (b c : Bool) → nat_le (1 + greatest (map block_levels body)) most_block_levels ≡ b → nat_le (greatest (map expr_levels body)) most_expr_levels ≡ c → Option Instr
 instr_when n p body true true blocks exprs =
     Some (record { name = n; pattern = p; body = body; shallow = record { blocks = leb-true _ _ blocks; exprs = leb-true _ _ exprs } })
 instr_when n p body _ _ blocks exprs = None
 
 -- the instruction of these parts, where its body keeps the limits
 unfoldable pub instr_of : Names → PatternText → List Stmt → Option Instr
-instr_of n p body = instr_when n p body (nat_le (1 + greatest (map block_levels body)) 16) (nat_le (greatest (map expr_levels body)) 32) refl refl
+instr_of n p body = instr_when n p body (nat_le (1 + greatest (map block_levels body)) most_block_levels) (nat_le (greatest (map expr_levels body)) most_expr_levels) refl refl
 
 -- an instruction
 unfoldable pub read_instr : (List Tok → Option (List Stmt × List Tok)) → List Tok → Option (Instr × List Tok)
@@ -271,4 +271,4 @@ read_desc n ts =
 
 -- a description: a list of tokens is fuel enough for itself
 unfoldable pub read_tokens : List Tok → Option Desc
-read_tokens ts = read_desc (32 + length ts) ts
+read_tokens ts = read_desc (most_expr_levels + length ts) ts

@@ -17,8 +17,6 @@
 mod laws;
 mod limits;
 mod name;
-#[cfg(test)]
-mod tests;
 mod tree;
 
 pub use laws::{reading_is_exact, tokens_determine_tree};

@@ -9,7 +9,7 @@ use Rattle.std.proofs.lemmas.List.Sums.{fold-append}
 use Rattle.pg_image.specs.declared.fault.ImageFault.{ImageFault}
 use Rattle.pg_image.specs.declared.fault.ImageFault.TheVariants.{Long, Token, Grammar, Address, Overlap, Memory}
 use Rattle.std.proofs.Math.Bool.{or-true, or-false}
-use Rattle.pg_image.specs.Images.{Row, most_bytes, lines_of, foreign_place, rows_from, rows_due, then_due, image_due, IsDue, end_of, is_given, any_given, fault_of, first_fault, put, cells_of, cells_due}
+use Rattle.pg_image.specs.Images.{Row, most_image_bytes, lines_of, foreign_place, rows_from, rows_due, then_due, image_due, IsImageDue, end_of, is_given, any_given, fault_of, first_fault, put, cells_of, cells_due}
 use Rattle.pg_image.specs.Placing.{clash_of, place_rows}
 
 -- the flags say which cells these rows give
@@ -167,19 +167,19 @@ then_is size (Ok rows) = place_is size rows
 then_is size (Err fault) = refl
 
 -- what is due of a text that is not too long and holds no foreign byte
-pub due_is : (w size : ℕ) (text : List ℕ) (cells : List ℕ) (given : List Bool) (answer : Result (List ℕ) ImageFault) → length text ≤ most_bytes
+pub due_is : (w size : ℕ) (text : List ℕ) (cells : List ℕ) (given : List Bool) (answer : Result (List ℕ) ImageFault) → length text ≤ most_image_bytes
     → None ≡ foreign_place 0 (lines_of text) → cells ≡ replicate size 0 → given ≡ replicate size false
     → then_due (rows_from w 1 (lines_of text)) (place_rows cells given) ≡ answer → image_due w size text ≡ answer
 unfolding image_due
 due_is w size text cells given answer short none zeros flags is =
-    ap (λ b. cond b (Err Long) (then_due (rows_due w text) (cells_due size))) (le-ltb most_bytes (length text) short)
+    ap (λ b. cond b (Err Long) (then_due (rows_due w text) (cells_due size))) (le-ltb most_image_bytes (length text) short)
     ∙ ap (λ found. then_due (elim found [ Some place ↦ Err (Token place) | None ↦ rows_from w 1 (lines_of text) ]) (cells_due size)) (sym none)
     ∙ sym (then_is size (rows_from w 1 (lines_of text)))
     ∙ ap (λ cs. then_due (rows_from w 1 (lines_of text)) (place_rows cs (replicate size false))) (sym zeros)
     ∙ ap (λ gs. then_due (rows_from w 1 (lines_of text)) (place_rows cells gs)) (sym flags)
     ∙ is
 
-pub due_fault : (fault : ImageFault) (due : Result (List ℕ) ImageFault) → due ≡ Err fault → IsDue {X = List ℕ} (Err fault) due
+pub due_fault : (fault : ImageFault) (due : Result (List ℕ) ImageFault) → due ≡ Err fault → IsImageDue {X = List ℕ} (Err fault) due
 due_fault Memory due is = tt
 due_fault Long due is = is
 due_fault (Token place) due is = is

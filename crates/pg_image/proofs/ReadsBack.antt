@@ -16,7 +16,7 @@ use Rattle.pg_text.proofs.Hex.{length-hex_text, digits_value-hex_text, word_belo
 use Rattle.pg_image.specs.declared.fault.ImageFault.TheVariants.{Token, Grammar}
 use Rattle.pg_image.proofs.Cuts.{kept, keep_some}
 use Rattle.pg_image.specs.Lines.{words_text, cells_text}
-use Rattle.pg_image.specs.Images.{Row, lines_of, content, is_gap, may_stand, foreign_place, parts_of, address_digits, is_address, is_word, is_row, row_of, with_line, in_front, rows_from, rows_due}
+use Rattle.pg_image.specs.Images.{most_address_digits, Row, lines_of, content, is_gap, may_stand, foreign_place, parts_of, address_digits, is_address, is_word, is_row, row_of, with_line, in_front, rows_from, rows_due}
 
 -- ---- bytes
 
@@ -119,13 +119,13 @@ address_reads first small =
     let e : address_digits (d ++ 58 ∷ []) ≡ d = address_digits-address first in
     let end : length d ≡ length (d ++ 58 ∷ []) - 1 = omega (arith, length-append d (58 ∷ [])) in
     let colon : slice_index (d ++ 58 ∷ []) (length (d ++ 58 ∷ []) - 1) ≡ 58 = get_or_push d 58 0 (length (d ++ 58 ∷ []) - 1) end in
-    and_from (((slice_index (d ++ 58 ∷ []) (length (d ++ 58 ∷ []) - 1) == 58) && nat_le 1 (length (address_digits (d ++ 58 ∷ [])))) && nat_le (length (address_digits (d ++ 58 ∷ []))) 7)
+    and_from (((slice_index (d ++ 58 ∷ []) (length (d ++ 58 ∷ []) - 1) == 58) && nat_le 1 (length (address_digits (d ++ 58 ∷ [])))) && nat_le (length (address_digits (d ++ 58 ∷ []))) most_address_digits)
     (list_all is_ascii_digit (address_digits (d ++ 58 ∷ [])))
-    (and_from ((slice_index (d ++ 58 ∷ []) (length (d ++ 58 ∷ []) - 1) == 58) && nat_le 1 (length (address_digits (d ++ 58 ∷ [])))) (nat_le (length (address_digits (d ++ 58 ∷ []))) 7)
+    (and_from ((slice_index (d ++ 58 ∷ []) (length (d ++ 58 ∷ []) - 1) == 58) && nat_le 1 (length (address_digits (d ++ 58 ∷ [])))) (nat_le (length (address_digits (d ++ 58 ∷ []))) most_address_digits)
     (and_from (slice_index (d ++ 58 ∷ []) (length (d ++ 58 ∷ []) - 1) == 58) (nat_le 1 (length (address_digits (d ++ 58 ∷ []))))
     (eq-eqb (slice_index (d ++ 58 ∷ []) (length (d ++ 58 ∷ []) - 1)) 58 colon)
     (ap (λ ds. nat_le 1 (length ds)) e ∙ le-leb 1 (length d) (decimal_nonempty first fits)))
-    (ap (λ ds. nat_le (length ds) 7) e ∙ le-leb (length d) 7 (length-decimal-le 7 first (lit< tt) small fits)))
+    (ap (λ ds. nat_le (length ds) most_address_digits) e ∙ le-leb (length d) most_address_digits (length-decimal-le 7 first (lit< tt) small fits)))
     (ap (list_all is_ascii_digit) e ∙ decimal_is_digits first fits)
 
 address_no_gaps : (first : ℕ) → first < 2 ^ 64 → list_all (λ c. not (is_gap c)) (address first) ≡ true

@@ -9,8 +9,8 @@ use Rattle.pg_image.specs.declared.fault.ImageFault.TheVariants.{Long, Token, Gr
 -- ---- the text
 
 -- the most bytes that an image has
-abbrev pub most_bytes : ℕ
-most_bytes = 33554432
+abbrev pub most_image_bytes : ℕ
+most_image_bytes = 33554432
 
 -- the lines of a text: it is cut at each LF
 unfoldable pub lines_of : List ℕ → List (List ℕ)
@@ -53,11 +53,15 @@ parts_of line = filter (λ part. nat_lt 0 (length part)) (slice_split is_gap lin
 abbrev pub address_digits : List ℕ → List ℕ
 address_digits part = take (length part - 1) part
 
--- an address: 1 to 7 decimal digits, and a colon behind them
+-- the most digits of an address
+abbrev pub most_address_digits : ℕ
+most_address_digits = 7
+
+-- an address: at least one decimal digit, not too many, and a colon behind them
 unfoldable pub is_address : List ℕ → Bool
 is_address part =
     (slice_index part (length part - 1) == 58)
-    && nat_le 1 (length (address_digits part)) && nat_le (length (address_digits part)) 7
+    && nat_le 1 (length (address_digits part)) && nat_le (length (address_digits part)) most_address_digits
     && list_all is_ascii_digit (address_digits part)
 
 -- a word of w bits: w / 4 hexadecimal digits
@@ -148,14 +152,14 @@ then_due (Err fault) go = Err fault
 
 -- the image of a text, for words of w bits and so many cells: its cells, or its first fault
 unfoldable pub image_due : ℕ → ℕ → List ℕ → Result (List ℕ) ImageFault
-image_due w size text = if nat_lt most_bytes (length text) then Err Long else then_due (rows_due w text) (cells_due size)
+image_due w size text = if nat_lt most_image_bytes (length text) then Err Long else then_due (rows_due w text) (cells_due size)
 
 -- what a call answers is what is due, unless memory ran out
-abbrev pub IsDue : {X : Type 0} → Result X ImageFault → Result X ImageFault → Type 0
-IsDue (Ok x) due = due ≡ Ok x
-IsDue (Err Memory) due = Unit {0}
-IsDue (Err Long) due = due ≡ Err Long
-IsDue (Err (Token place)) due = due ≡ Err (Token place)
-IsDue (Err (Grammar line)) due = due ≡ Err (Grammar line)
-IsDue (Err (Address line)) due = due ≡ Err (Address line)
-IsDue (Err (Overlap line)) due = due ≡ Err (Overlap line)
+abbrev pub IsImageDue : {X : Type 0} → Result X ImageFault → Result X ImageFault → Type 0
+IsImageDue (Ok x) due = due ≡ Ok x
+IsImageDue (Err Memory) due = Unit {0}
+IsImageDue (Err Long) due = due ≡ Err Long
+IsImageDue (Err (Token place)) due = due ≡ Err (Token place)
+IsImageDue (Err (Grammar line)) due = due ≡ Err (Grammar line)
+IsImageDue (Err (Address line)) due = due ≡ Err (Address line)
+IsImageDue (Err (Overlap line)) due = due ≡ Err (Overlap line)

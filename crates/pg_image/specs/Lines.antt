@@ -1,5 +1,5 @@
 -- The lines of a state text, and the text of a state. Every line ends with LF; numbers are decimal.
-use Rattle.std.specs.Prelude.{ℕ, zero, suc, ◌+◌, ◌*◌, ◌/◌, ◌==◌, if◌then◌else◌, List, [], ◌∷◌, ◌++◌, length, take, drop, codes}
+use Rattle.std.specs.Prelude.{ℕ, zero, suc, ◌+◌, ◌-◌, ◌*◌, ◌/◌, ◌==◌, if◌then◌else◌, List, [], ◌∷◌, ◌++◌, length, take, drop, codes}
 use Rattle.std.specs.Fmt.{decimal}
 use Rattle.std.specs.List.{list_all}
 use Rattle.pg_word.specs.declared.psw.Psw.{Psw}
@@ -32,18 +32,26 @@ cells_text w first words = decimal first ++ 58 ∷ words_text w words ++ 10 ∷ 
 unfoldable pub cells_shown : ℕ → ℕ → List ℕ → List ℕ
 cells_shown w first words = (if list_all (λ word. word == 0) words then [] else cells_text w first words)
 
--- the words of line k: eight cells, or what is left of them
-abbrev pub line_words : ℕ → List ℕ → List ℕ
-line_words k cells = take 8 (drop (8 * k) cells)
+-- the most bytes of a line, with its LF
+abbrev pub most_line_bytes : ℕ
+most_line_bytes = 160
 
--- the first lines of cells, eight cells a line
+-- how many cells a line shows
+abbrev pub line_cells : ℕ
+line_cells = 8
+
+-- the words of line k: so many cells, or what is left of them
+abbrev pub line_words : ℕ → List ℕ → List ℕ
+line_words k cells = take line_cells (drop (line_cells * k) cells)
+
+-- the first lines of cells
 unfoldable pub lines_before : ℕ → ℕ → List ℕ → List ℕ
 lines_before w zero cells = []
-lines_before w (suc k) cells = lines_before w k cells ++ cells_shown w (8 * k) (line_words k cells)
+lines_before w (suc k) cells = lines_before w k cells ++ cells_shown w (line_cells * k) (line_words k cells)
 
 -- how many lines so many cells have
 abbrev pub line_count : ℕ → ℕ
-line_count n = (n + 7) / 8
+line_count n = (n + (line_cells - 1)) / line_cells
 
 -- the text of a state of words of w bits: its size, its program status word, and its cells that are not zero
 unfoldable pub state_text : ℕ → List ℕ → Psw → List ℕ

@@ -3,29 +3,19 @@
 //! A text is cut into lines at each LF, and a line without its comment into parts at spaces, tabs and CRs. Each function
 //! takes one piece off the front and hands out what is left, so that a whole text is read without memory of its own.
 
-ghost use Rattle.std.specs.Prelude.{◌≡◌, ◌+◌, ◌<◌, ◌≤◌, [], ◌∷◌, length, not, ◌==◌, MatchOption, IfSome};
+ghost use Rattle.std.specs.Prelude.{◌≡◌, ◌+◌, ◌<◌, ◌≤◌, [], ◌∷◌, length, not, MatchOption, IfSome};
 ghost use Rattle.std.specs.Option.{option_copied};
 ghost use Rattle.std.specs.List.{prefix_len};
 ghost use Rattle.pg_image.specs.Images.{content, is_gap, lines_of, parts_of};
 ghost use Rattle.pg_image.specs.Left.{lines_left, bytes_left};
+
+use pg_text::len_before;
 
 /// What separates the parts of a line: space, tab or CR.
 pub fn is_gap(byte: u8) -> bool
     ensures { result ≡ is_gap byte }
 {
     byte == b' ' || byte == b'\t' || byte == b'\r'
-}
-
-/// How many bytes stand before the first one that is this byte, or in all.
-fn len_before(text: &[u8], byte: u8) -> usize
-    ensures len { result ≡ prefix_len (λ c. not (c == byte)) text.now }
-    ensures within { result ≤ length text.now }
-{
-    let mut n = 0;
-    while n < text.len() && text[n] != byte {
-        n += 1;
-    }
-    n
 }
 
 /// How many bytes at the front separate parts.
@@ -59,20 +49,12 @@ pub fn content(line: &[u8]) -> &[u8]
     &line[..len_before(line, b'#')]
 }
 
-/// How many bytes the first line of a text has.
-fn line_len(text: &[u8]) -> usize
-    ensures len { result ≡ prefix_len (λ c. not (c == 10)) text.now }
-    ensures within { result ≤ length text.now }
-{
-    len_before(text, b'\n')
-}
-
 /// The first line of a text, and the text behind its LF, if it ends with one.
 pub fn split_line(text: &[u8]) -> (&[u8], Option<&[u8]>)
     ensures lines { lines_of text.now ≡ result.0.now ∷ lines_left (option_copied result.1) }
     ensures len { length result.0.now + bytes_left (option_copied result.1) ≡ length text.now }
 {
-    let len = line_len(text);
+    let len = len_before(text, b'\n');
     if len < text.len() {
         (&text[..len], Some(&text[len + 1..]))
     } else {

@@ -12,8 +12,8 @@ use thiserror::Error;
 /// Why the bytes of an image gave no image: its first fault, or want of memory. Lines are numbered from 1.
 #[derive(Debug, PartialEq, Eq, Drop, Error)]
 pub enum ImageFault {
-    /// There are more than 33,554,432 bytes.
-    #[error("more than 33554432 bytes")]
+    /// There are more than `IMAGE_BYTES` bytes.
+    #[error("too many bytes")]
     Long,
     /// The byte at this place, counted from 0, is the first that may not stand in an image. It is outside comments.
     #[error("bad byte at {0}")]

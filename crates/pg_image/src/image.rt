@@ -7,7 +7,7 @@
 
 ghost use Rattle.std.specs.Prelude.{◌≡◌, ◌<◌, ◌≤◌, ◌^◌, length, vec_len, replicate, false, All, IfOk};
 ghost use Rattle.pg_word.specs.Shape.{IsShape};
-ghost use Rattle.pg_image.specs.Images.{IsDue, image_due};
+ghost use Rattle.pg_image.specs.Images.{IsImageDue, image_due};
 
 use crate::fault::ImageFault;
 use crate::placing::place_all;
@@ -20,7 +20,7 @@ use std::alloc::{AllocError, Global};
 pub type Image = Items<u64>;
 
 /// The most bytes that an image's text may have: with one more it is `Long`.
-const MOST_BYTES: usize = 33_554_432;
+pub const IMAGE_BYTES: usize = 33_554_432;
 
 /// So many cells, all zero.
 fn zeros(alloc: Global, size: usize) -> Result<Vec<u64>, AllocError>
@@ -53,13 +53,13 @@ pub fn read_image(
     requires shape { IsShape shape.now }
     requires least { 2 ≤ size }
     requires most { size ≤ shape.now.q }
-    ensures due { IsDue result (image_due shape.now.w size bytes.now) }
+    ensures due { IsImageDue result (image_due shape.now.w size bytes.now) }
 
     // As many words as the size, each of which fits.
     ensures len { IfOk result (λ cells. length cells ≡ size) }
     ensures fit { IfOk result (λ cells. All (λ cell. cell < 2 ^ shape.now.w) cells) }
 {
-    if bytes.len() > MOST_BYTES {
+    if bytes.len() > IMAGE_BYTES {
         return Err(ImageFault::Long);
     }
     if let Some(place) = foreign_place(bytes) {

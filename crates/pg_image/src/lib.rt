@@ -4,10 +4,10 @@
 //!
 //! # What the bytes of an image mean
 //!
-//! - There are at most 33,554,432 bytes. `#` begins a comment, up to, and without, the next LF; it may hold any byte.
+//! - There are at most `IMAGE_BYTES` bytes, 33,554,432. `#` begins a comment, up to, and without, the next LF; it may hold any byte.
 //!   Outside comments only hexadecimal digits of either case, `:`, space, tab, CR and LF may stand.
 //! - The text is cut into lines at LF, numbered from 1. Space, tab and CR separate the parts of a line. A line without parts
-//!   says nothing. Any other is a row: an address, which is 1 to 7 decimal digits with a colon right behind them, and one
+//!   says nothing. Any other is a row: an address, which is 1 to `ADDRESS_DIGITS` (7) decimal digits with a colon right behind them, and one
 //!   word or more, each of exactly as many hexadecimal digits as the shape's words have.
 //! - The words of a row go to cells one after another, from the address on. They stay within the size, and no cell is given
 //!   twice. Cells that no row gives are zero.
@@ -37,8 +37,6 @@ pub mod rows;
 mod scan;
 
 pub use fault::ImageFault;
-pub use image::{Image, read_image};
-pub use lines::{Line, cell_line, psw_line, size_line};
-
-#[cfg(test)]
-mod tests;
+pub use image::{IMAGE_BYTES, Image, read_image};
+pub use lines::{LINE_BYTES, LINE_CELLS, Line, cell_line, psw_line, push, size_line};
+pub use row::ADDRESS_DIGITS;

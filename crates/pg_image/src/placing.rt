@@ -6,7 +6,7 @@
 ghost use Rattle.std.specs.Prelude.{◌≡◌, ◌+◌, ◌%◌, ◌^◌, ◌<◌, ◌≤◌, nat_lt, length, true, replicate, All, None};
 ghost use Rattle.std.specs.List.{list_all, list_any};
 ghost use Rattle.std.specs.Result.{result_err};
-ghost use Rattle.pg_image.specs.Images.{most_bytes, content, parts_of, is_word, lines_of, rows_from, put};
+ghost use Rattle.pg_image.specs.Images.{most_image_bytes, content, parts_of, is_word, lines_of, rows_from, put};
 ghost use Rattle.pg_image.specs.Forms.{words_in, row_on};
 ghost use Rattle.pg_image.specs.Placing.{clash_of, RowTold, LineTold, AllTold};
 
@@ -123,7 +123,7 @@ fn place_line(
 pub fn place_all(w: u32, bytes: &[u8], cells: &mut [u64], given: &mut [bool]) -> Option<ImageFault>
     requires bytes { w % 8 ≡ 0 }
     requires most { w ≤ 64 }
-    requires len { length bytes.now ≤ most_bytes }
+    requires len { length bytes.now ≤ most_image_bytes }
     requires formed { result_err (rows_from w 1 (lines_of bytes.now)) ≡ None }
     requires same { length cells.old ≡ length given.old }
     requires fit { All (λ cell. cell < 2 ^ w) cells.old }

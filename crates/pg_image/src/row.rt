@@ -2,16 +2,17 @@
 //!
 //! A line has no part and says nothing, or its parts are an address and words and make a row, or it is of another form.
 //! `scan` asks for the form alone, and `placing` puts the row. A row is not copied out: its words stay text, of which it is
-//! known that each part is a word, and how many there are, so that they can be put as they are read. No memory is taken.
+//! known that each part is a word, and how many there are, so that they can be put as they are read. What digits are worth
+//! is `pg_text`'s to know. No memory is taken.
 
-ghost use Rattle.std.specs.Prelude.{◌≡◌, ◌%◌, ◌^◌, ◌<◌, ◌≤◌, length, All, IsTrue, if◌then◌else◌, Some, None};
+ghost use Rattle.std.specs.Prelude.{◌≡◌, ◌%◌, ◌^◌, ◌<◌, ◌≤◌, length, IsTrue, if◌then◌else◌, Some, None};
 ghost use Rattle.std.specs.List.{list_all};
-ghost use Rattle.std.specs.Char.{digit_value, is_ascii_digit, is_ascii_hexdigit};
 ghost use Rattle.std.specs.Str.Parse.{digits_value};
 ghost use Rattle.pg_image.specs.Images.{content, parts_of, is_address, address_digits, is_word};
 ghost use Rattle.pg_image.specs.Forms.{IsForm};
 
 use crate::cutting::{content, split_part};
+use pg_text::{are_digits, are_hex_digits, dec_number, hex_word_of};
 
 /// The row of a line, whose words are still text.
 #[derive(Drop)]
@@ -35,54 +36,16 @@ pub enum Form<'a> {
     Other,
 }
 
-/// The value of a digit up to `z` of either case, and 36 for a byte that is none.
-fn digit_value(byte: u8) -> u8
-    ensures { result ≡ digit_value byte }
-{
-    match byte {
-        b'0'..=b'9' => byte - b'0',
-        b'A'..=b'Z' => byte - b'A' + 10,
-        b'a'..=b'z' => byte - b'a' + 10,
-        _ => 36,
-    }
-}
+/// The most digits that an address has.
+pub const ADDRESS_DIGITS: usize = 7;
 
-/// The number that digits of this base write, of which there are few enough that it fits.
-fn number(base: u64, digits: &[u8]) -> u64
-    requires base { 2 ≤ base }
-    requires digits { All (λ c. digit_value c < base) digits.now }
-    requires fits { base ^ length digits.now ≤ 2 ^ 64 }
-    ensures value { result ≡ digits_value base digits.now }
-    ensures below { result < base ^ length digits.now }
-{
-    let mut value = 0u64;
-    for digit in digits {
-        value = value * base + u64::from(digit_value(*digit));
-    }
-    value
-}
-
-/// Decimal digits alone.
-fn are_digits(text: &[u8]) -> bool
-    ensures { result ≡ list_all is_ascii_digit text.now }
-{
-    text.iter().all(|byte| byte.is_ascii_digit())
-}
-
-/// Hexadecimal digits of either case alone.
-fn are_hex_digits(text: &[u8]) -> bool
-    ensures { result ≡ list_all is_ascii_hexdigit text.now }
-{
-    text.iter().all(|byte| byte.is_ascii_hexdigit())
-}
-
-/// Whether a part is an address: 1 to 7 decimal digits, and a colon behind them.
+/// Whether a part is an address: at least one decimal digit, at most `ADDRESS_DIGITS`, and a colon behind them.
 #[tactic(auto, unfolding(crate::specs::Images::is_address))]
 fn is_address(part: &[u8]) -> bool
     ensures { result ≡ is_address part.now }
 {
     match part {
-        [digits @ .., b':'] => !digits.is_empty() && digits.len() <= 7 && are_digits(digits),
+        [digits @ .., b':'] => !digits.is_empty() && digits.len() <= ADDRESS_DIGITS && are_digits(digits),
         _ => false,
     }
 }
@@ -92,8 +55,7 @@ fn address(part: &[u8]) -> usize
     requires { IsTrue (is_address part.now) }
     ensures { result ≡ digits_value 10 (address_digits part.now) }
 {
-    let digits = &part[..part.len() - 1];
-    number(10, digits) as usize
+    dec_number(&part[..part.len() - 1]).unwrap() as usize
 }
 
 /// Whether a part is a word of `w` bits: `w / 4` hexadecimal digits.
@@ -112,7 +74,7 @@ pub fn word(w: u32, part: &[u8]) -> u64
     ensures value { result ≡ digits_value 16 part.now }
     ensures fits { result < 2 ^ w }
 {
-    number(16, part)
+    hex_word_of(w, part).unwrap()
 }
 
 /// How many parts there are, where each of them is a word.

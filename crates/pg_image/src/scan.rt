@@ -7,7 +7,7 @@ ghost use Rattle.std.specs.Prelude.{◌≡◌, ◌<◌, ◌≤◌, length, not, 
 ghost use Rattle.std.specs.Option.{option_map};
 ghost use Rattle.std.specs.Result.{result_err};
 ghost use Rattle.pg_image.specs.declared.fault.ImageFault.TheVariants.{Grammar};
-ghost use Rattle.pg_image.specs.Images.{most_bytes, content, may_stand, lines_of, parts_of, foreign_place, rows_from};
+ghost use Rattle.pg_image.specs.Images.{most_image_bytes, content, may_stand, lines_of, parts_of, foreign_place, rows_from};
 ghost use Rattle.pg_image.specs.Forms.{MakeNone, AddNoFault};
 
 use crate::cutting::{content, is_gap, split_line};
@@ -30,7 +30,7 @@ fn foreign_in(line: &[u8]) -> Option<usize>
 
 /// The place in a text of the first byte outside comments that may not stand there.
 pub fn foreign_place(bytes: &[u8]) -> Option<usize>
-    requires { length bytes.now ≤ most_bytes }
+    requires { length bytes.now ≤ most_image_bytes }
     ensures { result ≡ foreign_place 0 (lines_of bytes.now) }
 {
     let mut place = 0usize;
@@ -59,7 +59,7 @@ fn is_other(w: u32, line: &[u8]) -> bool
 
 /// The number of the first line that has parts and is no row, counted from 1.
 pub fn other_line(w: u32, bytes: &[u8]) -> Option<usize>
-    requires { length bytes.now ≤ most_bytes }
+    requires { length bytes.now ≤ most_image_bytes }
     ensures { result_err (rows_from w 1 (lines_of bytes.now)) ≡ option_map (λ n. Grammar n) result }
 {
     let mut n = 1usize;

@@ -4,7 +4,7 @@ use Rattle.pg_token.specs.declared.tok.Tok.{Tok}
 use Rattle.pg_text.specs.declared.place.Span.{Span}
 use Rattle.pg_text.specs.declared.place.TextFault.{TextFault}
 use Rattle.pg_text.specs.declared.place.TextFault.TheVariants.{BadByte, BadNumber, BadWord, BadPattern, Memory as NoMemory}
-use Rattle.pg_text.specs.Cutting.{IsDue, cut}
+use Rattle.pg_text.specs.Cutting.{IsCutDue, cut}
 use Rattle.pg_ast.specs.declared.tree.Desc.{Desc}
 use Rattle.pg_ast.specs.Tokens.{tokens_of}
 use Rattle.pg_ast.proofs.Exact.{read_at}
@@ -16,7 +16,7 @@ use Rattle.pg_read.specs.Answer.{IsAnswer, token_fault, toks}
 use Rattle.pg_read.proofs.InstrLemmas.{desc-exact, desc-tokens}
 use Rattle.pg_read.proofs.JudgeLemmas.{Says, judged_says}
 
-pub answer-fault : (text : List ℕ) (f : TextFault) → length text ≤ 1048576 → IsDue {X = List (Tok × Span)} (Err f) (cut text) → IsAnswer text (Err (token_fault f))
+pub answer-fault : (text : List ℕ) (f : TextFault) → length text ≤ 1048576 → IsCutDue {X = List (Tok × Span)} (Err f) (cut text) → IsAnswer text (Err (token_fault f))
 answer-fault text (BadByte at) within due = (within, rw due refl)
 answer-fault text (BadNumber at) within due = (within, rw due refl)
 answer-fault text (BadWord at) within due = (within, rw due refl)

@@ -6,7 +6,7 @@ use Rattle.pg_text.specs.declared.place.Span.{Span}
 use Rattle.pg_text.specs.declared.place.TextFault.{TextFault}
 use Rattle.pg_text.specs.declared.place.TextFault.TheVariants.{BadByte, BadNumber, BadWord, BadPattern, Memory}
 use Rattle.pg_text.specs.declared.piece.Piece.{Piece}
-use Rattle.pg_text.specs.Cutting.{front, placed, before, then_cut, cut_from, cut, IsDue}
+use Rattle.pg_text.specs.Cutting.{front, placed, before, then_cut, cut_from, cut, IsCutDue}
 use Rattle.pg_text.proofs.Fronts.{Takes, front_takes}
 
 -- the bytes that belong to a piece before are passed over
@@ -88,8 +88,8 @@ CutSoFar-stops text list at f lt so_far h =
     ∙ ap (before list) (cut_from-fault at (get_or text at 0) (drop (at + 1) text) f (ap (front at) (sym split) ∙ h))
 
 -- so what is due at the front is due of the text
-pub CutSoFar-fault : (text : List ℕ) (list : List (Tok × Span)) (at : ℕ) (f : TextFault) → at < length text → CutSoFar text list at → IsDue {X = Piece} (Err f) (front at (drop at text))
-    → IsDue {X = List (Tok × Span)} (Err f) (cut text)
+pub CutSoFar-fault : (text : List ℕ) (list : List (Tok × Span)) (at : ℕ) (f : TextFault) → at < length text → CutSoFar text list at → IsCutDue {X = Piece} (Err f) (front at (drop at text))
+    → IsCutDue {X = List (Tok × Span)} (Err f) (cut text)
 CutSoFar-fault text list at (BadByte place) lt so_far h = CutSoFar-stops text list at (BadByte place) lt so_far h
 CutSoFar-fault text list at (BadNumber place) lt so_far h = CutSoFar-stops text list at (BadNumber place) lt so_far h
 CutSoFar-fault text list at (BadWord place) lt so_far h = CutSoFar-stops text list at (BadWord place) lt so_far h

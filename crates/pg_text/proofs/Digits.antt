@@ -1,40 +1,40 @@
--- Numbers that digits write, and their limit.
-use Rattle.std.proofs.Common.{◌≡◌, ℕ, ◌+◌, ◌*◌, ◌^◌, ◌<◌, ◌≤◌, List, [], ◌∷◌, length, drop, get_or, Some, None, sym, ap, ◌∙◌, arith}
-use Rattle.std.proofs.lemmas.List.{drop_more, drop_all}
-use Rattle.std.proofs.Math.Nat.{le_refl, mul-le-mul_left}
+-- Digits that std reads: a run of them is a numeral, and its number is the one that is due.
+use Rattle.std.proofs.Common.{◌≡◌, ℕ, ◌<◌, ◌≤◌, true, List, [], ◌∷◌, IsAscii, arith}
+use Rattle.std.proofs.lemmas.Bool.{and_parts}
 use Rattle.std.proofs.lemmas.Bool.Decides.{nat_tests}
-use Rattle.std.specs.Char.{digit_value}
-use Rattle.std.specs.Str.Parse.{digits_value_after, digits_value}
-use Rattle.pg_text.specs.Cutting.{limited}
+use Rattle.std.proofs.lemmas.Str.Ascii.{IsAscii-nil, IsAscii-cons}
+use Rattle.std.specs.Prelude.{IsUtf8}
+use Rattle.std.specs.List.{list_all}
+use Rattle.std.specs.Char.{digit_value, is_ascii_hexdigit}
+use Rattle.std.specs.Str.Parse.{AllDigits}
+use Rattle.std.proofs.lemmas.Str.{IsUtf8-from_ascii}
+use Rattle.pg_token.specs.Words.{is_digit}
 
-raised : (n base d : ℕ) → 0 < base → n ≤ n * base + d
-raised n base d h = omega (arith, mul-le-mul_left n h)
+dec_digit : (c : ℕ) → is_digit c ≡ true → digit_value c < 10
+dec_digit c h = grind (arith, nat_tests)
 
--- digits behind a number never lower it
-pub le-digits_value_after : (base n : ℕ) (ds : List ℕ) → 0 < base → n ≤ digits_value_after base n ds
-le-digits_value_after base n [] h = le_refl n
-le-digits_value_after base n (c ∷ cs) h =
-    omega (arith, raised n base (digit_value c) h, le-digits_value_after base (n * base + digit_value c) cs h)
+hex_digit : (c : ℕ) → is_ascii_hexdigit c ≡ true → digit_value c < 16
+hex_digit c h = grind (arith, nat_tests)
 
--- what is past the limit stays past it
-limited_later : (m n : ℕ) → m ≤ n → None ≡ limited m → None ≡ limited n
-limited_later m n le h = grind (arith, nat_tests)
+pub dec_digits : (ds : List ℕ) → list_all is_digit ds ≡ true → AllDigits 10 ds
+dec_digits [] h = tt
+dec_digits (c ∷ cs) h =
+    let parts = and_parts (is_digit c) (list_all is_digit cs) h in
+    (dec_digit c parts.0, dec_digits cs parts.1)
 
--- a number that is past the limit at some digit is past it in all
-pub limited_early : (base v i d : ℕ) (ds : List ℕ) → 0 < base → i < length ds → digits_value_after base v (drop i ds) ≡ digits_value base ds
-    → d ≡ digit_value (get_or ds i 0) → None ≡ limited (v * base + d) → None ≡ limited (digits_value base ds)
-limited_early base v i d ds pos lt so_far digit past =
-    let rest : List ℕ = drop (i + 1) ds in
-    let e : digits_value_after base (v * base + d) rest ≡ digits_value base ds =
-    ap (λ k. digits_value_after base (v * base + k) rest) digit ∙ ap (digits_value_after base v) (sym (drop_more ds i 0 lt)) ∙ so_far in
-    limited_later (v * base + d) (digits_value base ds) (omega (arith, le-digits_value_after base (v * base + d) rest pos)) past
+pub hex_digits : (ds : List ℕ) → list_all is_ascii_hexdigit ds ≡ true → AllDigits 16 ds
+hex_digits [] h = tt
+hex_digits (c ∷ cs) h =
+    let parts = and_parts (is_ascii_hexdigit c) (list_all is_ascii_hexdigit cs) h in
+    (hex_digit c parts.0, hex_digits cs parts.1)
 
-limited_within : (v : ℕ) → v < 2 ^ 64 → Some v ≡ limited v
-limited_within v h = grind (arith, nat_tests)
+-- a digit of any base is an ASCII byte, and no sign
+ascii_digit : (c base : ℕ) → base ≤ 36 → digit_value c < base → c < 128
+ascii_digit c base most h = grind (arith, nat_tests)
 
--- behind the last digit the number so far is the whole
-pub limited_whole : (base v i : ℕ) (ds : List ℕ) → length ds ≤ i → digits_value_after base v (drop i ds) ≡ digits_value base ds → v < 2 ^ 64
-    → Some v ≡ limited (digits_value base ds)
-limited_whole base v i ds le so_far fits =
-    let e : v ≡ digits_value base ds = ap (digits_value_after base v) (sym (drop_all i ds le)) ∙ so_far in
-    rw (← e) (limited_within v fits)
+ascii_digits : (base : ℕ) (ds : List ℕ) → base ≤ 36 → AllDigits base ds → IsAscii ds
+ascii_digits base [] most h = IsAscii-nil
+ascii_digits base (c ∷ cs) most h = IsAscii-cons c cs (ascii_digit c base most h.0) (ascii_digits base cs most h.1)
+
+pub digits_utf8 : (base : ℕ) (ds : List ℕ) → base ≤ 36 → AllDigits base ds → IsUtf8 ds
+digits_utf8 base ds most h = IsUtf8-from_ascii ds (ascii_digits base ds most h)

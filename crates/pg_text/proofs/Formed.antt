@@ -6,7 +6,7 @@ use Rattle.std.specs.Str.Parse.{digits_value}
 use Rattle.std.proofs.lemmas.List.Folds.{length-prefix_len}
 use Rattle.std.proofs.lemmas.Bool.{leb-true, le-leb}
 use Rattle.std.proofs.lemmas.Bool.Decides.{nat_tests}
-use Rattle.pg_token.specs.Words.{is_letter, is_digit, is_word_byte, is_word, is_pattern_byte}
+use Rattle.pg_token.specs.Words.{most_name_bytes, is_letter, is_digit, is_word_byte, is_word, is_pattern_byte}
 use Rattle.pg_token.specs.declared.tok.Tok.{Tok}
 use Rattle.pg_token.specs.declared.tok.Tok.TheVariants.{Word, Number, Pattern}
 use Rattle.pg_token.specs.declared.tok.Tok.TheVariants as signs
@@ -15,7 +15,7 @@ use Rattle.pg_text.specs.declared.place.Span.{Span}
 use Rattle.pg_text.specs.declared.place.TextFault.{TextFault}
 use Rattle.pg_text.specs.declared.place.TextFault.TheVariants.{BadByte, BadNumber, BadWord, BadPattern}
 use Rattle.pg_text.specs.declared.piece.Piece.{Piece}
-use Rattle.pg_text.specs.Cutting.{is_blank, is_inner, limited, number_of, hex_number, hex_digits, skip, made, word_at, number_at, pattern_at, sign_of_one, sign_of_two, sign_at, front, placed, cut_from, cut}
+use Rattle.pg_text.specs.Cutting.{is_blank, is_inner, limited, dec_number, number_of, hex_number, hex_digits, skip, made, word_at, number_at, pattern_at, sign_of_one, sign_of_two, sign_at, front, placed, cut_from, cut}
 use Rattle.std.proofs.lemmas.List.Elements.{All-from_recursion}
 use Rattle.pg_text.proofs.Fronts.{run_takes}
 use Rattle.pg_text.proofs.CutSteps.{before_ok, then_ok, ok_is}
@@ -51,15 +51,20 @@ chosen_holds p (b ∷ bs) =
 limited_fits : (n v : ℕ) → limited n ≡ Some v → v < 2 ^ 64
 limited_fits n v h = grind (arith, nat_tests)
 
-choice_fits : (b : Bool) (n v : ℕ) (o : Option ℕ) → (o ≡ Some v → v < 2 ^ 64) → cond b (limited n) o ≡ Some v → v < 2 ^ 64
-choice_fits true n v o f h = limited_fits n v h
-choice_fits false n v o f h = f h
+either_fits : (b : Bool) (v : ℕ) (o p : Option ℕ) → (o ≡ Some v → v < 2 ^ 64) → (p ≡ Some v → v < 2 ^ 64) → cond b o p ≡ Some v → v < 2 ^ 64
+either_fits true v o p f g h = f h
+either_fits false v o p f g h = g h
 
 none_fits : (v : ℕ) (o : Option ℕ) → o ≡ None → o ≡ Some v → v < 2 ^ 64
 none_fits v o e h = absurd cc
 
+limited_or_none : (b : Bool) (n v : ℕ) → cond b (limited n) None ≡ Some v → v < 2 ^ 64
+limited_or_none b n v h = either_fits b v (limited n) None (limited_fits n v) (none_fits v None refl) h
+
 number_fits : (text : List ℕ) (v : ℕ) → number_of text ≡ Some v → v < 2 ^ 64
-number_fits text v h = choice_fits (list_all is_digit text) (digits_value 10 text) v (hex_number (hex_digits text)) (choice_fits _ (digits_value 16 (hex_digits text)) v None (none_fits v None refl)) h
+number_fits text v h =
+    either_fits (list_all is_digit text) v (dec_number text) (hex_number (hex_digits text))
+    (limited_or_none _ (digits_value 10 text) v) (limited_or_none _ (digits_value 16 (hex_digits text)) v) h
 
 second : (x y : Bool) → (x && y) ≡ true → y ≡ true
 second true y h = h
@@ -72,19 +77,19 @@ first_holds : (x y z : Bool) → x ≡ true → ((x || y) || z) ≡ true
 first_holds true y z h = refl
 first_holds false y z h = absurd cc
 
-is_word_of : (n b : ℕ) (bs : List ℕ) → 0 < n → is_letter b ≡ true → list_all is_word_byte (take n (b ∷ bs)) ≡ true → length (take n (b ∷ bs)) ≤ 32 → IsTrue (is_word (take n (b ∷ bs)))
+is_word_of : (n b : ℕ) (bs : List ℕ) → 0 < n → is_letter b ≡ true → list_all is_word_byte (take n (b ∷ bs)) ≡ true → length (take n (b ∷ bs)) ≤ most_name_bytes → IsTrue (is_word (take n (b ∷ bs)))
 is_word_of zero b bs some letter all short = absurd (omega arith)
 is_word_of (suc m) b bs some letter all short =
-    all_three (is_letter b) (list_all is_word_byte (take m bs)) (leb (length (take m bs)) 31) letter (second (is_word_byte b) (list_all is_word_byte (take m bs)) all) (le-leb _ _ (omega arith))
+    all_three (is_letter b) (list_all is_word_byte (take m bs)) (leb (length (b ∷ take m bs)) most_name_bytes) letter (second (is_word_byte b) (list_all is_word_byte (take m bs)) all) (le-leb _ _ (omega arith))
 
 word_makes : (place b : ℕ) (bs : List ℕ) → is_letter b ≡ true → Makes (word_at place (b ∷ bs))
 unfolding word_at
 word_makes place b bs letter =
     let n : ℕ = prefix_len is_word_byte (b ∷ bs) in
     let some : 0 < n = (run_takes is_word_byte b bs (first_holds (is_letter b) (is_digit b) (eqb b 95) letter)).0 in
-    let formed : leb n 32 ≡ true → IsTrue (is_word (take n (b ∷ bs))) =
-    λ e. is_word_of n b bs some letter (run_holds is_word_byte (b ∷ bs)) (omega (arith, length-prefix_len is_word_byte (b ∷ bs), leb-true n 32 e)) in
-    either (leb n 32) (made (Word (take n (b ∷ bs))) n) (Err (BadWord place)) formed (λ _. tt)
+    let formed : leb n most_name_bytes ≡ true → IsTrue (is_word (take n (b ∷ bs))) =
+    λ e. is_word_of n b bs some letter (run_holds is_word_byte (b ∷ bs)) (omega (arith, length-prefix_len is_word_byte (b ∷ bs), leb-true n most_name_bytes e)) in
+    either (leb n most_name_bytes) (made (Word (take n (b ∷ bs))) n) (Err (BadWord place)) formed (λ _. tt)
 
 number_made : (place n : ℕ) (o : Option ℕ) → ((v : ℕ) → o ≡ Some v → v < 2 ^ 64) → Makes (elim o [ Some v ↦ made (Number v) n | None ↦ Err (BadNumber place) ])
 number_made place n (Some v) h = h v refl

@@ -6,7 +6,7 @@ use Rattle.std.proofs.lemmas.List.Sums.{prefix_len-le-length}
 use Rattle.std.proofs.lemmas.List.{get_or_past}
 use Rattle.std.proofs.lemmas.Bool.{cases_lt, eqb-true}
 use Rattle.std.proofs.lemmas.Bool.Decides.{nat_tests}
-use Rattle.pg_token.specs.Words.{is_letter, is_digit, is_word_byte}
+use Rattle.pg_token.specs.Words.{most_name_bytes, is_letter, is_digit, is_word_byte}
 use Rattle.pg_token.specs.Words.{is_pattern_byte}
 use Rattle.pg_token.specs.declared.tok.Sign.{Sign}
 use Rattle.pg_token.specs.declared.tok.Tok.{Tok}
@@ -38,8 +38,8 @@ second_holds true y z h = refl
 second_holds false true z h = refl
 second_holds false false z h = absurd cc
 
-word_made : (place n most : ℕ) (text : List ℕ) → (0 < n) × (n ≤ most) → Takes most (cond (leb n 32) (made (Word (take n text)) n) (Err (BadWord place)))
-word_made place n most text h = either most (leb n 32) (made (Word (take n text)) n) (Err (BadWord place)) (λ _. h) (λ _. tt)
+word_made : (place n most : ℕ) (text : List ℕ) → (0 < n) × (n ≤ most) → Takes most (cond (leb n most_name_bytes) (made (Word (take n text)) n) (Err (BadWord place)))
+word_made place n most text h = either most (leb n most_name_bytes) (made (Word (take n text)) n) (Err (BadWord place)) (λ _. h) (λ _. tt)
 
 word_takes : (place b : ℕ) (bs : List ℕ) → is_letter b ≡ true → Takes (length (b ∷ bs)) (word_at place (b ∷ bs))
 unfolding word_at

@@ -1,9 +1,9 @@
 -- Hexadecimal digits of a number: how many they are, and what they stand for.
-use Rattle.std.proofs.Common.{◌≡◌, ℕ, zero, suc, ◌+◌, ◌-◌, ◌*◌, ◌/◌, ◌%◌, ◌^◌, ◌<◌, ◌≤◌, false, [], ◌∷◌, ◌++◌, length, sym, ap, ◌∙◌, refl, arith, length-append}
+use Rattle.std.proofs.Common.{◌≡◌, ℕ, zero, suc, ◌+◌, ◌*◌, ◌/◌, ◌%◌, ◌^◌, ◌<◌, false, [], ◌∷◌, length, sym, ap, ◌∙◌, refl, arith, length-append}
 use Rattle.std.specs.Fmt.{digit_glyph}
 use Rattle.std.specs.Char.{digit_value}
 use Rattle.std.specs.Str.Parse.{digits_value}
-use Rattle.std.proofs.Math.Nat.{pow-suc, div-div-eq-div-mul}
+use Rattle.std.proofs.Math.Nat.{pow-suc}
 use Rattle.std.proofs.Math.Pow.{pow-add}
 use Rattle.std.proofs.lemmas.Int.Digits.{digits_value_push}
 use Rattle.std.proofs.lemmas.Bool.Decides.{nat_tests}
@@ -33,33 +33,6 @@ digits_value-hex_text (suc n) value h =
     ∙ whole_again value (digits_value 16 (hex_text n (value / 16))) (digit_value (digit_glyph false (value % 16)))
     (digits_value-hex_text n (value / 16) (quotient_below n value h)) (digit_of_glyph (value % 16) (omega arith))
 
--- none yet
-pub hex_text_none : (n value : ℕ) → hex_text (n - n) value ≡ []
-unfolding hex_text
-hex_text_none n value =
-    let e : n - n ≡ 0 = omega arith in
-    ap (λ x. hex_text x value) e
-
--- a digit more, where so many are left
-pub hex_text_next : (n left value : ℕ) → 0 < left → left ≤ n
-    → hex_text (n - left) (value / 2 ^ (4 * left)) ++ digit_glyph false (value / 2 ^ (4 * (left - 1)) % 16) ∷ [] ≡ hex_text (n - (left - 1)) (value / 2 ^ (4 * (left - 1)))
-unfolding hex_text
-hex_text_next n left value some within =
-    let k : n - (left - 1) ≡ suc (n - left) = omega arith in
-    let e : 4 * left ≡ 4 * (left - 1) + 4 = omega arith in
-    let p : 2 ^ (4 * left) ≡ 2 ^ (4 * (left - 1)) * 16 = ap (λ x. 2 ^ x) e ∙ pow-add 2 (4 * (left - 1)) 4 in
-    let d : value / 2 ^ (4 * left) ≡ value / 2 ^ (4 * (left - 1)) / 16 =
-    ap (λ x. value / x) p ∙ sym (div-div-eq-div-mul value (2 ^ (4 * (left - 1))) 16) in
-    ap (λ x. hex_text (n - left) x ++ digit_glyph false (value / 2 ^ (4 * (left - 1)) % 16) ∷ []) d
-    ∙ sym (ap (λ x. hex_text x (value / 2 ^ (4 * (left - 1)))) k)
-
--- none is left
-pub hex_text_all : (n value : ℕ) → hex_text (n - 0) (value / 2 ^ (4 * 0)) ≡ hex_text n value
-hex_text_all n value =
-    let k : n - 0 ≡ n = omega arith in
-    let d : value / 2 ^ (4 * 0) ≡ value = omega arith in
-    ap (λ x. hex_text x (value / 2 ^ (4 * 0))) k ∙ ap (hex_text n) d
-
 pow_sixteen : (k : ℕ) → 2 ^ (4 * k) ≡ 16 ^ k
 pow_sixteen zero = refl
 pow_sixteen (suc k) =
@@ -67,8 +40,10 @@ pow_sixteen (suc k) =
     ap (λ x. 2 ^ x) e ∙ pow-add 2 (4 * k) 4 ∙ ap (λ x. x * 16) (pow_sixteen k) ∙ sym (pow-suc 16 k)
 
 -- a word of w bits has a digit for each four of them
-pub word_below : (w value : ℕ) → w % 8 ≡ 0 → value < 2 ^ w → value < 16 ^ (w / 4)
-word_below w value h lt =
+pub sixteens : (w : ℕ) → w % 8 ≡ 0 → 16 ^ (w / 4) ≡ 2 ^ w
+sixteens w h =
     let e : w ≡ 4 * (w / 4) = omega arith in
-    let p : 2 ^ w ≡ 16 ^ (w / 4) = ap (λ x. 2 ^ x) e ∙ pow_sixteen (w / 4) in
-    omega arith
+    sym (ap (λ x. 2 ^ x) e ∙ pow_sixteen (w / 4))
+
+pub word_below : (w value : ℕ) → w % 8 ≡ 0 → value < 2 ^ w → value < 16 ^ (w / 4)
+word_below w value h lt = let e = sixteens w h in omega (arith, e)

@@ -3,7 +3,7 @@ use Rattle.std.specs.Prelude.{◌≡◌, ℕ, zero, suc, ◌+◌, ◌-◌, ◌^�
 use Rattle.std.specs.List.{prefix_len, list_all}
 use Rattle.std.specs.Char.{is_ascii_hexdigit}
 use Rattle.std.specs.Str.Parse.{digits_value}
-use Rattle.pg_token.specs.Words.{is_letter, is_digit, is_word_byte, is_pattern_byte}
+use Rattle.pg_token.specs.Words.{most_name_bytes, is_letter, is_digit, is_word_byte, is_pattern_byte}
 use Rattle.pg_token.specs.declared.tok.Tok.{Tok}
 use Rattle.pg_token.specs.declared.tok.Tok.TheVariants.{Word, Number, Pattern}
 use Rattle.pg_token.specs.declared.tok.Tok.TheVariants as tok
@@ -28,11 +28,11 @@ skip n = Ok (record { tok = None; len = n })
 abbrev pub made : Tok → ℕ → Result Piece TextFault
 made t n = Ok (record { tok = Some t; len = n })
 
--- a word: as many letters, digits and '_' as follow, at most 32
+-- a word: as many letters, digits and '_' as follow, few enough
 unfoldable pub word_at : ℕ → List ℕ → Result Piece TextFault
 word_at place text =
     let n = prefix_len is_word_byte text in
-    if nat_le n 32 then made (Word (take n text)) n else Err (BadWord place)
+    if nat_le n most_name_bytes then made (Word (take n text)) n else Err (BadWord place)
 
 -- a number below 2 ^ 64
 abbrev pub limited : ℕ → Option ℕ
@@ -47,9 +47,13 @@ abbrev pub hex_number : List ℕ → Option ℕ
 hex_number digits =
     if nat_le 1 (length digits) && nat_le (length digits) 16 && list_all is_ascii_hexdigit digits then limited (digits_value 16 digits) else None
 
+-- decimal digits, one at least
+abbrev pub dec_number : List ℕ → Option ℕ
+dec_number digits = if nat_le 1 (length digits) && list_all is_digit digits then limited (digits_value 10 digits) else None
+
 -- decimal digits, or '0x' and hexadecimal ones
 abbrev pub number_of : List ℕ → Option ℕ
-number_of text = if list_all is_digit text then limited (digits_value 10 text) else hex_number (hex_digits text)
+number_of text = if list_all is_digit text then dec_number text else hex_number (hex_digits text)
 
 -- a number: as many letters, digits and '_' as follow
 unfoldable pub number_at : ℕ → List ℕ → Result Piece TextFault
@@ -155,10 +159,10 @@ tokens_in text = toks_of (cut text)
 -- ---- what a call answers
 
 -- what a call answers is what is due, unless memory ran out
-abbrev pub IsDue : {X : Type 0} → Result X TextFault → Result X TextFault → Type 0
-IsDue (Ok x) due = due ≡ Ok x
-IsDue (Err Memory) due = Unit {0}
-IsDue (Err (BadByte place)) due = due ≡ Err (BadByte place)
-IsDue (Err (BadNumber place)) due = due ≡ Err (BadNumber place)
-IsDue (Err (BadWord place)) due = due ≡ Err (BadWord place)
-IsDue (Err (BadPattern place)) due = due ≡ Err (BadPattern place)
+abbrev pub IsCutDue : {X : Type 0} → Result X TextFault → Result X TextFault → Type 0
+IsCutDue (Ok x) due = due ≡ Ok x
+IsCutDue (Err Memory) due = Unit {0}
+IsCutDue (Err (BadByte place)) due = due ≡ Err (BadByte place)
+IsCutDue (Err (BadNumber place)) due = due ≡ Err (BadNumber place)
+IsCutDue (Err (BadWord place)) due = due ≡ Err (BadWord place)
+IsCutDue (Err (BadPattern place)) due = due ≡ Err (BadPattern place)

@@ -8,30 +8,16 @@
 
 ghost use Rattle.std.specs.Prelude.{◌≡◌, ◌≤◌, length, not, ◌==◌};
 ghost use Rattle.std.specs.List.{prefix_len};
-ghost use Rattle.pg_token.specs.Words.{is_letter, is_word_byte};
+ghost use Rattle.pg_token.specs.Words.{is_word_byte};
 ghost use Rattle.pg_text.specs.Cutting.{is_blank, is_inner, sign_of_one, sign_of_two};
 
-use pg_token::{Sign, is_pattern_byte};
+use pg_token::{Sign, is_pattern_byte, is_word_byte};
 
 /// What separates tokens: space, tab, CR or LF.
 pub fn is_blank(byte: u8) -> bool
     ensures { result ≡ is_blank byte }
 {
     byte == b' ' || byte == b'\t' || byte == b'\r' || byte == b'\n'
-}
-
-/// A letter of either case.
-pub fn is_letter(byte: u8) -> bool
-    ensures { result ≡ is_letter byte }
-{
-    byte.is_ascii_alphabetic()
-}
-
-/// A letter, a digit or `_`.
-fn is_word_byte(byte: u8) -> bool
-    ensures { result ≡ is_word_byte byte }
-{
-    is_letter(byte) || byte.is_ascii_digit() || byte == b'_'
 }
 
 /// What may stand between the quotes of a pattern.
@@ -65,13 +51,13 @@ pub fn inner_len(text: &[u8]) -> usize
     n
 }
 
-/// How many bytes stand before the first LF, or in all.
-pub fn line_len(text: &[u8]) -> usize
-    ensures len { result ≡ prefix_len (λ c. not (c == 10)) text.now }
+/// How many bytes stand before the first one that is this byte, or in all.
+pub fn len_before(text: &[u8], byte: u8) -> usize
+    ensures len { result ≡ prefix_len (λ c. not (c == byte)) text.now }
     ensures within { result ≤ length text.now }
 {
     let mut n = 0;
-    while n < text.len() && text[n] != b'\n' {
+    while n < text.len() && text[n] != byte {
         n += 1;
     }
     n

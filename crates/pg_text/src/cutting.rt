@@ -9,7 +9,7 @@
 //! of the tokens, can still say where in the text it is.
 
 ghost use Rattle.std.specs.Prelude.{◌≡◌, ◌+◌, ◌<◌, ◌^◌, ◌++◌, OnOk};
-ghost use Rattle.pg_text.specs.Cutting.{IsDue, placed, cut};
+ghost use Rattle.pg_text.specs.Cutting.{IsCutDue, placed, cut};
 
 use crate::piece::{Piece, piece_at};
 use crate::place::{Span, TextFault};
@@ -37,7 +37,7 @@ fn put(list: &mut TokList, piece: Piece, at: usize) -> Result<(), AllocError>
 /// `Ok` is exactly the text's tokens. A fault is its first one from the left, at its place.
 /// `Memory` comes where an allocation fails, and says nothing of the text.
 pub fn tokens(alloc: Global, bytes: &[u8]) -> Result<TokList, TextFault>
-    ensures { IsDue result (cut bytes.now) }
+    ensures { IsCutDue result (cut bytes.now) }
 {
     let mut list = Items::new(alloc);
     let mut at = 0;

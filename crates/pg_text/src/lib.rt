@@ -1,7 +1,8 @@
-//! Text to tokens, and numbers to text.
+//! Text to tokens, digits to numbers, and back.
 //!
-//! `tokens` cuts the bytes of a description into its tokens, each with its place. `dec` and
-//! `hex_word` write numbers as digits. This crate knows nothing of what the tokens say.
+//! `tokens` cuts the bytes of a description into its tokens, each with its place. `dec_number` and
+//! `hex_word_of` read digits, `dec` and `hex_word` write them. This crate knows nothing of what the
+//! tokens say.
 //!
 //! # What the bytes of a text make
 //!
@@ -11,7 +12,7 @@
 //!
 //! | Token | The bytes that make it | What it carries |
 //! |---|---|---|
-//! | word | a letter, then every letter, digit and `_` that follows, at most 32 bytes in all | its bytes |
+//! | word | a letter, then every letter, digit and `_` that follows, at most `NAME_BYTES` bytes in all | its bytes |
 //! | number | a digit, then every letter, digit and `_` that follows, where these are as below | its value, below 2^64 |
 //! | pattern | `"`, then bytes `0`, `1`, `.`, `_` and `a` to `z`, if any, then `"` | these bytes without `_` |
 //! | sign | one of `{ } ( ) [ ] ; , : = == ~ + - * & \| ^ < << >>` | which sign |
@@ -29,10 +30,11 @@
 //!
 //! - `place`: places, and the faults of a text.
 //! - `classes`: which bytes make what.
-//! - `number`: what a number's text stands for.
+//! - `number`: numbers from digits.
 //! - `piece`: what stands at the front of a text.
 //! - `cutting`: the whole text.
-//! - `print`: numbers as digits.
+//! - `print`: numbers as decimal digits.
+//! - `word`: words as hexadecimal digits, both ways.
 //! - `laws`: what follows from the definitions alone.
 #![tactic(auto)]
 
@@ -43,10 +45,11 @@ mod number;
 mod piece;
 mod place;
 mod print;
+mod word;
 
+pub use classes::len_before;
 pub use cutting::{TokList, tokens};
+pub use number::{are_digits, are_hex_digits, dec_number};
 pub use place::{Span, TextFault};
-pub use print::{dec, hex_word};
-
-#[cfg(test)]
-mod tests;
+pub use print::dec;
+pub use word::{hex_word, hex_word_of};

@@ -7,14 +7,14 @@
 
 ghost use Rattle.std.specs.Prelude.{◌≡◌, ◌<◌, length, slice_index, filter, IfOk};
 ghost use Rattle.pg_token.specs.Words.{is_pattern_byte};
-ghost use Rattle.pg_text.specs.Cutting.{IsDue, word_at, number_at, pattern_at, sign_at, sign_of_two, front};
+ghost use Rattle.pg_text.specs.Cutting.{IsCutDue, word_at, number_at, pattern_at, sign_at, sign_of_two, front};
 
 use crate::classes::{
-    inner_len, is_blank, is_letter, line_len, sign_of_one, sign_of_two, word_len,
+    inner_len, is_blank, len_before, sign_of_one, sign_of_two, word_len,
 };
 use crate::number::number_of;
 use crate::place::TextFault;
-use pg_token::{Sign, Tok, is_pattern_byte};
+use pg_token::{NAME_BYTES, Sign, Tok, is_letter, is_pattern_byte};
 use sqlite_items::Items;
 use std::alloc::{AllocError, Global};
 
@@ -47,13 +47,13 @@ fn made(tok: Tok, len: usize) -> Piece
     }
 }
 
-/// The word at the front, where a letter stands first. `BadWord` where it has more than 32 bytes.
+/// The word at the front, where a letter stands first. `BadWord` where it has more than `NAME_BYTES` bytes.
 #[tactic(auto, unfolding(crate::specs::Cutting::word_at))]
 fn word(alloc: Global, text: &[u8], at: usize) -> Result<Piece, TextFault>
-    ensures { IsDue result (word_at at text.now) }
+    ensures { IsCutDue result (word_at at text.now) }
 {
     let len = word_len(text);
-    if len > 32 {
+    if len > NAME_BYTES {
         return Err(TextFault::BadWord(at));
     }
     let bytes = Items::from_slice(alloc, &text[..len])?;
@@ -64,7 +64,7 @@ fn word(alloc: Global, text: &[u8], at: usize) -> Result<Piece, TextFault>
 /// and `_` there is no number below 2^64.
 #[tactic(auto, unfolding(crate::specs::Cutting::number_at))]
 fn number(text: &[u8], at: usize) -> Result<Piece, TextFault>
-    ensures { IsDue result (number_at at text.now) }
+    ensures { IsCutDue result (number_at at text.now) }
 {
     let len = word_len(text);
     match number_of(&text[..len]) {
@@ -91,7 +91,7 @@ fn pattern_bytes(alloc: Global, inner: &[u8]) -> Result<Items<u8>, AllocError>
 #[tactic(auto, unfolding(crate::specs::Cutting::pattern_at))]
 fn pattern(alloc: Global, text: &[u8], at: usize) -> Result<Piece, TextFault>
     requires { 0 < length text.now }
-    ensures { IsDue result (pattern_at at text.now) }
+    ensures { IsCutDue result (pattern_at at text.now) }
 {
     let inner = &text[1..];
     let len = inner_len(inner);
@@ -116,7 +116,7 @@ fn double_sign(text: &[u8]) -> Option<Sign>
 #[tactic(auto, unfolding(crate::specs::Cutting::sign_at))]
 fn sign(text: &[u8], at: usize) -> Result<Piece, TextFault>
     requires { 0 < length text.now }
-    ensures { IsDue result (sign_at at text.now) }
+    ensures { IsCutDue result (sign_at at text.now) }
 {
     if let Some(sign) = double_sign(text) {
         return Ok(made(Tok::Sign(sign), 2));
@@ -131,13 +131,13 @@ fn sign(text: &[u8], at: usize) -> Result<Piece, TextFault>
 #[tactic(auto, unfolding(crate::specs::Cutting::front))]
 pub fn piece_at(alloc: Global, text: &[u8], at: usize) -> Result<Piece, TextFault>
     requires { 0 < length text.now }
-    ensures { IsDue result (front at text.now) }
+    ensures { IsCutDue result (front at text.now) }
 {
     let first = text[0];
     if is_blank(first) {
         Ok(skip(1))
     } else if first == b'#' {
-        Ok(skip(line_len(text)))
+        Ok(skip(len_before(text, b'\n')))
     } else if is_letter(first) {
         word(alloc, text, at)
     } else if first.is_ascii_digit() {

@@ -26,7 +26,7 @@ pub enum TextFault {
     /// What begins with a digit here is no number, or one of 2^64 or more.
     #[error("bad number at {0}")]
     BadNumber(usize),
-    /// The word that begins here has more than 32 bytes.
+    /// The word that begins here has more than `NAME_BYTES` bytes.
     #[error("word too long at {0}")]
     BadWord(usize),
     /// The pattern that is opened here holds another byte, or is not closed.

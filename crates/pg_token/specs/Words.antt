@@ -13,10 +13,14 @@ is_digit c = nat_le 48 c && nat_le c 57
 abbrev pub is_word_byte : ℕ → Bool
 is_word_byte c = is_letter c || is_digit c || (c == 95)
 
--- a letter, then letters, digits and '_', at most 32 bytes in all
+-- the most bytes that a word has, and so a name
+abbrev pub most_name_bytes : ℕ
+most_name_bytes = 32
+
+-- a letter, then letters, digits and '_', few enough
 abbrev pub is_word : List ℕ → Bool
 is_word [] = false
-is_word (c ∷ cs) = is_letter c && list_all is_word_byte cs && nat_le (length cs) 31
+is_word (c ∷ cs) = is_letter c && list_all is_word_byte cs && nat_le (length (c ∷ cs)) most_name_bytes
 
 -- the words of the description language, which are no names
 abbrev pub reserved_words : List (List ℕ)

@@ -16,7 +16,6 @@ mod tok;
 mod words;
 
 pub use tok::{Sign, Tok};
-pub use words::{is_name, is_pattern, is_pattern_byte, is_reserved, is_word};
-
-#[cfg(test)]
-mod tests;
+pub use words::{
+    NAME_BYTES, is_letter, is_name, is_pattern, is_pattern_byte, is_reserved, is_word, is_word_byte,
+};

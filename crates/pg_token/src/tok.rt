@@ -55,7 +55,7 @@ pub enum Sign {
 /// A token: a word, a number, a pattern without its quotes and underscores, or a sign.
 #[derive(Debug, Drop)]
 pub enum Tok {
-    /// A word, reserved or not: a letter, then letters, digits and `_`, from 1 to 32 bytes in all
+    /// A word, reserved or not: a letter, then letters, digits and `_`, from 1 to `NAME_BYTES` bytes in all
     /// where it comes from a text.
     Word(Items<u8>),
     /// The value of a number, however it was written.

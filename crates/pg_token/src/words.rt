@@ -13,14 +13,14 @@ ghost use Rattle.std.specs.List.{list_all};
 ghost use Rattle.pg_token.specs.Words.{is_letter, is_word_byte, is_word, is_reserved, is_name, is_pattern_byte};
 
 /// A letter of either case.
-fn is_letter(byte: u8) -> bool
+pub fn is_letter(byte: u8) -> bool
     ensures { result ≡ is_letter byte }
 {
     byte.is_ascii_alphabetic()
 }
 
 /// A letter, a digit or `_`.
-fn is_word_byte(byte: u8) -> bool
+pub fn is_word_byte(byte: u8) -> bool
     ensures { result ≡ is_word_byte byte }
 {
     is_letter(byte) || byte.is_ascii_digit() || byte == b'_'
@@ -33,13 +33,16 @@ fn are_word_bytes(bytes: &[u8]) -> bool
     bytes.iter().all(|byte| is_word_byte(*byte))
 }
 
-/// A letter, then letters, digits and `_`, at most 32 bytes in all.
+/// The most bytes that a word has, and so a name.
+pub const NAME_BYTES: usize = 32;
+
+/// A letter, then letters, digits and `_`, at most `NAME_BYTES` bytes in all.
 pub fn is_word(bytes: &[u8]) -> bool
     ensures { result ≡ is_word bytes.now }
 {
     match bytes.split_first() {
         None => false,
-        Some((first, rest)) => is_letter(*first) && are_word_bytes(rest) && rest.len() <= 31,
+        Some((first, rest)) => is_letter(*first) && are_word_bytes(rest) && bytes.len() <= NAME_BYTES,
     }
 }
 

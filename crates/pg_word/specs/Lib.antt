@@ -1,3 +1,4 @@
 pub mod Shape
 pub mod Psw
 pub mod Bits
+pub mod Bytes

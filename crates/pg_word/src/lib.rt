@@ -10,6 +10,7 @@
 #![tactic(auto)]
 
 pub mod bits;
+pub mod bytes;
 mod cause;
 pub mod laws;
 mod psw;

@@ -27,11 +27,11 @@ pub returns-in-Some-place_all-clause-due : goal.returns-in-Some-place_all-clause
 returns-in-Some-place_all-clause-due c =
     let there = (goal.at.returns-in-Some-place_all-clause-due c).After-place_all in
     due_fault c.in-Some-place_all.fault _
-    (due_is c.args.shape.now.w c.args.size c.args.bytes.now c.deref_mut.result.now c.deref_mut-2.result.now _ c.if-bytes-gt-MOST_BYTES.false (sym c.in_default.is ∙ c.foreign_place.ensures) (zeros_are there) (flags_are there) c.in-Some-place_all.ensures.placed)
+    (due_is c.args.shape.now.w c.args.size c.args.bytes.now c.deref_mut.result.now c.deref_mut-2.result.now _ c.if-bytes-gt-IMAGE_BYTES.false (sym c.in_default.is ∙ c.foreign_place.ensures) (zeros_are there) (flags_are there) c.in-Some-place_all.ensures.placed)
 
 pub returns-in-None-clause-due : goal.returns-in-None-clause-due
 returns-in-None-clause-due c =
     let there = (goal.at.returns-in-None-clause-due c).After-place_all in
-    due_is c.args.shape.now.w c.args.size c.args.bytes.now c.deref_mut.result.now c.deref_mut-2.result.now _ c.if-bytes-gt-MOST_BYTES.false (sym c.in_default.is ∙ c.foreign_place.ensures) (zeros_are there) (flags_are there) c.in-None.ensures.placed
+    due_is c.args.shape.now.w c.args.size c.args.bytes.now c.deref_mut.result.now c.deref_mut-2.result.now _ c.if-bytes-gt-IMAGE_BYTES.false (sym c.in_default.is ∙ c.foreign_place.ensures) (zeros_are there) (flags_are there) c.in-None.ensures.placed
     ∙ ap (λ cells. Ok cells) (sym (c.from_vec.ensures ∙ refilled c.in_ok-cells.cells.len c.place_all.new.cells _
     (omega (arith, c.place_all.auto.cells, ap length (zeros_are there), length-replicate {A = ℕ} c.args.size 0, c.in_ok-cells.ensures.len))))

@@ -10,8 +10,8 @@ is_short c =
     let len = length-decimal-le 10 c.from.result (lit< tt) (omega arith) (omega arith) in
     omega (arith, len, ap length c.as_slice.ensures.value, ap length c.dec.ensures)
 
-pub put-requires : goal.put-requires
-put-requires c = omega (arith, is_short c)
+pub push-requires : goal.push-requires
+push-requires c = omega (arith, is_short c)
 
 pub returns-clause-len : goal.returns-clause-len
-returns-clause-len c = omega (arith, is_short (goal.at.returns-clause-len c).After-as_slice, c.put.ensures.len)
+returns-clause-len c = omega (arith, is_short (goal.at.returns-clause-len c).After-as_slice, c.push.ensures.len)

@@ -1,13 +1,14 @@
-use Rattle.std.proofs.Common.{length, arith}
-use Rattle.pg_image.specs.Images.{address_digits}
-use Rattle.pg_image.proofs.Words.{address_is, all_decimal, ten_fits}
+use Rattle.std.proofs.Common.{unwrap_or, ap, sym, ◌∙◌, refl}
+use Rattle.pg_image.proofs.Words.{address_is, address_number}
 use Rattle.pg_image.proofs.row.address.Goals as goal
 
-pub slice_bounds-digits-count : goal.slice_bounds-digits-count
-slice_bounds-digits-count c = (address_is c.args.part.now c.requires).long
+pub slice_bounds-dec_number-count : goal.slice_bounds-dec_number-count
+slice_bounds-dec_number-count c = (address_is c.args.part.now c.requires).long
 
-pub number-requires-clause-digits : goal.number-requires-clause-digits
-number-requires-clause-digits c = all_decimal (address_digits c.args.part.now) (address_is c.args.part.now c.requires).digits
+pub unwrap-requires : goal.unwrap-requires
+unwrap-requires c = rw (c.dec_number.ensures, address_number c.args.part.now c.requires) refl
 
-pub number-requires-clause-fits : goal.number-requires-clause-fits
-number-requires-clause-fits c = omega (arith, ten_fits (length (address_digits c.args.part.now)) (address_is c.args.part.now c.requires).short)
+pub returns : goal.returns
+returns c =
+    let same = sym c.unwrap.ensures ∙ c.dec_number.ensures ∙ address_number c.args.part.now c.requires in
+    ap (λ o. unwrap_or o 0) same

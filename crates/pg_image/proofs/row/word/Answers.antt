@@ -1,17 +1,11 @@
-use Rattle.std.proofs.Common.{◌≡◌, ◌^◌, length, ap, ◌∙◌, arith}
-use Rattle.pg_image.proofs.Words.{word_is, all_hex, sixteen_fits, word_holds}
+use Rattle.std.proofs.Common.{unwrap_or, ap, sym, ◌∙◌, refl}
+use Rattle.pg_image.proofs.Words.{word_number}
 use Rattle.pg_image.proofs.row.word.Goals as goal
 
-pub number-requires-clause-digits : goal.number-requires-clause-digits
-number-requires-clause-digits c = all_hex c.args.part.now (word_is c.args.w c.args.part.now c.requires.word).digits
+pub unwrap-requires : goal.unwrap-requires
+unwrap-requires c = rw (c.hex_word_of.ensures.value, word_number c.args.w c.args.part.now c.requires.word) refl
 
-pub number-requires-clause-fits : goal.number-requires-clause-fits
-number-requires-clause-fits c =
-    let len = (word_is c.args.w c.args.part.now c.requires.word).len in
-    omega (arith, sixteen_fits (length c.args.part.now) (omega (arith, len, c.requires.most)))
-
-pub returns-clause-fits : goal.returns-clause-fits
-returns-clause-fits c =
-    let len = (word_is c.args.w c.args.part.now c.requires.word).len in
-    let e : 16 ^ length c.args.part.now ≡ 2 ^ c.args.w = ap (λ k. 16 ^ k) len ∙ word_holds c.args.w c.requires.bytes in
-    omega (arith, e, c.number.ensures.below)
+pub returns-clause-value : goal.returns-clause-value
+returns-clause-value c =
+    let same = sym c.unwrap.ensures ∙ c.hex_word_of.ensures.value ∙ word_number c.args.w c.args.part.now c.requires.word in
+    ap (λ o. unwrap_or o 0) same
