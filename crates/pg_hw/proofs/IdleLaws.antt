@@ -9,10 +9,10 @@ use Rattle.pg_word.specs.declared.cause.Cause.TheVariants.{Memory, NoPattern}
 use Rattle.pg_word.specs.Psw.{cause_number, packed_trap, unpacked, window_len_of}
 use Rattle.pg_ast.specs.declared.tree.Instr.{Instr}
 use Rattle.pg_ast.specs.declared.tree.Desc.{Desc}
-use Rattle.pg_type.specs.Patterns.{matching}
-use Rattle.pg_type.specs.States.{State, shape_of, window, window_length}
-use Rattle.pg_type.specs.Steps.{Ending, ByMemTrap, ByNoPattern, ending, left_by, trapped, step, steps, ends_in_trap}
-use Rattle.pg_type.proofs.StepSound.{window-length}
+use Rattle.pg_meaning.specs.Patterns.{matching}
+use Rattle.pg_meaning.specs.States.{State, shape_of, window, window_length}
+use Rattle.pg_meaning.specs.Steps.{Ending, ByMemTrap, ByNoPattern, ending, left_by, trapped, step, steps, ends_in_trap}
+use Rattle.pg_valid.proofs.StepSound.{window-length}
 use Rattle.pg_hw.specs.Tallies.{raised_by}
 use Rattle.pg_hw.specs.Bursts.{is_user, one_if, traps, untrapped_at, untrapped_among, burst_length, BottomRises}
 use Rattle.pg_hw.specs.Idling.{cause_where}

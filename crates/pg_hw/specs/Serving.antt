@@ -3,7 +3,7 @@ use Rattle.std.specs.Prelude.{ℕ, ◌^◌, ◌<◌, replicate}
 use Rattle.pg_word.specs.declared.psw.Psw.{Psw}
 use Rattle.pg_word.specs.Psw.{IsPsw, power_on_psw}
 use Rattle.pg_ast.specs.declared.tree.Desc.{Desc}
-use Rattle.pg_type.specs.States.{State}
+use Rattle.pg_meaning.specs.States.{State}
 
 -- the same machines may be run
 pub record SameServed (old new : Desc → Type 0) : Type 0 where

@@ -9,7 +9,7 @@
 //! off it afterwards. A count stands still at `2^64 - 1`. Only `install` takes memory, so no other call can be refused.
 
 use super::counts::Counts;
-use pg_type::Machine;
+use pg_valid::Machine;
 use pg_word::Psw;
 use std::alloc::AllocError;
 
@@ -20,8 +20,8 @@ use std::alloc::AllocError;
 pub trait Hardware {
     ghost use Rattle.std.specs.Prelude.{◌≡◌, ℕ, ◌≤◌, ◌<◌, length, slice_get, OnOk, OnErr};
     ghost use Rattle.pg_ast.specs.declared.tree.Desc.{Desc};
-    ghost use Rattle.pg_type.specs.States.{IsState};
-    ghost use Rattle.pg_type.specs.Steps.{step as stepped, steps as stepped_often};
+    ghost use Rattle.pg_meaning.specs.States.{IsState};
+    ghost use Rattle.pg_meaning.specs.Steps.{step as stepped, steps as stepped_often};
     ghost use Rattle.pg_hw.specs.Tallies.{after_steps};
     ghost use Rattle.pg_hw.specs.Machinery.{Machinery, poked_at, loaded_with};
     ghost use Rattle.pg_hw.specs.Bursts.{untrapped_at, untrapped_among, burst_length, BottomRises};

@@ -12,7 +12,7 @@ ghost use Rattle.pg_hw.specs.Idling.{cause_where};
 use super::counts::Counts;
 use super::hardware::Hardware;
 use super::parts::{raised, trap};
-use pg_type::Machine;
+use pg_valid::Machine;
 use pg_word::{Cause, Psw, window_len};
 use std::alloc::{AllocError, Global};
 

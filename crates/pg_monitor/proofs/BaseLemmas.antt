@@ -4,9 +4,9 @@ use Rattle.std.proofs.lemmas.List.{length-replicate, drop_at, take_all}
 use Rattle.std.proofs.lemmas.List.Elements.{All-append, All-replicate}
 use Rattle.std.proofs.lemmas.Nat.{pow_pos}
 use Rattle.pg_ast.specs.declared.tree.Desc.{Desc}
-use Rattle.pg_type.specs.States.{State, IsState, window}
-use Rattle.pg_type.specs.Steps.{ending, ends_in_trap}
-use Rattle.pg_type.specs.Valid.{IsValid}
+use Rattle.pg_meaning.specs.States.{State, IsState, window}
+use Rattle.pg_meaning.specs.Steps.{ending, ends_in_trap}
+use Rattle.pg_valid.specs.Valid.{IsValid}
 use Rattle.pg_type.specs.Accepting.{IsAccepted}
 use Rattle.pg_type.proofs.AlikeSteps.{traps_alike}
 use Rattle.pg_routine.specs.Composing.{composed}

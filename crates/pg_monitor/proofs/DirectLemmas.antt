@@ -8,14 +8,14 @@ use Rattle.pg_word.specs.declared.psw.Mode.TheVariants.{U}
 use Rattle.pg_word.specs.Psw.{IsPsw, packed, packed_trap, power_on_psw, unpacked, window_len_of}
 use Rattle.pg_word.proofs.Words.{unpacked_packed, unpacked_packed_trap}
 use Rattle.pg_ast.specs.declared.tree.Desc.{Desc}
-use Rattle.pg_type.specs.Bodies.{After}
-use Rattle.pg_type.specs.States.{State, IsState, shape_of, window, put_back}
-use Rattle.pg_type.specs.Steps.{Ending, ByMemTrap, ByTrap, ByNoPattern, Done, ending, left_by, trapped, step, ends_in_trap}
-use Rattle.pg_type.specs.Valid.{IsValid}
+use Rattle.pg_meaning.specs.Bodies.{After}
+use Rattle.pg_meaning.specs.States.{State, IsState, shape_of, window, put_back}
+use Rattle.pg_meaning.specs.Steps.{Ending, ByMemTrap, ByTrap, ByNoPattern, Done, ending, left_by, trapped, step, ends_in_trap}
+use Rattle.pg_valid.specs.Valid.{IsValid}
 use Rattle.pg_type.specs.Accepting.{IsAccepted}
 use Rattle.pg_type.specs.Alike.{LookAlike}
-use Rattle.pg_type.proofs.ValidFacts.{IsShape-of_valid}
-use Rattle.pg_type.proofs.StepSound.{AfterFits, OnDone, ending-sound, window-length, window-words, put_back-length}
+use Rattle.pg_valid.proofs.ValidFacts.{IsShape-of_valid}
+use Rattle.pg_valid.proofs.StepSound.{AfterFits, OnDone, ending-sound, window-length, window-words, put_back-length}
 use Rattle.pg_type.proofs.AlikeSteps.{steps_alike}
 use Rattle.pg_hw.specs.Bursts.{traps}
 use Rattle.pg_routine.specs.Composing.{composed}

@@ -7,11 +7,11 @@ use Rattle.std.proofs.lemmas.List.Elements.{All-nil, All-cons, All-head, All-tai
 use Rattle.std.proofs.lemmas.Option.{slice_get-map, slice_get_cases, slice_get-get_or, slice_get_within, get_or_from_slice_get}
 use Rattle.pg_word.specs.declared.psw.Psw.{Psw}
 use Rattle.pg_ast.specs.declared.tree.Desc.{Desc}
-use Rattle.pg_type.specs.States.{State, IsState}
-use Rattle.pg_type.specs.Steps.{step, steps}
-use Rattle.pg_type.specs.Valid.{IsValid}
+use Rattle.pg_meaning.specs.States.{State, IsState}
+use Rattle.pg_meaning.specs.Steps.{step, steps}
+use Rattle.pg_valid.specs.Valid.{IsValid}
 use Rattle.pg_type.specs.Accepting.{IsAccepted}
-use Rattle.pg_type.proofs.StepSound.{steps-state}
+use Rattle.pg_valid.proofs.StepSound.{steps-state}
 use Rattle.pg_hw.specs.declared.counts.Counts.{Counts}
 use Rattle.pg_hw.specs.Tallies.{Bottom, raised_by}
 use Rattle.pg_hw.specs.Machinery.{Machinery}

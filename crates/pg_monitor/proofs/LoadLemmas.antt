@@ -8,12 +8,12 @@ use Rattle.pg_word.specs.declared.psw.Psw.{Psw}
 use Rattle.pg_word.specs.Psw.{IsPsw, packed, power_on_psw}
 use Rattle.pg_word.specs.Shape.{bits_above}
 use Rattle.pg_ast.specs.declared.tree.Desc.{Desc}
-use Rattle.pg_type.specs.declared.machine.Machine.{Machine}
-use Rattle.pg_type.specs.States.{State, IsState, shape_of}
-use Rattle.pg_type.specs.Steps.{power_on}
-use Rattle.pg_type.specs.Valid.{IsValid}
-use Rattle.pg_type.proofs.StepSound.{power_on-state}
-use Rattle.pg_type.proofs.ValidFacts.{IsShape-of_valid}
+use Rattle.pg_valid.specs.declared.machine.Machine.{Machine}
+use Rattle.pg_meaning.specs.States.{State, IsState, shape_of}
+use Rattle.pg_meaning.specs.Steps.{power_on}
+use Rattle.pg_valid.specs.Valid.{IsValid}
+use Rattle.pg_valid.proofs.StepSound.{power_on-state}
+use Rattle.pg_valid.proofs.ValidFacts.{IsShape-of_valid}
 use Rattle.pg_hw.specs.Tallies.{after_poke}
 use Rattle.pg_hw.specs.Machinery.{Machinery, poked_at}
 use Rattle.pg_hw.specs.Running.{after_pokes}

@@ -7,11 +7,11 @@ use Rattle.std.proofs.lemmas.List.Elements.{All-nil, All-cons, All-head, All-tai
 use Rattle.std.proofs.lemmas.Option.{slice_get-get_or, slice_get_past, slice_get_cases}
 use Rattle.pg_word.specs.declared.psw.Psw.{Psw}
 use Rattle.pg_ast.specs.declared.tree.Desc.{Desc}
-use Rattle.pg_type.specs.States.{State}
-use Rattle.pg_type.specs.Steps.{steps}
-use Rattle.pg_type.specs.Valid.{IsValid}
-use Rattle.pg_type.proofs.StepLaws.{steps-add}
-use Rattle.pg_type.proofs.StepSound.{steps-length}
+use Rattle.pg_meaning.specs.States.{State}
+use Rattle.pg_meaning.specs.Steps.{steps}
+use Rattle.pg_valid.specs.Valid.{IsValid}
+use Rattle.pg_meaning.proofs.StepLaws.{steps-add}
+use Rattle.pg_valid.proofs.StepSound.{steps-length}
 use Rattle.pg_hw.specs.Machinery.{Machinery}
 use Rattle.pg_routine.specs.Composing.{composed}
 use Rattle.pg_routine.specs.Granting.{with_grant}

@@ -5,11 +5,11 @@ use Rattle.pg_word.specs.declared.psw.Mode.{Mode}
 use Rattle.pg_word.specs.declared.psw.Mode.TheVariants.{S, U}
 use Rattle.pg_word.specs.Psw.{packed, power_on_psw}
 use Rattle.pg_ast.specs.declared.tree.Desc.{Desc}
-use Rattle.pg_type.specs.States.{State, IsState}
-use Rattle.pg_type.specs.Steps.{step, steps}
-use Rattle.pg_type.specs.Valid.{IsValid}
+use Rattle.pg_meaning.specs.States.{State, IsState}
+use Rattle.pg_meaning.specs.Steps.{step, steps}
+use Rattle.pg_valid.specs.Valid.{IsValid}
 use Rattle.pg_type.specs.Accepting.{IsAccepted}
-use Rattle.pg_type.proofs.StepSound.{step-state}
+use Rattle.pg_valid.proofs.StepSound.{step-state}
 use Rattle.pg_hw.specs.Bursts.{traps, is_user, one_if, untrapped_at, untrapped_among, supervisor_at, supervisor_among}
 use Rattle.pg_routine.specs.Granting.{guest_at, with_grant}
 use Rattle.pg_routine.proofs.GrantLaws.{with_grant-same}

@@ -9,13 +9,13 @@ use Rattle.pg_word.specs.declared.psw.Psw.{Psw}
 use Rattle.pg_word.specs.declared.psw.Mode.TheVariants.{S, U}
 use Rattle.pg_word.specs.Psw.{IsPsw, packed, power_on_psw, unpacked}
 use Rattle.pg_ast.specs.declared.tree.Desc.{Desc}
-use Rattle.pg_type.specs.States.{State, IsState, shape_of}
-use Rattle.pg_type.specs.Steps.{step, steps}
-use Rattle.pg_type.specs.Valid.{IsValid}
+use Rattle.pg_meaning.specs.States.{State, IsState, shape_of}
+use Rattle.pg_meaning.specs.Steps.{step, steps}
+use Rattle.pg_valid.specs.Valid.{IsValid}
 use Rattle.pg_type.specs.Accepting.{IsAccepted}
-use Rattle.pg_type.proofs.StepLaws.{steps-add}
-use Rattle.pg_type.proofs.StepSound.{step-state, step-length}
-use Rattle.pg_type.proofs.ValidFacts.{IsShape-of_valid}
+use Rattle.pg_meaning.proofs.StepLaws.{steps-add}
+use Rattle.pg_valid.proofs.StepSound.{step-state, step-length}
+use Rattle.pg_valid.proofs.ValidFacts.{IsShape-of_valid}
 use Rattle.pg_hw.specs.declared.counts.Counts.{Counts}
 use Rattle.pg_hw.specs.Tallies.{Bottom, raised_by, after_steps}
 use Rattle.pg_hw.specs.Machinery.{Machinery}

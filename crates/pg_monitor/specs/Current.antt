@@ -3,8 +3,8 @@ use Rattle.std.specs.Prelude.{◌≡◌, ℕ, Bool, false, length, Option, None,
 use Rattle.pg_word.specs.declared.psw.Psw.{Psw}
 use Rattle.pg_word.specs.Psw.{packed, power_on_psw}
 use Rattle.pg_ast.specs.declared.tree.Desc.{Desc}
-use Rattle.pg_type.specs.States.{State, IsState}
-use Rattle.pg_type.specs.Steps.{step, steps}
+use Rattle.pg_meaning.specs.States.{State, IsState}
+use Rattle.pg_meaning.specs.Steps.{step, steps}
 use Rattle.pg_hw.specs.Tallies.{RisesWithin, raised_by}
 use Rattle.pg_hw.specs.Machinery.{Machinery}
 use Rattle.pg_routine.specs.Composing.{composed}

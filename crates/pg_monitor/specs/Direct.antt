@@ -1,8 +1,8 @@
 -- Direct steps: those that the hardware executes for a guest without a trap.
 use Rattle.std.specs.Prelude.{ℕ, zero, suc, ◌+◌, Bool, not, length}
 use Rattle.pg_ast.specs.declared.tree.Desc.{Desc}
-use Rattle.pg_type.specs.States.{State, window}
-use Rattle.pg_type.specs.Steps.{Ending, ending, steps, ends_in_trap}
+use Rattle.pg_meaning.specs.States.{State, window}
+use Rattle.pg_meaning.specs.Steps.{Ending, ending, steps, ends_in_trap}
 use Rattle.pg_hw.specs.Bursts.{one_if}
 use Rattle.pg_routine.specs.Composing.{composed}
 

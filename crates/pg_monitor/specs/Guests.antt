@@ -1,6 +1,6 @@
 -- Guests: each has a grant of the storage, and a program status word that it believes to be its machine's.
 use Rattle.std.specs.Prelude.{ℕ, ◌+◌, ◌≤◌, ◌⊎◌, List, [], ◌∷◌, map, All}
-use Rattle.pg_type.specs.States.{State}
+use Rattle.pg_meaning.specs.States.{State}
 use Rattle.pg_routine.specs.Granting.{guest_at}
 use Rattle.pg_monitor.specs.declared.guest.Guest.{Guest}
 

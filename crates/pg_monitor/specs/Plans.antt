@@ -2,7 +2,7 @@
 use Rattle.std.specs.Prelude.{◌≡◌, ℕ, ◌+◌, ◌<◌, ◌≤◌, ◌⊎◌, ◌==◌, if◌then◌else◌, List, [], ◌∷◌, All, Option, None, Some, slice_get, slice_index}
 use Rattle.pg_word.specs.declared.psw.Psw.{Psw}
 use Rattle.pg_ast.specs.declared.tree.Desc.{Desc}
-use Rattle.pg_type.specs.States.{State}
+use Rattle.pg_meaning.specs.States.{State}
 use Rattle.pg_hw.specs.Machinery.{Machinery}
 use Rattle.pg_monitor.specs.declared.guest.Guest.{Guest}
 use Rattle.pg_monitor.specs.Guests.{virtuals}

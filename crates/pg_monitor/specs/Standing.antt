@@ -2,7 +2,7 @@
 use Rattle.std.specs.Prelude.{◌≡◌, ℕ, List, length, All, Option, None, Some, IsSomeAnd, slice_get}
 use Rattle.pg_word.specs.Psw.{packed, power_on_psw}
 use Rattle.pg_ast.specs.declared.tree.Desc.{Desc}
-use Rattle.pg_type.specs.States.{State, IsState}
+use Rattle.pg_meaning.specs.States.{State, IsState}
 use Rattle.pg_routine.specs.Composing.{composed}
 use Rattle.pg_monitor.specs.declared.guest.Guest.{Guest}
 use Rattle.pg_monitor.specs.Guests.{virtuals, IsGrant, AreDisjoint}

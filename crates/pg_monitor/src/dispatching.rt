@@ -5,7 +5,7 @@
 
 ghost use Rattle.std.specs.Prelude.{◌≡◌, ℕ, ◌<◌, length, All, Some, slice_get, true};
 ghost use Rattle.std.specs.Option.{option_map};
-ghost use Rattle.pg_type.specs.Steps.{step, steps};
+ghost use Rattle.pg_meaning.specs.Steps.{step, steps};
 ghost use Rattle.pg_hw.specs.Bursts.{traps};
 ghost use Rattle.pg_hw.specs.Serving.{SameServed};
 ghost use Rattle.pg_hw.specs.Tallies.{raised_by};

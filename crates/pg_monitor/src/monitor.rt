@@ -2,8 +2,8 @@
 
 ghost use Rattle.std.specs.Prelude.{◌≡◌, ℕ, ◌+◌, ◌<◌, ◌≤◌, ◌^◌, [], ◌∷◌, ◌++◌, length, All, None, Some, IsSomeAnd, IsSome, OnOk, OnErr, IfOk, IfErr, slice_get, slice_set, true};
 ghost use Rattle.pg_word.specs.Psw.{packed, power_on_psw};
-ghost use Rattle.pg_type.specs.States.{State, IsState};
-ghost use Rattle.pg_type.specs.Steps.{power_on};
+ghost use Rattle.pg_meaning.specs.States.{State, IsState};
+ghost use Rattle.pg_meaning.specs.Steps.{power_on};
 ghost use Rattle.pg_hw.specs.Machinery.{poked_at};
 ghost use Rattle.pg_hw.specs.Serving.{SameServed};
 ghost use Rattle.pg_monitor.specs.Guests.{kept_cells, virtuals};

@@ -9,7 +9,7 @@
 
 ghost use Rattle.std.specs.Prelude.{◌≡◌, ◌+◌, ◌<◌, ◌≤◌, ◌^◌, true};
 ghost use Rattle.pg_type.specs.Accepting.{IsAccepted};
-ghost use Rattle.pg_type.specs.Steps.{step};
+ghost use Rattle.pg_meaning.specs.Steps.{step};
 ghost use Rattle.pg_hw.specs.Bursts.{traps};
 ghost use Rattle.pg_hw.specs.Serving.{SameServed, IsServedPsw};
 ghost use Rattle.pg_hw.specs.Machinery.{loaded_with};
@@ -21,7 +21,7 @@ ghost use Rattle.pg_monitor.specs.Current.{Holds, Runs, Interpreted, Went};
 use crate::guest::Guest;
 use pg_hw::Hardware;
 use pg_routine::{compose, emulate_told};
-use pg_type::Machine;
+use pg_valid::Machine;
 use pg_word::{Mode, unpack};
 
 /// Enters a guest: loads the program status word that is composed of its virtual one.

@@ -1,8 +1,8 @@
 -- The texts of refusals and of usage: what is put where a command is refused. Every line ends with LF; numbers are decimal.
 use Rattle.std.specs.Prelude.{ℕ, List, [], ◌∷◌, ◌++◌, take, codes}
 use Rattle.std.specs.Fmt.{decimal}
-use Rattle.pg_type.specs.declared.fault.Limit.{Limit as Limits}
-use Rattle.pg_type.specs.declared.fault.Limit.TheVariants.{Instructions, Accesses, Lets, Statements, Expressions}
+use Rattle.pg_valid.specs.declared.fault.Limit.{Limit as Limits}
+use Rattle.pg_valid.specs.declared.fault.Limit.TheVariants.{Instructions, Accesses, Lets, Statements, Expressions}
 use Rattle.pg_report.specs.declared.line.RefusalLine.{RefusalLine}
 use Rattle.pg_report.specs.declared.line.RefusalLine.TheVariants.{Description, Image, Room, Open}
 use Rattle.pg_report.specs.declared.line.DescriptionLine.{DescriptionLine}

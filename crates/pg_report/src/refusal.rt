@@ -13,7 +13,7 @@ use crate::line::{DescriptionLine, ImageLine, RefusalLine};
 use crate::push::{push, push_at, push_name, push_pair};
 use pg_edge::{Failed, Sink};
 use pg_image::Line;
-use pg_type::Limit;
+use pg_valid::Limit;
 
 /// Puts the line that says why a command is refused. The cost is that of one line.
 ///

@@ -8,7 +8,7 @@ use crate::{
 };
 use pg_edge::{Failed, MemSink};
 use pg_hw::{Hardware, Idle};
-use pg_type::Limit;
+use pg_valid::Limit;
 use pg_word::{Mode, Psw, Shape};
 use sqlite_items::Items;
 use std::alloc::{AllocError, Global};

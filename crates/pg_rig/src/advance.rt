@@ -2,15 +2,15 @@
 
 ghost use Rattle.std.specs.Prelude.{◌≡◌, ◌+◌, ◌<◌, length, All, true};
 ghost use Rattle.pg_word.specs.Psw.{cause_number};
-ghost use Rattle.pg_type.specs.States.{IsState};
-ghost use Rattle.pg_type.specs.Steps.{step, trapped};
+ghost use Rattle.pg_meaning.specs.States.{IsState};
+ghost use Rattle.pg_meaning.specs.Steps.{step, trapped};
 ghost use Rattle.pg_hw.specs.Bursts.{traps};
 ghost use Rattle.pg_rig.specs.Storing.{at_psw, stored};
 
 use crate::window::window_of;
 use pg_hw::trap;
 use pg_interp::{Outcome, Write, execute};
-use pg_type::Machine;
+use pg_valid::Machine;
 use pg_word::{Cause, Psw};
 
 /// What a step leaves beside its stores.

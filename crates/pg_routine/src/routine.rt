@@ -2,8 +2,8 @@
 
 ghost use Rattle.std.specs.Prelude.{◌≡◌, ◌+◌, ◌<◌, ◌≤◌, ◌^◌, length, take, drop, All, true};
 ghost use Rattle.pg_word.specs.Psw.{cause_number};
-ghost use Rattle.pg_type.specs.States.{IsState};
-ghost use Rattle.pg_type.specs.Steps.{step, trapped};
+ghost use Rattle.pg_meaning.specs.States.{IsState};
+ghost use Rattle.pg_meaning.specs.Steps.{step, trapped};
 ghost use Rattle.pg_hw.specs.Bursts.{traps};
 ghost use Rattle.pg_hw.specs.Serving.{SameServed, IsServedWord};
 ghost use Rattle.pg_interp.specs.Writes.{written};
@@ -12,7 +12,7 @@ ghost use Rattle.pg_routine.specs.Granting.{guest_at, GrantPoked};
 use crate::window::{Span, Window, span_of};
 use pg_hw::Hardware;
 use pg_interp::{Outcome, Write, execute};
-use pg_type::Machine;
+use pg_valid::Machine;
 use pg_word::{Cause, Psw, pack_trap, unpack};
 
 /// One step of a guest's machine.

@@ -7,11 +7,11 @@ use Rattle.std.proofs.lemmas.List.Quantifiers.{position-Some}
 use Rattle.pg_ast.specs.declared.tree.Instr.{Instr}
 use Rattle.pg_ast.specs.declared.tree.Desc.{Desc}
 use Rattle.pg_type.specs.Plain.{is_plain, first_breach}
-use Rattle.pg_type.specs.States.{State, IsState}
-use Rattle.pg_type.specs.Steps.{steps, power_on, bare}
-use Rattle.pg_type.specs.Valid.{IsValid}
-use Rattle.pg_type.proofs.ValidFacts.{IsShape-of_valid}
-use Rattle.pg_type.proofs.StepSound.{power_on-state}
+use Rattle.pg_meaning.specs.States.{State, IsState}
+use Rattle.pg_meaning.specs.Steps.{steps, power_on, bare}
+use Rattle.pg_valid.specs.Valid.{IsValid}
+use Rattle.pg_valid.proofs.ValidFacts.{IsShape-of_valid}
+use Rattle.pg_valid.proofs.StepSound.{power_on-state}
 use Rattle.pg_hw.specs.Serving.{blank}
 use Rattle.pg_type.specs.Accepting.{IsAccepted}
 use Rattle.pg_hw.specs.declared.counts.Counts.{Counts}

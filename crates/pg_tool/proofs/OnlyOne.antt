@@ -3,9 +3,9 @@ use Rattle.std.specs.Prelude.{option_and_then, slice_get}
 use Rattle.std.proofs.Common.{◌≡◌, ◌≢◌, ℕ, ◌-◌, ◌<◌, ◌≤◌, cond, nat_lt, List, length, Option, Some, None, IsSomeAnd, Result, Ok, Err, inl, inr, sym, ◌∙◌, ap}
 use Rattle.std.proofs.lemmas.Bool.{lt-ltb, le-ltb}
 use Rattle.pg_ast.specs.declared.tree.Desc.{Desc}
-use Rattle.pg_type.specs.declared.fault.TypeFault.{TypeFault}
-use Rattle.pg_type.specs.Valid.{fault_of}
-use Rattle.pg_type.proofs.FaultLemmas.{no_fault}
+use Rattle.pg_valid.specs.declared.fault.TypeFault.{TypeFault}
+use Rattle.pg_valid.specs.Valid.{fault_of}
+use Rattle.pg_valid.proofs.FaultLemmas.{no_fault}
 use Rattle.pg_edge.specs.Shelf.{Files}
 use Rattle.pg_command.specs.Asked.{Asked, AsksBare, AsksRun, AsksPrint, AskedRun, AskedPrint, request_of}
 use Rattle.pg_read.specs.declared.fault.DescFault.{DescFault}
@@ -23,7 +23,7 @@ use Rattle.pg_tool.specs.declared.refusal.Refusal.{Refusal}
 use Rattle.pg_tool.specs.declared.refusal.Refusal.TheVariants.{Words, Missing, Line}
 use Rattle.pg_tool.specs.Steps.{Step, Then}
 use Rattle.pg_tool.specs.Reads.{ReadsAs, IsInvalid, TextDue, told_of_reading, told_of_type, told_of_image, BytesDue}
-use Rattle.pg_type.specs.Twice.{instr_names}
+use Rattle.pg_valid.specs.Twice.{instr_names}
 use Rattle.pg_type.specs.Plain.{first_breach}
 use Rattle.pg_tool.specs.Work.{Work, RunsBare, RunsGuest, Prints}
 use Rattle.pg_tool.specs.Due.{RequestDue, ComesToText, DescDue, RoomDue, ComesToImage, ImageDue, RunDue, BareDue, RuleDue, RunsDue, PrintDue, CommandDue, Due}

@@ -4,10 +4,10 @@ use Rattle.std.proofs.lemmas.List.{length-append, length-replicate, take_all}
 use Rattle.pg_word.specs.declared.psw.Psw.{Psw}
 use Rattle.pg_word.specs.declared.shape.Shape.{Shape}
 use Rattle.pg_ast.specs.declared.tree.Desc.{Desc}
-use Rattle.pg_type.specs.States.{State, IsState, shape_of}
-use Rattle.pg_type.specs.Steps.{steps, power_on, bare}
-use Rattle.pg_type.specs.Valid.{IsValid}
-use Rattle.pg_type.proofs.StepSound.{steps-state, steps-length, power_on-state}
+use Rattle.pg_meaning.specs.States.{State, IsState, shape_of}
+use Rattle.pg_meaning.specs.Steps.{steps, power_on, bare}
+use Rattle.pg_valid.specs.Valid.{IsValid}
+use Rattle.pg_valid.proofs.StepSound.{steps-state, steps-length, power_on-state}
 use Rattle.pg_hw.specs.declared.counts.Counts.{Counts}
 use Rattle.pg_hw.specs.Tallies.{Bottom, raised_by, after_load}
 use Rattle.pg_hw.specs.Bursts.{one_if, untrapped_among, untrapped_at, BottomRises}

@@ -2,7 +2,7 @@
 use Rattle.std.specs.Prelude.{◌≡◌, ℕ, ◌-◌, ◌<◌, ◌≤◌, List, length, slice_get, option_and_then, Option, None, Some, Result, Ok, Err}
 use Rattle.pg_ast.specs.declared.tree.Desc.{Desc}
 use Rattle.pg_edge.specs.Shelf.{Files, HoldsFile, LacksFile, HoldsLonger}
-use Rattle.pg_type.specs.Twice.{instr_names}
+use Rattle.pg_valid.specs.Twice.{instr_names}
 use Rattle.pg_type.specs.Plain.{first_breach}
 use Rattle.pg_command.specs.Asked.{Asked, AsksBare, AsksRun, AsksPrint, AskedRun, AskedPrint, request_of}
 use Rattle.pg_report.specs.declared.line.RefusalLine.TheVariants.{Description, Image, Room, Open}

@@ -1,7 +1,7 @@
 -- What a command leaves: of the sink, of the files, of the hardware.
 use Rattle.std.specs.Prelude.{◌≡◌, ℕ, ◌+◌, ◌-◌, ◌*◌, ◌≤◌, ◌⊎◌, List, length, take, drop, slice_get, Option, None, Some, Result, Ok, Err}
-use Rattle.pg_type.specs.States.{State}
-use Rattle.pg_type.specs.Steps.{power_on}
+use Rattle.pg_meaning.specs.States.{State}
+use Rattle.pg_meaning.specs.Steps.{power_on}
 use Rattle.pg_type.specs.Accepting.{IsAccepted}
 use Rattle.pg_word.specs.Psw.{packed}
 use Rattle.pg_edge.specs.Count.{Rose}

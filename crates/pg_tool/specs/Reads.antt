@@ -3,9 +3,9 @@ use Rattle.std.specs.Prelude.{◌≡◌, ℕ, List, length, Option, None, Some, 
 use Rattle.pg_text.specs.Cutting.{cut, tokens_in}
 use Rattle.pg_ast.specs.declared.tree.Desc.{Desc}
 use Rattle.pg_ast.specs.Tokens.{tokens_of}
-use Rattle.pg_type.specs.declared.fault.TypeFault.{TypeFault}
-use Rattle.pg_type.specs.declared.fault.TypeFault.TheVariants as type_fault
-use Rattle.pg_type.specs.Valid.{IsValid, fault_of}
+use Rattle.pg_valid.specs.declared.fault.TypeFault.{TypeFault}
+use Rattle.pg_valid.specs.declared.fault.TypeFault.TheVariants as type_fault
+use Rattle.pg_valid.specs.Valid.{IsValid, fault_of}
 use Rattle.pg_read.specs.declared.fault.DescFault.{DescFault}
 use Rattle.pg_read.specs.declared.fault.DescFault.TheVariants as read_fault
 use Rattle.pg_read.specs.Answer.{IsFaultAt, IsGrammarAt, IsTooDeepAt}

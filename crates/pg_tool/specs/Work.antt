@@ -1,8 +1,8 @@
 -- What a command comes to where nothing refuses it, and what is told of it.
 use Rattle.std.specs.Prelude.{ℕ, List, [], ◌∷◌, Result, Ok, Err}
 use Rattle.pg_ast.specs.declared.tree.Desc.{Desc}
-use Rattle.pg_type.specs.States.{State}
-use Rattle.pg_type.specs.Steps.{power_on, bare}
+use Rattle.pg_meaning.specs.States.{State}
+use Rattle.pg_meaning.specs.Steps.{power_on, bare}
 use Rattle.pg_image.specs.Lines.{state_text}
 use Rattle.pg_print.specs.Layout.{printed}
 use Rattle.pg_report.specs.declared.line.RefusalLine.TheVariants.{Description, Image, Room, Open}

@@ -9,7 +9,7 @@ ghost use Rattle.pg_tool.specs.Reads.{TextDue, told_of_reading, told_of_type};
 
 use pg_read::{DescFault, read_desc};
 use pg_report::DescriptionLine;
-use pg_type::{Machine, TypeFault, check};
+use pg_valid::{Machine, TypeFault, check};
 use std::alloc::Global;
 
 /// The machine that the bytes describe, or why they describe none; `None` where memory was refused.

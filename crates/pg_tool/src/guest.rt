@@ -8,8 +8,8 @@
 
 ghost use Rattle.std.specs.Prelude.{◌≡◌, ◌∷◌, [], None, ◌≤◌, length, take, drop, IfOk, OnOk, OnErr};
 ghost use Rattle.pg_ast.specs.declared.tree.Desc.{Desc};
-ghost use Rattle.pg_type.specs.States.{IsState};
-ghost use Rattle.pg_type.specs.Steps.{power_on};
+ghost use Rattle.pg_meaning.specs.States.{IsState};
+ghost use Rattle.pg_meaning.specs.Steps.{power_on};
 ghost use Rattle.pg_hw.specs.Tallies.{after_poke};
 ghost use Rattle.pg_hw.specs.Serving.{SameServed};
 ghost use Rattle.pg_edge.specs.Sink.{Puts};

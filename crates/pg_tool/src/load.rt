@@ -19,7 +19,7 @@ use crate::refusal::{Refusal, Stop};
 use pg_edge::{LoadFault, Shelf};
 use pg_image::Image;
 use pg_report::{DescriptionLine, ImageLine, RefusalLine};
-use pg_type::Machine;
+use pg_valid::Machine;
 use pg_word::Shape;
 use std::alloc::Global;
 

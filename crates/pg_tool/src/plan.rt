@@ -11,7 +11,7 @@ ghost use Rattle.pg_type.specs.Plain.{first_breach};
 ghost use Rattle.pg_tool.specs.Runs.{CanRun};
 
 use pg_image::Image;
-use pg_type::Machine;
+use pg_valid::Machine;
 
 /// A run of a bare machine.
 #[derive(Drop)]

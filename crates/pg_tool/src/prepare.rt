@@ -19,7 +19,8 @@ use pg_command::{Fault, PrintWords, Request, RunWords, request};
 use pg_edge::Shelf;
 use pg_print::print;
 use pg_report::RefusalLine;
-use pg_type::{Machine, plain};
+use pg_type::plain;
+use pg_valid::Machine;
 use sqlite_items::Items;
 use std::alloc::Global;
 

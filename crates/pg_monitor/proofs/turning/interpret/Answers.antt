@@ -1,6 +1,6 @@
 use Rattle.std.proofs.Common.{sym, subst}
 use Rattle.pg_word.specs.Psw.{IsPsw}
-use Rattle.pg_type.proofs.StepSound.{step-state}
+use Rattle.pg_valid.proofs.StepSound.{step-state}
 use Rattle.pg_hw.proofs.ServingLaws.{IsServedPsw-of}
 use Rattle.pg_monitor.proofs.WentLemmas.{composed-fits}
 use Rattle.pg_monitor.proofs.turning.interpret.Goals as goal

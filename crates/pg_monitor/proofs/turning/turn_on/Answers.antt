@@ -1,7 +1,7 @@
 use Rattle.std.proofs.Common.{ap, sym, ◌∙◌, subst, arith}
 use Rattle.pg_word.specs.declared.psw.Psw.{Psw}
-use Rattle.pg_type.specs.States.{State, IsState}
-use Rattle.pg_type.proofs.StepSound.{steps-state}
+use Rattle.pg_meaning.specs.States.{State, IsState}
+use Rattle.pg_valid.proofs.StepSound.{steps-state}
 use Rattle.pg_hw.proofs.BurstLaws.{burst_length-most, burst_length-some}
 use Rattle.pg_monitor.specs.Current.{with_psw}
 use Rattle.pg_monitor.proofs.WentLemmas.{Directly-burst, Stopped-burst, Stopped, Halted-of, Went-direct, Went-halted, entry-read}

@@ -1,6 +1,6 @@
 use Rattle.std.proofs.Common.{ap, sym, ◌∙◌, lit<}
 use Rattle.pg_word.specs.declared.psw.Psw.{Psw}
-use Rattle.pg_type.specs.States.{State}
+use Rattle.pg_meaning.specs.States.{State}
 use Rattle.pg_hw.specs.Bursts.{traps}
 use Rattle.pg_monitor.specs.Current.{with_psw}
 use Rattle.pg_monitor.proofs.DirectLemmas.{DirectStep-of}

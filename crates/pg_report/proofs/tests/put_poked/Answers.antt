@@ -2,7 +2,7 @@ use Rattle.std.proofs.Common.{◌≡◌, ℕ, ◌<◌, ◌^◌, List, [], false,
 use Rattle.std.specs.Prelude.{replicate}
 use Rattle.std.proofs.lemmas.List.Elements.{All-take, All-drop, All-replicate, All-set}
 use Rattle.pg_ast.specs.declared.tree.Desc.{Desc}
-use Rattle.pg_type.specs.States.{State}
+use Rattle.pg_meaning.specs.States.{State}
 use Rattle.pg_hw.specs.Serving.{blank}
 use Rattle.pg_report.proofs.tests.put_poked.Goals as goal
 

@@ -1,6 +1,6 @@
 use Rattle.std.proofs.Common.{◌∙◌, ap, take, drop}
-use Rattle.pg_type.specs.States.{State}
-use Rattle.pg_type.specs.Steps.{ByMemTrap, ByTrap, ByNoPattern, Done}
+use Rattle.pg_meaning.specs.States.{State}
+use Rattle.pg_meaning.specs.Steps.{ByMemTrap, ByTrap, ByNoPattern, Done}
 use Rattle.pg_interp.specs.Writes.{written}
 use Rattle.pg_interp.specs.Outcomes.{ending_as}
 use Rattle.pg_routine.proofs.StepLemmas.{seen-words, step-of, traps-of, step-done}

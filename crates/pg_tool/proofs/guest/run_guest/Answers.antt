@@ -1,5 +1,5 @@
 use Rattle.std.proofs.Common.{◌≡◌, length, sym, ◌∙◌, ap, subst, arith}
-use Rattle.pg_type.specs.States.{IsState}
+use Rattle.pg_meaning.specs.States.{IsState}
 use Rattle.pg_hw.specs.Tallies.{after_poke}
 use Rattle.pg_hw.specs.Serving.{blank}
 use Rattle.pg_monitor.specs.Standing.{Stands}

@@ -1,5 +1,5 @@
 use Rattle.std.proofs.Common.{◌≡◌, ◌∷◌, [], ◌∙◌, ap, subst}
-use Rattle.pg_type.specs.declared.machine.Machine.{Machine}
+use Rattle.pg_valid.specs.declared.machine.Machine.{Machine}
 use Rattle.pg_type.proofs.PlainSound.{accepted-without_breach}
 use Rattle.pg_monitor.specs.Monitors.{desc_of}
 use Rattle.pg_monitor.specs.Standing.{Stands}

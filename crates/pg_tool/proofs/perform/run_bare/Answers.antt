@@ -1,6 +1,6 @@
 use Rattle.std.proofs.Common.{◌≡◌, length, sym, ◌∙◌, ap, subst}
-use Rattle.pg_type.specs.States.{IsState}
-use Rattle.pg_type.specs.Steps.{power_on}
+use Rattle.pg_meaning.specs.States.{IsState}
+use Rattle.pg_meaning.specs.Steps.{power_on}
 use Rattle.pg_hw.specs.Tallies.{after_load}
 use Rattle.pg_rig.specs.Running.{after_pokes}
 use Rattle.pg_tool.specs.Plans.{run_as}

@@ -1,5 +1,5 @@
 use Rattle.std.proofs.Common.{◌≡◌, ℕ, List, Ok, Err, sym, ap, subst, arith}
-use Rattle.pg_type.specs.declared.machine.Machine.{Machine}
+use Rattle.pg_valid.specs.declared.machine.Machine.{Machine}
 use Rattle.pg_command.specs.Asked.{run_as}
 use Rattle.pg_report.specs.declared.line.RefusalLine.TheVariants.{Room}
 use Rattle.pg_tool.specs.declared.refusal.Refusal.TheVariants.{Line}

@@ -1,5 +1,5 @@
 use Rattle.std.proofs.Common.{Ok, Err, subst}
-use Rattle.pg_type.specs.declared.machine.Machine.{Machine}
+use Rattle.pg_valid.specs.declared.machine.Machine.{Machine}
 use Rattle.pg_command.specs.Asked.{print_as}
 use Rattle.pg_tool.specs.Due.{DescDue}
 use Rattle.pg_tool.specs.Loads.{Comes}

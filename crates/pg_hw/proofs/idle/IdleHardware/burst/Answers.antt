@@ -1,6 +1,6 @@
 use Rattle.std.proofs.Common.{◌≡◌, ℕ, refl, sym, ◌∙◌, ap, subst, arith}
-use Rattle.pg_type.specs.States.{State}
-use Rattle.pg_type.specs.Steps.{steps}
+use Rattle.pg_meaning.specs.States.{State}
+use Rattle.pg_meaning.specs.Steps.{steps}
 use Rattle.pg_ast.specs.declared.tree.Desc.{Desc}
 use Rattle.pg_hw.specs.Bursts.{burst_length, untrapped_among}
 use Rattle.pg_hw.specs.Tallies.{after_steps}

@@ -1,6 +1,6 @@
 use Rattle.std.proofs.Common.{◌≡◌, drop, length, ◌∙◌, ap}
 use Rattle.std.proofs.lemmas.List.{take_at, length-set}
-use Rattle.pg_type.specs.States.{State}
+use Rattle.pg_meaning.specs.States.{State}
 use Rattle.pg_hw.proofs.TallyLaws.{raised_by-zero}
 use Rattle.pg_hw.proofs.IdleLaws.{step-idle_by, untrapped_at-idle, BottomRises-idle}
 use Rattle.pg_hw.proofs.idle.IdleHardware.step.Goals as goal

@@ -1,5 +1,5 @@
 use Rattle.std.proofs.Common.{ap, ◌∙◌, lit<, slice_set}
-use Rattle.pg_type.specs.declared.machine.Machine.{Machine}
+use Rattle.pg_valid.specs.declared.machine.Machine.{Machine}
 use Rattle.pg_hw.specs.Machinery.{Machinery}
 use Rattle.pg_hw.proofs.ServingLaws.{SameServed-then}
 use Rattle.pg_monitor.proofs.GuestLemmas.{Went-machine, moved-machine, Stands-some, Turned-some, turn-kept}

@@ -1,5 +1,5 @@
 use Rattle.std.proofs.Common.{ap, ◌∙◌, slice_set, arith}
-use Rattle.pg_type.specs.declared.machine.Machine.{Machine}
+use Rattle.pg_valid.specs.declared.machine.Machine.{Machine}
 use Rattle.pg_hw.proofs.ServingLaws.{SameServed-then}
 use Rattle.pg_monitor.proofs.GuestLemmas.{Went-machine, Stands-some, Turned-some, Turned-zero}
 use Rattle.pg_monitor.proofs.monitor.Monitor.turns.Goals as goal

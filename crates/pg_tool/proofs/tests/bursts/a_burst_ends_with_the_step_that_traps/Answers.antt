@@ -1,5 +1,5 @@
 use Rattle.std.proofs.Common.{sym, subst}
-use Rattle.pg_type.specs.States.{IsState}
+use Rattle.pg_meaning.specs.States.{IsState}
 use Rattle.pg_tool.specs.Plans.{run_as}
 use Rattle.pg_tool.proofs.RunLemmas.{reached-state}
 use Rattle.pg_tool.proofs.tests.bursts.a_burst_ends_with_the_step_that_traps.Goals as goal
