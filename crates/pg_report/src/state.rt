@@ -32,10 +32,10 @@ pub fn put_state<S: Sink, H: Hardware>(
     psw: Psw,
 ) -> Result<(), Failed>
     requires shape { IsShape shape.now }
-    requires within { base + size ≤ length (H.state hw.now).cells }
-    requires fit { All (λ word. word < 2 ^ shape.now.w) (span base size (H.state hw.now).cells) }
+    requires within { base + size ≤ length (H.machinery hw.now).state.cells }
+    requires fit { All (λ word. word < 2 ^ shape.now.w) (span base size (H.machinery hw.now).state.cells) }
     ensures { Puts (S.written out.old) (S.written out.new) (S.faults out.old) (S.faults out.new)
-        (state_text shape.now.w (span base size (H.state hw.now).cells) psw) result }
+        (state_text shape.now.w (span base size (H.machinery hw.now).state.cells) psw) result }
 {
     out.put(size_line(size).as_slice())?;
     out.put(psw_line(psw).as_slice())?;
@@ -51,10 +51,10 @@ fn put_lines<S: Sink, H: Hardware>(
     size: u32,
 ) -> Result<(), Failed>
     requires shape { IsShape shape.now }
-    requires within { base + size ≤ length (H.state hw.now).cells }
-    requires fit { All (λ word. word < 2 ^ shape.now.w) (span base size (H.state hw.now).cells) }
+    requires within { base + size ≤ length (H.machinery hw.now).state.cells }
+    requires fit { All (λ word. word < 2 ^ shape.now.w) (span base size (H.machinery hw.now).state.cells) }
     ensures { Puts (S.written out.old) (S.written out.new) (S.faults out.old) (S.faults out.new)
-        (lines_before shape.now.w (line_count size) (span base size (H.state hw.now).cells)) result }
+        (lines_before shape.now.w (line_count size) (span base size (H.machinery hw.now).state.cells)) result }
 {
     // A hardware's size is a `u32`, and so each address below is one.
     let held = hw.size();
@@ -75,12 +75,12 @@ fn put_line<S: Sink, H: Hardware>(
     k: u32,
 ) -> Result<(), Failed>
     requires shape { IsShape shape.now }
-    requires within { base + size ≤ length (H.state hw.now).cells }
+    requires within { base + size ≤ length (H.machinery hw.now).state.cells }
     requires addressable { base + size < 2 ^ 32 }
     requires some { 8 * k < size }
-    requires fit { All (λ word. word < 2 ^ shape.now.w) (span base size (H.state hw.now).cells) }
+    requires fit { All (λ word. word < 2 ^ shape.now.w) (span base size (H.machinery hw.now).state.cells) }
     ensures { Puts (S.written out.old) (S.written out.new) (S.faults out.old) (S.faults out.new)
-        (cells_shown shape.now.w (8 * k) (line_words k (span base size (H.state hw.now).cells))) result }
+        (cells_shown shape.now.w (8 * k) (line_words k (span base size (H.machinery hw.now).state.cells))) result }
 {
     let line = words_of(hw, base, size, k);
     let words = line.as_slice();
@@ -92,10 +92,10 @@ fn put_line<S: Sink, H: Hardware>(
 
 /// The words of the line of this number: eight, or what is left of the cells.
 fn words_of<H: Hardware>(hw: &H, base: u32, size: u32, k: u32) -> ArrayVec<u64, 8>
-    requires within { base + size ≤ length (H.state hw.now).cells }
+    requires within { base + size ≤ length (H.machinery hw.now).state.cells }
     requires addressable { base + size < 2 ^ 32 }
     requires some { 8 * k < size }
-    ensures items { result.items ≡ line_words k (span base size (H.state hw.now).cells) }
+    ensures items { result.items ≡ line_words k (span base size (H.machinery hw.now).state.cells) }
     ensures some { 1 ≤ array_vec_len result }
     ensures eight { array_vec_len result ≤ 8 }
 {
@@ -107,8 +107,8 @@ fn words_of<H: Hardware>(hw: &H, base: u32, size: u32, k: u32) -> ArrayVec<u64, 
 fn words_at<H: Hardware>(hw: &H, base: u32, count: u32) -> ArrayVec<u64, 8>
     requires eight { count ≤ 8 }
     requires addressable { base + count < 2 ^ 32 }
-    requires within { base + count ≤ length (H.state hw.now).cells }
-    ensures items { result.items ≡ span base count (H.state hw.now).cells }
+    requires within { base + count ≤ length (H.machinery hw.now).state.cells }
+    ensures items { result.items ≡ span base count (H.machinery hw.now).state.cells }
     ensures len { array_vec_len result ≡ count }
 {
     let mut words = ArrayVec::new();

@@ -13,14 +13,14 @@ pub loop-k-preserved : goal.loop-k-preserved
 loop-k-preserved g c =
     let w = c.args.shape.now.w in
     let k = c.loop-k.k in
-    let cells = span c.args.base c.args.size (g.H.Hardware.state c.args.hw.now).cells in
+    let cells = span c.args.base c.args.size (g.H.Hardware.machinery c.args.hw.now).state.cells in
     rw (lines_before-next w k cells) (Puts-then _ _ _ _ _ _ (lines_before w k cells) (cells_shown w (8 * k) (line_words k cells)) _ _ c.loop-k.invariant c.in_ok-put_line.ensures)
 
 pub returns-in_err-put_line : goal.returns-in_err-put_line
 returns-in_err-put_line g c =
     let w = c.args.shape.now.w in
     let k = c.loop-k.k in
-    let cells = span c.args.base c.args.size (g.H.Hardware.state c.args.hw.now).cells in
+    let cells = span c.args.base c.args.size (g.H.Hardware.machinery c.args.hw.now).state.cells in
     let line = cells_shown w (8 * k) (line_words k cells) in
     let fault = err_from_is_err_and c.from_residual.result c.from_residual.ensures.1 in
     let rest = lines_before-front w (k + 1) (line_count c.args.size) cells (omega arith) in

@@ -7,4 +7,4 @@ use Rattle.pg_report.proofs.state.put_lines.Given as goal
 
 abbrev pub invariant-loop-k : goal.invariant-loop-k
 invariant-loop-k g l =
-    Puts {T = Unit {0}} {E = Failed} (g.S.Sink.written l.initial.out) (g.S.Sink.written l.out) (g.S.Sink.faults l.initial.out) (g.S.Sink.faults l.out) (lines_before l.shape.w l.k (span l.base l.size (g.H.Hardware.state l.hw).cells)) (Ok tt)
+    Puts {T = Unit {0}} {E = Failed} (g.S.Sink.written l.initial.out) (g.S.Sink.written l.out) (g.S.Sink.faults l.initial.out) (g.S.Sink.faults l.out) (lines_before l.shape.w l.k (span l.base l.size (g.H.Hardware.machinery l.hw).state.cells)) (Ok tt)

@@ -11,7 +11,7 @@ pub returns-in_err-put : goal.returns-in_err-put
 returns-in_err-put g c =
     let size = c.args.size in
     let psw = c.args.psw in
-    let held = (g.H.Hardware.state c.args.hw.now).cells in
+    let held = (g.H.Hardware.machinery c.args.hw.now).state.cells in
     let cells = span c.args.base size held in
     let parts = state_text-parts c.args.shape.now.w size cells psw (length-span c.args.base size held c.requires.within) in
     let rest = psw_text psw ++ lines_before c.args.shape.now.w (line_count size) cells in
@@ -23,7 +23,7 @@ pub returns-in_err-put-2 : goal.returns-in_err-put-2
 returns-in_err-put-2 g c =
     let size = c.args.size in
     let psw = c.args.psw in
-    let held = (g.H.Hardware.state c.args.hw.now).cells in
+    let held = (g.H.Hardware.machinery c.args.hw.now).state.cells in
     let cells = span c.args.base size held in
     let parts = state_text-parts c.args.shape.now.w size cells psw (length-span c.args.base size held c.requires.within) in
     let rest = lines_before c.args.shape.now.w (line_count size) cells in
@@ -37,7 +37,7 @@ pub returns : goal.returns
 returns g c =
     let size = c.args.size in
     let psw = c.args.psw in
-    let held = (g.H.Hardware.state c.args.hw.now).cells in
+    let held = (g.H.Hardware.machinery c.args.hw.now).state.cells in
     let cells = span c.args.base size held in
     let parts = state_text-parts c.args.shape.now.w size cells psw (length-span c.args.base size held c.requires.within) in
     let rest = lines_before c.args.shape.now.w (line_count size) cells in

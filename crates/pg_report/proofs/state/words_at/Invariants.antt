@@ -4,6 +4,6 @@ use Rattle.pg_report.proofs.state.words_at.Given as goal
 
 abbrev pub invariant-loop-i : goal.invariant-loop-i
 invariant-loop-i g l = record {
-  read : l.words.items ≡ span l.base l.i (g.H.Hardware.state l.hw).cells;
+  read : l.words.items ≡ span l.base l.i (g.H.Hardware.machinery l.hw).state.cells;
   len : length l.words.items ≡ l.i;
 }

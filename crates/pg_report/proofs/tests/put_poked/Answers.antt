@@ -2,7 +2,12 @@ use Rattle.std.proofs.Common.{◌≡◌, ℕ, ◌<◌, ◌^◌, List, [], false,
 use Rattle.std.specs.Prelude.{replicate}
 use Rattle.std.proofs.lemmas.List.Elements.{All-take, All-drop, All-replicate, All-set}
 use Rattle.pg_ast.specs.declared.tree.Desc.{Desc}
+<<<<<<< HEAD
 use Rattle.pg_meaning.specs.States.{State}
+=======
+use Rattle.pg_meaning.specs.States.{State}
+use Rattle.pg_hw.specs.Machinery.{Machinery}
+>>>>>>> hw/hw
 use Rattle.pg_hw.specs.Serving.{blank}
 use Rattle.pg_report.proofs.tests.put_poked.Goals as goal
 
@@ -14,7 +19,7 @@ unfolding blank
 zeros s h = ap (λ (t : State). t.cells) h
 
 pub poke-requires-clause-within : goal.poke-requires-clause-within
-poke-requires-clause-within c = rw (zeros _ c.in_ok-install.ensures.installed) (lit< tt)
+poke-requires-clause-within c = rw (zeros _ (ap (λ (h : Machinery). h.state) c.in_ok-install.ensures.installed)) (lit< tt)
 
 pub poke-requires-clause-word : goal.poke-requires-clause-word
 unfolding none
@@ -22,13 +27,13 @@ poke-requires-clause-word c = record { machine = none; served = refl; fits = lit
 
 pub put_state-requires-clause-within : goal.put_state-requires-clause-within
 put_state-requires-clause-within c =
-    let poked = ap (λ (t : State). t.cells) c.poke.ensures.state in
-    rw poked (rw (zeros _ c.in_ok-install.ensures.installed) (lit≤ tt))
+    let poked = ap (λ (h : Machinery). h.state.cells) c.poke.ensures.poked in
+    rw poked (rw (zeros _ (ap (λ (h : Machinery). h.state) c.in_ok-install.ensures.installed)) (lit≤ tt))
 
 pub put_state-requires-clause-fit : goal.put_state-requires-clause-fit
 put_state-requires-clause-fit c =
     let P : ℕ → Type 0 = λ word. word < 2 ^ 32 in
     let Q : List ℕ → Type 0 = λ words. All P words in
-    let empty = subst Q (sym (zeros _ c.in_ok-install.ensures.installed)) (All-replicate P 8 0 (lit< tt)) in
-    let poked = ap (λ (t : State). t.cells) c.poke.ensures.state in
+    let empty = subst Q (sym (zeros _ (ap (λ (h : Machinery). h.state) c.in_ok-install.ensures.installed))) (All-replicate P 8 0 (lit< tt)) in
+    let poked = ap (λ (h : Machinery). h.state.cells) c.poke.ensures.poked in
     All-take P 8 _ (All-drop P 0 _ (subst Q (sym poked) (All-set P _ 2 33554434 (lit< tt) empty)))
