@@ -2,12 +2,8 @@ use Rattle.std.proofs.Common.{◌≡◌, ℕ, ◌<◌, ◌^◌, List, [], false,
 use Rattle.std.specs.Prelude.{replicate}
 use Rattle.std.proofs.lemmas.List.Elements.{All-take, All-drop, All-replicate, All-set}
 use Rattle.pg_ast.specs.declared.tree.Desc.{Desc}
-<<<<<<< HEAD
-use Rattle.pg_meaning.specs.States.{State}
-=======
-use Rattle.pg_meaning.specs.States.{State}
+use Rattle.pg_type.specs.States.{State}
 use Rattle.pg_hw.specs.Machinery.{Machinery}
->>>>>>> hw/hw
 use Rattle.pg_hw.specs.Serving.{blank}
 use Rattle.pg_report.proofs.tests.put_poked.Goals as goal
 
