@@ -10,7 +10,7 @@ use Rattle.std.proofs.lemmas.Bool.Decides.{nat_tests}
 use Rattle.std.proofs.lemmas.Int.Digits.{digits_value-lt}
 use Rattle.pg_text.specs.Cutting.{limited, dec_number}
 use Rattle.pg_text.specs.Printing.{hex_word_of}
-use Rattle.pg_text.proofs.Digits.{dec_digits}
+use Rattle.pg_text.proofs.Digits.{dec_digits, limited_is}
 use Rattle.pg_image.specs.Images.{most_address_digits, is_address, address_digits, is_word}
 
 -- what an address is
@@ -29,9 +29,6 @@ address_is (x ∷ xs) h =
     let short = and_parts ((slice_index part (length part - 1) == 58) && nat_le 1 (length (address_digits part))) (nat_le (length (address_digits part)) most_address_digits) ends.0 in
     let some = and_parts (slice_index part (length part - 1) == 58) (nat_le 1 (length (address_digits part))) short.0 in
     record { long = omega arith; some = some.1; short = leb-true (length (address_digits part)) most_address_digits short.1; digits = ends.1 }
-
-limited_is : (v : ℕ) → v < 2 ^ 64 → limited v ≡ Some v
-limited_is v h = grind (arith, nat_tests)
 
 -- its number
 pub address_number : (part : List ℕ) → IsTrue (is_address part) → dec_number (address_digits part) ≡ Some (digits_value 10 (address_digits part))

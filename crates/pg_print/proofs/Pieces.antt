@@ -1,6 +1,6 @@
 -- Each token's text, in front of a gap, is cut as that token.
 use Rattle.std.proofs.Common.{◌≡◌, ℕ, ◌+◌, ◌^◌, ◌<◌, ◌≤◌, Bool, true, false, cond, ◌&&◌, ◌||◌, eqb, leb, List, [], ◌∷◌, ◌++◌, length, take, get_or, Some, None, Result, Err, append_assoc, length-append, ap, ◌∙◌, refl, arith}
-use Rattle.std.specs.Prelude.{filter}
+use Rattle.std.specs.Prelude.{filter, nat_le}
 use Rattle.std.specs.Fmt.{decimal}
 use Rattle.std.specs.List.{prefix_len, list_all}
 use Rattle.std.specs.Str.Parse.{AllDigits, digits_value}
@@ -9,7 +9,7 @@ use Rattle.std.proofs.lemmas.Bool.{le-leb, leb-true}
 use Rattle.std.proofs.lemmas.Bool.Decides.{nat_tests}
 use Rattle.std.proofs.lemmas.Str.Parse.{digit_from_value}
 use Rattle.std.proofs.lemmas.Fmt.{decimal_is_IsNumeral}
-use Rattle.pg_token.specs.Words.{is_letter, is_digit, is_word_byte, is_word, is_pattern_byte}
+use Rattle.pg_token.specs.Words.{most_name_bytes, is_letter, is_digit, is_word_byte, is_word, is_pattern_byte}
 use Rattle.pg_token.specs.declared.tok.Tok.{Tok}
 use Rattle.pg_token.specs.declared.tok.Tok.TheVariants.{Word, Number, Pattern}
 use Rattle.pg_token.specs.declared.tok.Tok.TheVariants as signs
@@ -20,6 +20,7 @@ use Rattle.pg_text.specs.declared.place.TextFault.TheVariants.{BadNumber}
 use Rattle.pg_text.specs.declared.piece.Piece.{Piece}
 use Rattle.pg_text.specs.Cutting.{is_blank, is_inner, limited, number_of, hex_number, hex_digits, made, word_at, number_at, pattern_at, sign_at, front}
 use Rattle.pg_text.specs.Formed.{IsFormed}
+use Rattle.pg_text.proofs.Digits.{limited_is}
 use Rattle.pg_print.specs.Layout.{sign_text, token_text}
 
 -- what stands behind a token: no word goes on in it, and no sign of two bytes ends there
@@ -72,9 +73,9 @@ either_is false y h = absurd cc
 letter_in_word : (c : ℕ) → is_letter c ≡ true → is_word_byte c ≡ true
 letter_in_word c h = either_is (is_letter c || is_digit c) (eqb c 95) (either_is (is_letter c) (is_digit c) h)
 
-word_is : (place : ℕ) (w rest : List ℕ) → list_all is_word_byte w ≡ true → length w ≤ 32 → IsGap rest → word_at place (w ++ rest) ≡ made (Word w) (length w)
+word_is : (place : ℕ) (w rest : List ℕ) → list_all is_word_byte w ≡ true → length w ≤ most_name_bytes → IsGap rest → word_at place (w ++ rest) ≡ made (Word w) (length w)
 unfolding word_at
-word_is place w rest all short gap = rw (run_stops is_word_byte w rest all gap.word, take-append_seam w rest, le-leb (length w) 32 short) refl
+word_is place w rest all short gap = rw (run_stops is_word_byte w rest all gap.word, take-append_seam w rest, le-leb (length w) most_name_bytes short) refl
 
 third_of : {R : Type 0} (a b c : Bool) (x y z u : R) → a ≡ false → b ≡ false → c ≡ true → cond a x (cond b y (cond c z u)) ≡ z
 third_of a b c x y z u e f g = rw (e, f, g) refl
@@ -86,10 +87,10 @@ word_front : (place : ℕ) (w rest : List ℕ) → is_word w ≡ true → IsGap 
 unfolding front
 word_front place [] rest h gap = absurd cc
 word_front place (c ∷ cs) rest h gap =
-    let letters : (is_letter c && list_all is_word_byte cs) ≡ true = first (is_letter c && list_all is_word_byte cs) (leb (length cs) 31) h in
+    let letters : (is_letter c && list_all is_word_byte cs) ≡ true = first (is_letter c && list_all is_word_byte cs) (leb (length (c ∷ cs)) most_name_bytes) h in
     let letter : is_letter c ≡ true = first (is_letter c) (list_all is_word_byte cs) letters in
     let all : list_all is_word_byte (c ∷ cs) ≡ true = both (is_word_byte c) (list_all is_word_byte cs) (letter_in_word c letter) (second (is_letter c) (list_all is_word_byte cs) letters) in
-    let short : length (c ∷ cs) ≤ 32 = omega (arith, leb-true (length cs) 31 (second (is_letter c && list_all is_word_byte cs) (leb (length cs) 31) h)) in
+    let short : length (c ∷ cs) ≤ most_name_bytes = leb-true (length (c ∷ cs)) most_name_bytes (second (is_letter c && list_all is_word_byte cs) (leb (length (c ∷ cs)) most_name_bytes) h) in
     third_of (is_blank c) (eqb c 35) (is_letter c) _ _ _ _ (letter_no_blank c letter) (letter_no_hash c letter) letter ∙ word_is place (c ∷ cs) rest all short gap
 
 -- ---- numbers
@@ -119,13 +120,11 @@ or_is false y h = h
 digit_in_word : (c : ℕ) → is_digit c ≡ true → is_word_byte c ≡ true
 digit_in_word c h = either_is (is_letter c || is_digit c) (eqb c 95) (or_is (is_letter c) (is_digit c) h)
 
-limited_is : (v : ℕ) → v < 2 ^ 64 → limited v ≡ Some v
-limited_is v h = grind (arith, nat_tests)
-
-number_is : (place v : ℕ) (ds rest : List ℕ) → list_all is_digit ds ≡ true → digits_value 10 ds ≡ v → v < 2 ^ 64 → IsGap rest → number_at place (ds ++ rest) ≡ made (Number v) (length ds)
+number_is : (place v : ℕ) (ds rest : List ℕ) → 0 < length ds → list_all is_digit ds ≡ true → digits_value 10 ds ≡ v → v < 2 ^ 64 → IsGap rest → number_at place (ds ++ rest) ≡ made (Number v) (length ds)
 unfolding number_at
-number_is place v ds rest all e fits gap =
-    let value : number_of ds ≡ Some v = ap (λ b. cond b (limited (digits_value 10 ds)) (hex_number (hex_digits ds))) all ∙ ap limited e ∙ limited_is v fits in
+number_is place v ds rest some all e fits gap =
+    let one : nat_le 1 (length ds) ≡ true = le-leb 1 (length ds) some in
+    let value : number_of ds ≡ Some v = rw (all, one) (ap limited e ∙ limited_is v fits) in
     ap (λ n. elim (number_of (take n (ds ++ rest))) [ Some u ↦ made (Number u) n | None ↦ Err (BadNumber place) ])
     (run_stops is_word_byte ds rest (wider is_digit is_word_byte digit_in_word ds all) gap.word)
     ∙ ap (λ o. elim o [ Some u ↦ made (Number u) (length ds) | None ↦ Err (BadNumber place) ]) (ap number_of (take-append_seam ds rest) ∙ value)
@@ -136,7 +135,7 @@ digits_front place v [] rest some all e fits gap = absurd (omega arith)
 digits_front place v (c ∷ cs) rest some all e fits gap =
     let digit : is_digit c ≡ true = first (is_digit c) (list_all is_digit cs) all in
     fourth_of (is_blank c) (eqb c 35) (is_letter c) (is_digit c) _ _ _ _ _ (digit_no_blank c digit) (digit_no_hash c digit) (digit_no_letter c digit) digit
-    ∙ number_is place v (c ∷ cs) rest all e fits gap
+    ∙ number_is place v (c ∷ cs) rest some all e fits gap
 
 number_front : (place v : ℕ) (rest : List ℕ) → v < 2 ^ 64 → IsGap rest → front place (decimal v ++ rest) ≡ made (Number v) (length (decimal v))
 number_front place v rest fits gap =

@@ -23,6 +23,3 @@ mod tokens;
 
 pub use text::print;
 pub use tokens::desc_tokens;
-
-#[cfg(test)]
-mod tests;

@@ -3,7 +3,7 @@
 //! `print` calls `desc_tokens`. There is one function for each kind of tree, which puts its tokens at
 //! the end of one list, and each is the definition of `pg_ast` for that kind (`expr_tokens`,
 //! `stmt_tokens`, `tokens_of`). They recurse as the tree does: the type of an instruction keeps its
-//! body to 16 levels of blocks and 32 of expressions. Words and patterns are copied into the list.
+//! body to `BLOCK_LEVELS` of blocks and `EXPR_LEVELS` of expressions. Words and patterns are copied into the list.
 
 ghost use Rattle.std.specs.Prelude.{◌≡◌, ◌++◌, ◌∷◌, [], map, codes, OnOk, IfOk};
 ghost use Rattle.pg_token.specs.declared.tok.Tok.TheVariants.{Word, Number, Pattern};

@@ -12,25 +12,25 @@ use Rattle.pg_read.specs.declared.fault.DescFault.{DescFault}
 use Rattle.pg_read.specs.declared.fault.DescFault.TheVariants.{Long, Token, Grammar, Deep, Memory}
 use Rattle.pg_read.specs.Goals.{desc_goals, judged, IsJudged}
 use Rattle.pg_read.specs.Whole.{desc_at}
-use Rattle.pg_read.specs.Answer.{IsAnswer, token_fault, toks}
+use Rattle.pg_read.specs.Answer.{most_desc_bytes, IsAnswer, token_fault, toks}
 use Rattle.pg_read.proofs.InstrLemmas.{desc-exact, desc-tokens}
 use Rattle.pg_read.proofs.JudgeLemmas.{Says, judged_says}
 
-pub answer-fault : (text : List ℕ) (f : TextFault) → length text ≤ 1048576 → IsCutDue {X = List (Tok × Span)} (Err f) (cut text) → IsAnswer text (Err (token_fault f))
+pub answer-fault : (text : List ℕ) (f : TextFault) → length text ≤ most_desc_bytes → IsCutDue {X = List (Tok × Span)} (Err f) (cut text) → IsAnswer text (Err (token_fault f))
 answer-fault text (BadByte at) within due = (within, rw due refl)
 answer-fault text (BadNumber at) within due = (within, rw due refl)
 answer-fault text (BadWord at) within due = (within, rw due refl)
 answer-fault text (BadPattern at) within due = (within, rw due refl)
 answer-fault text NoMemory within due = tt
 
-pub answer-read : (text : List ℕ) (ts : List (Tok × Span)) (d : Desc) → length text ≤ 1048576 → cut text ≡ Ok ts → desc_at (map (λ t. t.0) ts) ≡ Some d → IsAnswer text (Ok d)
+pub answer-read : (text : List ℕ) (ts : List (Tok × Span)) (d : Desc) → length text ≤ most_desc_bytes → cut text ≡ Ok ts → desc_at (map (λ t. t.0) ts) ≡ Some d → IsAnswer text (Ok d)
 answer-read text ts d within tokens read =
     (within, rw tokens (ap Some (read_at (λ c. map (λ t. t.0) ts ≡ tokens_of c) (desc_at (map (λ t. t.0) ts)) d (desc-exact (map (λ t. t.0) ts)) read)))
 
 none : (ts : List Tok) (d : Desc) → desc_at ts ≡ None → tokens_of d ≢ ts
 none ts d read e = let back = desc-tokens d in let both : None ≡ Some d = sym read ∙ ap desc_at (sym e) ∙ back in cc
 
-due : (text : List ℕ) (ts : List (Tok × Span)) (f : DescFault) → length text ≤ 1048576 → cut text ≡ Ok ts → Says ts (length text) f → IsAnswer text (Err f)
+due : (text : List ℕ) (ts : List (Tok × Span)) (f : DescFault) → length text ≤ most_desc_bytes → cut text ≡ Ok ts → Says ts (length text) f → IsAnswer text (Err f)
 due text ts Long within tokens says = absurd says
 due text ts (Token place) within tokens says = absurd says
 due text ts (Grammar place) within tokens says = (within, rw tokens says)
@@ -44,7 +44,7 @@ judged-answer text ts (Grammar place) g e answer = rw e at answer
 judged-answer text ts (Deep place) g e answer = rw e at answer
 judged-answer text ts Memory g e answer = tt
 
-pub answer-unread : (text : List ℕ) (ts : List (Tok × Span)) (f : DescFault) → length text ≤ 1048576 → cut text ≡ Ok ts → desc_at (toks ts) ≡ None → IsJudged f (judged (length text) desc_goals ts) →
+pub answer-unread : (text : List ℕ) (ts : List (Tok × Span)) (f : DescFault) → length text ≤ most_desc_bytes → cut text ≡ Ok ts → desc_at (toks ts) ≡ None → IsJudged f (judged (length text) desc_goals ts) →
     IsAnswer text (Err f)
 answer-unread text ts f within tokens read e =
     judged-answer text ts f (judged (length text) desc_goals ts) e

@@ -2,6 +2,7 @@
 use Rattle.std.proofs.Common.{◌≡◌, ℕ, zero, suc, ◌+◌, ◌-◌, ◌≤◌, ◌<◌, List, [], ◌∷◌, ◌++◌, length, Option, None, Some, ap, sym, ◌∙◌, refl, arith}
 use Rattle.std.proofs.lemmas.List.{append_assoc, length-append, append-nil}
 use Rattle.pg_token.specs.declared.tok.Tok.{Tok}
+use Rattle.pg_ast.specs.Levels.{most_expr_levels}
 use Rattle.pg_ast.specs.Reading.{then_read, past_close, read_expr, read_stmt}
 use Rattle.pg_ast.specs.declared.tree.Stmt.{Stmt}
 use Rattle.pg_read.specs.Blocks.{body_at, stmts_at}
@@ -10,7 +11,7 @@ pub body_at-zero : (ts : List Tok) → body_at 0 ts ≡ None
 unfolding body_at
 body_at-zero ts = refl
 
-pub body_at-below : (n : ℕ) (ts : List Tok) → 0 < n → body_at n ts ≡ stmts_at (read_stmt (read_expr 32) (body_at (n - 1))) (suc (length ts)) ts
+pub body_at-below : (n : ℕ) (ts : List Tok) → 0 < n → body_at n ts ≡ stmts_at (read_stmt (read_expr most_expr_levels) (body_at (n - 1))) (suc (length ts)) ts
 unfolding body_at
 body_at-below zero ts h = absurd (omega arith)
 body_at-below (suc n) ts h = let e : suc n - 1 ≡ n = omega arith in rw e refl

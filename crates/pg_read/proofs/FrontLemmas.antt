@@ -8,7 +8,7 @@ use Rattle.pg_ast.proofs.Exact.{read_at}
 use Rattle.pg_read.specs.declared.goals.Goal.{Goal}
 use Rattle.pg_read.specs.declared.goals.Goal.TheVariants as goal
 use Rattle.pg_read.specs.Marks.{Mark}
-use Rattle.pg_read.specs.Fronts.{WideInstr, Wide, wide_instr_tokens, wide_tokens, instrs_marks, wide_marks, IsFront}
+use Rattle.pg_read.specs.Fronts.{WideInstr, Wide, wide_instr_tokens, wide_tokens, instrs_marks, wide_marks, IsMarkedFront}
 use Rattle.pg_read.specs.Goals.{taken, desc_goals}
 use Rattle.pg_read.proofs.Traces.{with_mark, with_marks, traced, trace}
 use Rattle.pg_read.proofs.StmtTraces.{with_marks-some, trace_wide}
@@ -78,7 +78,7 @@ cut_front (Some p) us n all end h e =
     let front = with_marks-front p.0 (trace p.1 us) all end e in
     (p.1, ap (λ ms. Some (ms, p.1)) (rw (sym h) (sym front)))
 
-pub front_traced : (ts : List Tok) (marks : List Mark) → IsFront ts marks → (left : List Goal) × (trace desc_goals ts ≡ Some (marks, left))
+pub front_traced : (ts : List Tok) (marks : List Mark) → IsMarkedFront ts marks → (left : List Goal) × (trace desc_goals ts ≡ Some (marks, left))
 front_traced ts marks h =
     let whole : trace desc_goals (ts ++ h.rest) ≡ Some (wide_marks h.wide, goal.Instrs ∷ []) = rw (← h.begins) (trace_wide h.wide) in
     let cut = cut_front (trace desc_goals ts) h.rest (length ts) (wide_marks h.wide) (goal.Instrs ∷ []) (trace-length ts desc_goals) (sym (trace-append ts h.rest desc_goals) ∙ whole) in
@@ -101,7 +101,7 @@ wide-of f =
     let both = wide-parts a.0 b.0 c.0 d.0 d.1.0 in
     (w, both.0, both.1)
 
-pub traced_front : (ts : List Tok) (marks : List Mark) (left : List Goal) → trace desc_goals ts ≡ Some (marks, left) → IsFront ts marks
+pub traced_front : (ts : List Tok) (marks : List Mark) (left : List Goal) → trace desc_goals ts ≡ Some (marks, left) → IsMarkedFront ts marks
 traced_front ts marks left e =
     let fill = read_at (Fills desc_goals ts) (trace desc_goals ts) (marks, left) (trace_fills ts desc_goals) e (some_filling left) in
     let w = wide-of fill.0 in
@@ -114,5 +114,5 @@ traced_front ts marks left e =
     }
 
 -- tokens determine their marks
-pub marks_determined : (ts : List Tok) (ms ns : List Mark) → IsFront ts ms → IsFront ts ns → ms ≡ ns
+pub marks_determined : (ts : List Tok) (ms ns : List Mark) → IsMarkedFront ts ms → IsMarkedFront ts ns → ms ≡ ns
 marks_determined ts ms ns x y = let a = front_traced ts ms x in let b = front_traced ts ns y in ap marks_in (sym a.1 ∙ b.1)

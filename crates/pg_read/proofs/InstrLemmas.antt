@@ -4,6 +4,7 @@ use Rattle.std.proofs.lemmas.List.{append_assoc, length-append, append-nil}
 use Rattle.pg_token.specs.declared.tok.Tok.{Tok}
 use Rattle.pg_token.specs.declared.tok.Tok.TheVariants.{Sign}
 use Rattle.pg_token.specs.declared.tok.Sign.TheVariants.{OpenBrace, CloseBrace, Semicolon}
+use Rattle.pg_ast.specs.Levels.{most_block_levels}
 use Rattle.pg_ast.specs.declared.tree.Instr.{Instr}
 use Rattle.pg_ast.specs.declared.tree.Desc.{Desc}
 use Rattle.pg_ast.specs.Tokens.{instr_tokens, head_tokens, tokens_of, flat}
@@ -18,14 +19,14 @@ use Rattle.pg_read.proofs.FormLemmas.{then-past_sign, then-past_word, then-numbe
 use Rattle.pg_read.proofs.BodyExact.{body_at-exact}
 use Rattle.pg_read.proofs.BodyReads.{body-tokens}
 
-instr-form : (ts : List Tok) → instr_at ts ≡ read_instr (body_at 16) ts
+instr-form : (ts : List Tok) → instr_at ts ≡ read_instr (body_at most_block_levels) ts
 unfolding instr_at read_instr
 instr-form ts = simp (then-past_word, then-past_sign, then-name_at, then-pattern_at)
 
 -- ---- what was read
 
 instr-exact : (ts : List Tok) → IfSome (instr_at ts) (IsInstrFront ts)
-instr-exact ts = rw (instr-form ts) (read_instr-exact (body_at 16) (body_at-exact 16) ts)
+instr-exact ts = rw (instr-form ts) (read_instr-exact (body_at most_block_levels) (body_at-exact most_block_levels) ts)
 
 -- what is left behind an instruction is shorter
 pub instr-shorter : (ts us : List Tok) (i : Instr) → instr_at ts ≡ Some (i, us) → length us < length ts
@@ -95,7 +96,7 @@ desc-exact ts =
 -- ---- what is read back
 
 instr-tokens : (i : Instr) (rest : List Tok) → instr_at (instr_tokens i ++ rest) ≡ Some (i, rest)
-instr-tokens i rest = instr-form (instr_tokens i ++ rest) ∙ read_instr-tokens (body_at 16) i (body-tokens i.body 16 i.shallow.exprs i.shallow.blocks) rest
+instr-tokens i rest = instr-form (instr_tokens i ++ rest) ∙ read_instr-tokens (body_at most_block_levels) i (body-tokens i.body most_block_levels i.shallow.exprs i.shallow.blocks) rest
 
 instrs-few : (instrs : List Instr) → length instrs ≤ length (flat (map instr_tokens instrs))
 instrs-few [] = omega arith

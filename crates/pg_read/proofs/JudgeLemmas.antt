@@ -10,7 +10,7 @@ use Rattle.pg_read.specs.declared.goals.Goal.{Goal}
 use Rattle.pg_read.specs.declared.fault.DescFault.{DescFault}
 use Rattle.pg_read.specs.declared.fault.DescFault.TheVariants.{Long, Token, Grammar, Deep, Memory}
 use Rattle.pg_read.specs.Marks.{Mark, is_deep, has_deep}
-use Rattle.pg_read.specs.Fronts.{IsFront, IsAllowed, EndsEarly}
+use Rattle.pg_read.specs.Fronts.{IsMarkedFront, IsAllowed, EndsEarly}
 use Rattle.pg_read.specs.Goals.{Fails, Sinks, Leaves, outcome, taken, desc_goals, judged_by, judged}
 use Rattle.pg_read.specs.Answer.{toks, place_of, IsWrongThere, IsDeepThere}
 use Rattle.pg_read.proofs.Traces.{trace}
@@ -68,7 +68,7 @@ module _ (before : List (Tok × Span)) (t : Tok × Span) (ts : List (Tok × Span
       inside = inside before t ts;
       allowed = subst IsAllowed (sym (until before t ts)) (allowed (toks before) marks gs e shallow);
       wrong = λ ms front.
-          let here = front_traced (toks before ++ t.0 ∷ []) ms (subst (λ us. IsFront us ms) (through before t ts) front) in
+          let here = front_traced (toks before ++ t.0 ∷ []) ms (subst (λ us. IsMarkedFront us ms) (through before t ts) front) in
           let none = none_more (toks before) t.0 marks gs e h in
           let no : None ≡ Some (ms, here.0) = sym none ∙ here.1 in cc;
     };
@@ -84,7 +84,7 @@ module _ (before : List (Tok × Span)) (t : Tok × Span) (ts : List (Tok × Span
       marks = marks;
       last = m;
       deep = deep;
-      front = subst (λ us. IsFront us (marks ++ m ∷ [])) (sym (through before t ts)) (traced_front (toks before ++ t.0 ∷ []) (marks ++ m ∷ []) left (one_more (toks before) t.0 marks gs left m e h));
+      front = subst (λ us. IsMarkedFront us (marks ++ m ∷ [])) (sym (through before t ts)) (traced_front (toks before ++ t.0 ∷ []) (marks ++ m ∷ []) left (one_more (toks before) t.0 marks gs left m e h));
     };
     place_is = stands before t ts;
   }

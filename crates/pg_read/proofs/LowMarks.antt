@@ -16,7 +16,7 @@ use Rattle.pg_ast.specs.declared.tree.Stmt.TheFolds.{ind-Stmt, map-Stmt}
 use Rattle.pg_ast.specs.declared.tree.Stmt.TheViews.{roll-Stmt}
 use Rattle.pg_ast.specs.declared.tree.Instr.{Instr}
 use Rattle.pg_ast.specs.declared.tree.Desc.{Desc}
-use Rattle.pg_ast.specs.Levels.{depth_of, greatest, expr_levels, block_levels}
+use Rattle.pg_ast.specs.Levels.{most_expr_levels, most_block_levels, depth_of, greatest, expr_levels, block_levels}
 use Rattle.pg_ast.specs.Tokens.{instr_tokens, head_tokens, tokens_of, flat}
 use Rattle.pg_ast.proofs.Depths.{depth_some}
 use Rattle.pg_ast.proofs.ExprEquations as exprs
@@ -40,10 +40,10 @@ low-both ms ns h k = deep-both ms ns ∙ rw (h, k) refl
 -- ---- expressions
 
 abbrev IsLow : Expr → Type 0
-IsLow e = (n : ℕ) → depth_of e + n ≤ 33 → has_deep (expr_marks e n) ≡ false
+IsLow e = (n : ℕ) → depth_of e + n ≤ most_expr_levels + 1 → has_deep (expr_marks e n) ≡ false
 
-low : (e : Expr) (n : ℕ) → depth_of e + n ≤ 33 → nat_lt 32 n ≡ false
-low e n h = le-ltb 32 n (omega (arith, depth_some e))
+low : (e : Expr) (n : ℕ) → depth_of e + n ≤ most_expr_levels + 1 → nat_lt most_expr_levels n ≡ false
+low e n h = le-ltb most_expr_levels n (omega (arith, depth_some e))
 
 low-lit : (v w : ℕ) → IsLow (Lit v w)
 low-lit v w n within = rw (marks.expr_marks-lit v w n, low (Lit v w) n within) refl
@@ -109,7 +109,7 @@ low_expr = ind-Expr IsLow (λ x y is. subst (λ z. IsLow (roll-Expr z)) is (laye
 -- ---- statements: blocks inside have level n
 
 abbrev IsLowStmt : Stmt → Type 0
-IsLowStmt s = (n : ℕ) → expr_levels s ≤ 32 → block_levels s + n ≤ 17 → has_deep (stmt_marks s n) ≡ false
+IsLowStmt s = (n : ℕ) → expr_levels s ≤ most_expr_levels → block_levels s + n ≤ most_block_levels + 1 → has_deep (stmt_marks s n) ≡ false
 
 low_stmt-let : (x : Names) (e : Expr) → IsLowStmt (Let x e)
 low_stmt-let x e n shallow nested = rw (marks.stmt_marks-let x e n) (simp (low_expr e 1 (omega (arith, stmts.expr_levels-let x e)), deep-both))
@@ -135,16 +135,16 @@ low_stmt-trap : IsLowStmt Trap
 low_stmt-trap n shallow nested = rw (marks.stmt_marks-trap n) refl
 
 -- the statements of a block
-low-within : (ss : List ((s : Stmt) × IsLowStmt s)) (n : ℕ) → greatest (map expr_levels (map (λ p. p.0) ss)) ≤ 32 → greatest (map block_levels (map (λ p. p.0) ss)) + n ≤ 17 →
+low-within : (ss : List ((s : Stmt) × IsLowStmt s)) (n : ℕ) → greatest (map expr_levels (map (λ p. p.0) ss)) ≤ most_expr_levels → greatest (map block_levels (map (λ p. p.0) ss)) + n ≤ most_block_levels + 1 →
     has_deep (marks_within n (map stmt_marks (map (λ p. p.0) ss))) ≡ false
 low-within [] n shallow nested = refl
 low-within (s ∷ more) n shallow nested =
     rw (deep-both (stmt_marks s.0 n) (marks_within n (map stmt_marks (map (λ p. p.0) more))), s.1 n (omega arith) (omega arith), low-within more n (omega arith) (omega arith)) refl
 
-low-block : (n : ℕ) (stmts : List (ℕ → List Mark)) → n ≤ 16 → has_deep (marks_within (suc n) stmts) ≡ false → has_deep (block_marks n stmts) ≡ false
-low-block n stmts h k = rw (le-ltb 16 n h, deep-both (marks_within (suc n) stmts) (Plain ∷ []), k) refl
+low-block : (n : ℕ) (stmts : List (ℕ → List Mark)) → n ≤ most_block_levels → has_deep (marks_within (suc n) stmts) ≡ false → has_deep (block_marks n stmts) ≡ false
+low-block n stmts h k = rw (le-ltb most_block_levels n h, deep-both (marks_within (suc n) stmts) (Plain ∷ []), k) refl
 
-low-if_parts : (c : Expr) (n : ℕ) (held : List (ℕ → List Mark)) (other : Option (List (ℕ → List Mark))) → depth_of c ≤ 32 → has_deep (block_marks n held) ≡ false → has_deep (else_marks n other) ≡ false →
+low-if_parts : (c : Expr) (n : ℕ) (held : List (ℕ → List Mark)) (other : Option (List (ℕ → List Mark))) → depth_of c ≤ most_expr_levels → has_deep (block_marks n held) ≡ false → has_deep (else_marks n other) ≡ false →
     has_deep (Plain ∷ expr_marks c 1 ++ block_marks n held ++ else_marks n other) ≡ false
 low-if_parts c n held other hc hheld hother =
     deep-both (expr_marks c 1 ++ block_marks n held) (else_marks n other) ∙ rw (deep-both (expr_marks c 1) (block_marks n held), low_expr c 1 (omega arith), hheld, hother) refl
@@ -174,7 +174,7 @@ stmt_layer (OpenStmt.If c held (Some other)) = subst IsLowStmt (sym (rolls-If c 
 low_stmt : (s : Stmt) → IsLowStmt s
 low_stmt = ind-Stmt IsLowStmt (λ x y is. subst (λ z. IsLowStmt (roll-Stmt z)) is (stmt_layer y))
 
-low_stmts : (ss : List Stmt) (n : ℕ) → greatest (map expr_levels ss) ≤ 32 → greatest (map block_levels ss) + n ≤ 17 → has_deep (marks_within n (map stmt_marks ss)) ≡ false
+low_stmts : (ss : List Stmt) (n : ℕ) → greatest (map expr_levels ss) ≤ most_expr_levels → greatest (map block_levels ss) + n ≤ most_block_levels + 1 → has_deep (marks_within n (map stmt_marks ss)) ≡ false
 low_stmts [] n shallow nested = refl
 low_stmts (s ∷ more) n shallow nested =
     rw (deep-both (stmt_marks s n) (marks_within n (map stmt_marks more)), low_stmt s n (omega arith) (omega arith), low_stmts more n (omega arith) (omega arith)) refl

@@ -14,10 +14,10 @@ use Rattle.pg_read.specs.declared.goals.Goal.{Goal}
 use Rattle.pg_read.specs.declared.fault.DescFault.{DescFault}
 use Rattle.pg_read.specs.declared.fault.DescFault.TheVariants.{Long, Token, Grammar, Deep, Memory}
 use Rattle.pg_read.specs.Marks.{Mark, Plain, is_deep, has_deep}
-use Rattle.pg_read.specs.Fronts.{wide_marks, IsFront, IsAllowed, IsWrongAt, EndsEarly, IsDeepAt}
+use Rattle.pg_read.specs.Fronts.{wide_marks, IsMarkedFront, IsAllowed, IsWrongAt, EndsEarly, IsDeepAt}
 use Rattle.pg_read.specs.Goals.{outcome, judged_by, taken, desc_goals, judged}
 use Rattle.pg_read.specs.Whole.{desc_at}
-use Rattle.pg_read.specs.Answer.{toks, place_of, token_fault, IsFaultAt, IsWrongThere, IsDeepThere, IsGrammarAt, IsTooDeepAt, IsAnswer}
+use Rattle.pg_read.specs.Answer.{most_desc_bytes, toks, place_of, token_fault, IsFaultAt, IsWrongThere, IsDeepThere, IsGrammarAt, IsTooDeepAt, IsAnswer}
 use Rattle.pg_read.proofs.InstrLemmas.{desc-exact, desc-tokens}
 use Rattle.pg_read.proofs.Traces.{with_mark, traced, trace}
 use Rattle.pg_read.proofs.FrontLemmas.{front_traced, traced_front, marks_determined}
@@ -96,7 +96,7 @@ module _ (end : ℕ) where
   nothing-left gs = refl
 
   module _ (before : List (Tok × Span)) (t : Tok × Span) (rest : List (Tok × Span)) where
-    no-taken : (gs : List Goal) (marks : List Mark) → trace desc_goals (toks before) ≡ Some (marks, gs) → ((ms : List Mark) → IsFront (toks before ++ t.0 ∷ []) ms → ⊥) → (x : Option (Mark × List Goal)) → taken gs t.0 ≡ x → taken gs t.0 ≡ None
+    no-taken : (gs : List Goal) (marks : List Mark) → trace desc_goals (toks before) ≡ Some (marks, gs) → ((ms : List Mark) → IsMarkedFront (toks before ++ t.0 ∷ []) ms → ⊥) → (x : Option (Mark × List Goal)) → taken gs t.0 ≡ x → taken gs t.0 ≡ None
     no-taken gs marks e wrong None h = h
     no-taken gs marks e wrong (Some p) h = absurd (wrong (marks ++ p.0 ∷ []) (traced_front (toks before ++ t.0 ∷ []) (marks ++ p.0 ∷ []) p.1 (one_more (toks before) t.0 marks gs p.1 p.0 e h)))
 
@@ -105,9 +105,9 @@ module _ (end : ℕ) where
         let start = subst IsAllowed (until before t rest) w.allowed in
         let here = front_traced (toks before) start.marks start.front in
         judged-through end (t ∷ rest) before desc_goals here.0 start.marks here.1 start.shallow
-        ∙ taken-fails here.0 t rest (no-taken here.0 start.marks here.1 (λ ms front. w.wrong ms (subst (λ us. IsFront us ms) (sym (through before t rest)) front)) (taken here.0 t.0) refl)
+        ∙ taken-fails here.0 t rest (no-taken here.0 start.marks here.1 (λ ms front. w.wrong ms (subst (λ us. IsMarkedFront us ms) (sym (through before t rest)) front)) (taken here.0 t.0) refl)
 
-    deep-taken : (gs : List Goal) (marks others : List Mark) (m : Mark) → trace desc_goals (toks before) ≡ Some (marks, gs) → is_deep m ≡ true → IsFront (toks before ++ t.0 ∷ []) (others ++ m ∷ []) →
+    deep-taken : (gs : List Goal) (marks others : List Mark) (m : Mark) → trace desc_goals (toks before) ≡ Some (marks, gs) → is_deep m ≡ true → IsMarkedFront (toks before ++ t.0 ∷ []) (others ++ m ∷ []) →
         (x : Option (Mark × List Goal)) → taken gs t.0 ≡ x → judged end gs (t ∷ rest) ≡ Deep t.1.from
     deep-taken gs marks others m e deep front None h =
         let here = front_traced (toks before ++ t.0 ∷ []) (others ++ m ∷ []) front in
@@ -123,7 +123,7 @@ module _ (end : ℕ) where
         let start = subst IsAllowed (until before t rest) w.allowed in
         let here = front_traced (toks before) start.marks start.front in
         judged-through end (t ∷ rest) before desc_goals here.0 start.marks here.1 start.shallow
-        ∙ deep-taken here.0 start.marks w.marks w.last here.1 w.deep (subst (λ us. IsFront us (w.marks ++ w.last ∷ [])) (through before t rest) w.front) (taken here.0 t.0) refl
+        ∙ deep-taken here.0 start.marks w.marks w.last here.1 w.deep (subst (λ us. IsMarkedFront us (w.marks ++ w.last ∷ [])) (through before t rest) w.front) (taken here.0 t.0) refl
 
   wrong-placed : (all before rest : List (Tok × Span)) (t : Tok × Span) (place : ℕ) (w : IsWrongThere all place) → all ≡ before ++ t ∷ rest → length before ≡ w.at → judged end desc_goals all ≡ Grammar place
   wrong-placed all before rest t place w here long =
@@ -154,7 +154,7 @@ module _ (end : ℕ) where
 
 -- ---- the tokens of a description have no fault
 
-own_front : (d : Desc) (n : ℕ) → IsFront (take n (tokens_of d)) (take (length (take n (tokens_of d))) (wide_marks (wide_of d)))
+own_front : (d : Desc) (n : ℕ) → IsMarkedFront (take n (tokens_of d)) (take (length (take n (tokens_of d))) (wide_marks (wide_of d)))
 own_front d n = record { wide = wide_of d; rest = drop n (tokens_of d); begins = wide_same d ∙ sym (take-append-drop n (tokens_of d)); marked = refl }
 
 none_wrong : (d : Desc) (k : ℕ) → IsWrongAt (tokens_of d) k → ⊥
@@ -180,7 +180,7 @@ cut_due (Ok ts) end = read_due (desc_at (toks ts)) (judged end desc_goals ts)
 cut_due (Err f) end = Err (token_fault f)
 
 abbrev pub answer_due : List ℕ → Result Desc DescFault
-answer_due text = cond (nat_lt 1048576 (length text)) (Err Long) (cut_due (cut text) (length text))
+answer_due text = cond (nat_lt most_desc_bytes (length text)) (Err Long) (cut_due (cut text) (length text))
 
 no-desc : (ts : List Tok) → ((d : Desc) → ts ≡ tokens_of d → ⊥) → (x : Option Desc) → desc_at ts ≡ x → desc_at ts ≡ None
 no-desc ts none None e = e
@@ -213,13 +213,13 @@ deep-due (Ok ts) end place w =
     fault-due ts end (Deep place) (λ d e. none_deep d w.at (subst (λ us. IsDeepAt us w.at) e w.deep)) (deep-there end ts place w)
 deep-due (Err f) end place h = absurd h
 
-short : (text : List ℕ) (x : Result Desc DescFault) → length text ≤ 1048576 → x ≡ cut_due (cut text) (length text) → x ≡ answer_due text
-short text x h e = rw (le-ltb 1048576 (length text) h) e
+short : (text : List ℕ) (x : Result Desc DescFault) → length text ≤ most_desc_bytes → x ≡ cut_due (cut text) (length text) → x ≡ answer_due text
+short text x h e = rw (le-ltb most_desc_bytes (length text) h) e
 
 -- an answer that is not for want of memory is the one that is due
 pub answer_is_due : (text : List ℕ) (x : Result Desc DescFault) → x ≢ Err Memory → IsAnswer text x → x ≡ answer_due text
 answer_is_due text (Ok d) known h = short text (Ok d) h.0 (ok-due (cut text) (length text) d h.1)
-answer_is_due text (Err Long) known h = rw (lt-ltb 1048576 (length text) h) refl
+answer_is_due text (Err Long) known h = rw (lt-ltb most_desc_bytes (length text) h) refl
 answer_is_due text (Err (Token place)) known h = short text (Err (Token place)) h.0 (token-due (cut text) (length text) place h.1)
 answer_is_due text (Err (Grammar place)) known h = short text (Err (Grammar place)) h.0 (grammar-due (cut text) (length text) place h.1)
 answer_is_due text (Err (Deep place)) known h = short text (Err (Deep place)) h.0 (deep-due (cut text) (length text) place h.1)

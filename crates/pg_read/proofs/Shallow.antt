@@ -8,7 +8,7 @@ use Rattle.pg_ast.specs.declared.name.Name.{Name as Names}
 use Rattle.pg_ast.specs.declared.tree.Expr.{Expr}
 use Rattle.pg_ast.specs.declared.tree.Stmt.{Stmt}
 use Rattle.pg_ast.specs.declared.tree.Stmt.TheVariants.{Pc as ToPc, Mode as ToMode, Rel as ToRel, Bound as ToBound, If}
-use Rattle.pg_ast.specs.Levels.{depth_of, greatest, expr_levels, block_levels, IsShallow}
+use Rattle.pg_ast.specs.Levels.{most_expr_levels, most_block_levels, depth_of, greatest, expr_levels, block_levels, IsShallow}
 use Rattle.pg_ast.specs.Reading.{past_sign, past_close, past_else, sign_number, name_of, read_expr, read_level, read_word, read_sign, read_stmt}
 use Rattle.pg_ast.proofs.Exact.{read_at, then_read-holds}
 use Rattle.pg_ast.proofs.ExprEquations as exprs
@@ -145,14 +145,14 @@ unfolding read_expr
 expr-levels zero ts = tt
 expr-levels (suc n) ts = level-levels n (read_expr n) (expr-levels n) ts
 
--- a statement keeps the limits: expressions of at most 32 levels, and blocks of at most so many inside
+-- a statement keeps the limit of expressions, and has blocks of at most so many levels inside
 pub record KeepsLimits (n : ℕ) (s : Stmt) : Type 0 where
-  pub exprs : expr_levels s ≤ 32
+  pub exprs : expr_levels s ≤ most_expr_levels
   pub blocks : block_levels s ≤ n
 
 -- the same of the statements of a block, which is one level itself
 pub record BlockKeepsLimits (n : ℕ) (ss : List Stmt) : Type 0 where
-  pub exprs : greatest (map expr_levels ss) ≤ 32
+  pub exprs : greatest (map expr_levels ss) ≤ most_expr_levels
   pub blocks : 1 + greatest (map block_levels ss) ≤ n
 
 abbrev StmtWithin : ℕ → Stmt × List Tok → Type 0
@@ -161,43 +161,43 @@ StmtWithin n p = KeepsLimits n p.0
 abbrev pub BlockWithin : ℕ → List Stmt × List Tok → Type 0
 BlockWithin n p = BlockKeepsLimits n p.0
 
-value-levels : (ts : List Tok) → IfSome (value_at (read_expr 32) ts) (HasLevels 32)
+value-levels : (ts : List Tok) → IfSome (value_at (read_expr most_expr_levels) ts) (HasLevels most_expr_levels)
 unfolding value_at
 value-levels ts =
-    then_read-holds (HasLevels 32) (past_sign Equals ts (read_expr 32)) _ (λ e t1 p1.
-    then_read-holds (HasLevels 32) (past_sign Semicolon t1 alone) _ (λ z t2 p2.
-    behind 32 (read_expr 32) (expr-levels 32) Equals ts e t1 p1))
+    then_read-holds (HasLevels most_expr_levels) (past_sign Equals ts (read_expr most_expr_levels)) _ (λ e t1 p1.
+    then_read-holds (HasLevels most_expr_levels) (past_sign Semicolon t1 alone) _ (λ z t2 p2.
+    behind most_expr_levels (read_expr most_expr_levels) (expr-levels most_expr_levels) Equals ts e t1 p1))
 
-value : (ts : List Tok) (e : Expr) (us : List Tok) → value_at (read_expr 32) ts ≡ Some (e, us) → depth_of e ≤ 32
-value ts e us q = read_at (HasLevels 32) (value_at (read_expr 32) ts) (e, us) (value-levels ts) q
+value : (ts : List Tok) (e : Expr) (us : List Tok) → value_at (read_expr most_expr_levels) ts ≡ Some (e, us) → depth_of e ≤ most_expr_levels
+value ts e us q = read_at (HasLevels most_expr_levels) (value_at (read_expr most_expr_levels) ts) (e, us) (value-levels ts) q
 
 -- one statement, where b reads blocks of at most n levels
 module _ (n : ℕ) (b : List Tok → Option (List Stmt × List Tok)) (within : (ts : List Tok) → IfSome (b ts) (BlockWithin n)) where
   block : (s : Signs) (ts : List Tok) (ss : List Stmt) (us : List Tok) → past_sign s ts b ≡ Some (ss, us) → BlockKeepsLimits n ss
   block s ts ss us q = read_at (BlockWithin n) (past_sign s ts b) (ss, us) (past_sign-keeps (BlockWithin n) s ts b within) q
 
-  let-limits : (ts : List Tok) → IfSome (let_at (read_expr 32) ts) (StmtWithin n)
+  let-limits : (ts : List Tok) → IfSome (let_at (read_expr most_expr_levels) ts) (StmtWithin n)
   unfolding let_at
   let-limits ts =
       then_read-holds (StmtWithin n) (name_at ts) _ (λ m t1 p1.
-      then_read-holds (StmtWithin n) (value_at (read_expr 32) t1) _ (λ e t2 p2.
+      then_read-holds (StmtWithin n) (value_at (read_expr most_expr_levels) t1) _ (λ e t2 p2.
       record { exprs = omega (arith, stmts.expr_levels-let m e, value t1 e t2 p2); blocks = omega (arith, stmts.block_levels-let m e) }))
 
-  store-limits : (ts : List Tok) → IfSome (store_at (read_expr 32) ts) (StmtWithin n)
+  store-limits : (ts : List Tok) → IfSome (store_at (read_expr most_expr_levels) ts) (StmtWithin n)
   unfolding store_at
   store-limits ts =
-      then_read-holds (StmtWithin n) (past_sign OpenBracket ts (read_expr 32)) _ (λ a t1 p1.
+      then_read-holds (StmtWithin n) (past_sign OpenBracket ts (read_expr most_expr_levels)) _ (λ a t1 p1.
       then_read-holds (StmtWithin n) (past_sign CloseBracket t1 alone) _ (λ z t2 p2.
-      then_read-holds (StmtWithin n) (value_at (read_expr 32) t2) _ (λ e t3 p3.
+      then_read-holds (StmtWithin n) (value_at (read_expr most_expr_levels) t2) _ (λ e t3 p3.
       record {
-        exprs = omega (arith, stmts.expr_levels-store a e, behind 32 (read_expr 32) (expr-levels 32) OpenBracket ts a t1 p1, value t2 e t3 p3);
+        exprs = omega (arith, stmts.expr_levels-store a e, behind most_expr_levels (read_expr most_expr_levels) (expr-levels most_expr_levels) OpenBracket ts a t1 p1, value t2 e t3 p3);
         blocks = omega (arith, stmts.block_levels-store a e);
       })))
 
-  assign-limits : (make : Expr → Stmt) → ((e : Expr) → expr_levels (make e) ≡ depth_of e) → ((e : Expr) → block_levels (make e) ≡ 0) → (ts : List Tok) → IfSome (assign_at (read_expr 32) make ts) (StmtWithin n)
+  assign-limits : (make : Expr → Stmt) → ((e : Expr) → expr_levels (make e) ≡ depth_of e) → ((e : Expr) → block_levels (make e) ≡ 0) → (ts : List Tok) → IfSome (assign_at (read_expr most_expr_levels) make ts) (StmtWithin n)
   unfolding assign_at
   assign-limits make levels nested ts =
-      then_read-holds (StmtWithin n) (value_at (read_expr 32) ts) _ (λ e t1 p1.
+      then_read-holds (StmtWithin n) (value_at (read_expr most_expr_levels) ts) _ (λ e t1 p1.
       record { exprs = omega (arith, levels e, value ts e t1 p1); blocks = omega (arith, nested e) })
 
   trap-limits : (ts : List Tok) → IfSome (trap_at ts) (StmtWithin n)
@@ -207,7 +207,7 @@ module _ (n : ℕ) (b : List Tok → Option (List Stmt × List Tok)) (within : (
       record { exprs = omega (arith, stmts.expr_levels-trap); blocks = omega (arith, stmts.block_levels-trap) })
 
   -- an if of these parts keeps the limits
-  if-made : (c : Expr) (held : List Stmt) (other : Option (List Stmt)) → depth_of c ≤ 32 → BlockKeepsLimits n held → IfSome other (BlockKeepsLimits n) → KeepsLimits n (If c held other)
+  if-made : (c : Expr) (held : List Stmt) (other : Option (List Stmt)) → depth_of c ≤ most_expr_levels → BlockKeepsLimits n held → IfSome other (BlockKeepsLimits n) → KeepsLimits n (If c held other)
   if-made c held None hc hheld hother =
       let he = hheld.exprs in let hb = hheld.blocks in
       record { exprs = omega (arith, stmts.expr_levels-if c held None); blocks = omega (arith, stmts.block_levels-if c held None) }
@@ -222,16 +222,16 @@ module _ (n : ℕ) (b : List Tok → Option (List Stmt × List Tok)) (within : (
   else-limits ts None = tt
   else-limits ts (Some us) = then_read-holds OtherWithin (past_sign OpenBrace us b) _ (λ other t1 p1. block OpenBrace us other t1 p1)
 
-  if-limits : (ts : List Tok) → IfSome (if_at (read_expr 32) b ts) (StmtWithin n)
+  if-limits : (ts : List Tok) → IfSome (if_at (read_expr most_expr_levels) b ts) (StmtWithin n)
   unfolding if_at
   if-limits ts =
-      then_read-holds (StmtWithin n) (read_expr 32 ts) _ (λ c t1 p1.
+      then_read-holds (StmtWithin n) (read_expr most_expr_levels ts) _ (λ c t1 p1.
       then_read-holds (StmtWithin n) (past_sign OpenBrace t1 b) _ (λ held t2 p2.
       then_read-holds (StmtWithin n) (else_found b t2 (past_else t2)) _ (λ other t3 p3.
-      if-made c held other (part 32 (read_expr 32) (expr-levels 32) ts c t1 p1) (block OpenBrace t1 held t2 p2)
+      if-made c held other (part most_expr_levels (read_expr most_expr_levels) (expr-levels most_expr_levels) ts c t1 p1) (block OpenBrace t1 held t2 p2)
       (read_at OtherWithin (else_found b t2 (past_else t2)) (other, t3) (else-limits t2 (past_else t2)) p3))))
 
-  stmt_word-limits : (k : Option StmtWord) (ts : List Tok) → IfSome (stmt_word_at (read_expr 32) b k ts) (StmtWithin n)
+  stmt_word-limits : (k : Option StmtWord) (ts : List Tok) → IfSome (stmt_word_at (read_expr most_expr_levels) b k ts) (StmtWithin n)
   stmt_word-limits None ts = tt
   stmt_word-limits (Some stmt.Let) ts = let-limits ts
   stmt_word-limits (Some stmt.Mem) ts = store-limits ts
@@ -242,10 +242,10 @@ module _ (n : ℕ) (b : List Tok → Option (List Stmt × List Tok)) (within : (
   stmt_word-limits (Some stmt.Trap) ts = trap-limits ts
   stmt_word-limits (Some stmt.If) ts = if-limits ts
 
-  stmt-limits : (ts : List Tok) → IfSome (read_stmt (read_expr 32) b ts) (StmtWithin n)
+  stmt-limits : (ts : List Tok) → IfSome (read_stmt (read_expr most_expr_levels) b ts) (StmtWithin n)
   unfolding read_stmt
   stmt-limits [] = tt
-  stmt-limits (Word w ∷ ts) = rw (← (stmt-form (read_expr 32) b w ts)) (stmt_word-limits (stmt_word w) ts)
+  stmt-limits (Word w ∷ ts) = rw (← (stmt-form (read_expr most_expr_levels) b w ts)) (stmt_word-limits (stmt_word w) ts)
   stmt-limits (Number m ∷ ts) = tt
   stmt-limits (Pattern w ∷ ts) = tt
   stmt-limits (Sign s ∷ ts) = tt
@@ -271,10 +271,10 @@ module _ (n : ℕ) (stmt : List Tok → Option (Stmt × List Tok)) (one : (ts : 
 pub body-limits : (n : ℕ) (ts : List Tok) → IfSome (body_at n ts) (BlockWithin n)
 unfolding body_at
 body-limits zero ts = tt
-body-limits (suc n) ts = stmts-limits n (read_stmt (read_expr 32) (body_at n)) (stmt-limits n (body_at n) (body-limits n)) (suc (length ts)) ts
+body-limits (suc n) ts = stmts-limits n (read_stmt (read_expr most_expr_levels) (body_at n)) (stmt-limits n (body_at n) (body-limits n)) (suc (length ts)) ts
 
 -- and so does a body
-pub body-shallow : (ts us : List Tok) (body : List Stmt) → past_sign OpenBrace ts (body_at 16) ≡ Some (body, us) → IsShallow body
+pub body-shallow : (ts us : List Tok) (body : List Stmt) → past_sign OpenBrace ts (body_at most_block_levels) ≡ Some (body, us) → IsShallow body
 body-shallow ts us body e =
-    let keeps = read_at (BlockWithin 16) (past_sign OpenBrace ts (body_at 16)) (body, us) (past_sign-keeps (BlockWithin 16) OpenBrace ts (body_at 16) (body-limits 16)) e in
+    let keeps = read_at (BlockWithin most_block_levels) (past_sign OpenBrace ts (body_at most_block_levels)) (body, us) (past_sign-keeps (BlockWithin most_block_levels) OpenBrace ts (body_at most_block_levels) (body-limits most_block_levels)) e in
     record { blocks = keeps.blocks; exprs = keeps.exprs }

@@ -58,11 +58,15 @@ abbrev pub IsTooDeepAt : Result (List (Tok × Span)) TextFault → ℕ → Type 
 IsTooDeepAt (Ok ts) place = IsDeepThere ts place
 IsTooDeepAt (Err f) place = ⊥
 
+-- the most bytes of a description
+abbrev pub most_desc_bytes : ℕ
+most_desc_bytes = 1048576
+
 -- an answer is the one that the text asks for, unless memory ran out
 abbrev pub IsAnswer : List ℕ → Result Desc DescFault → Type 0
-IsAnswer text (Ok d) = (length text ≤ 1_048_576) × (tokens_in text ≡ Some (tokens_of d))
-IsAnswer text (Err Long) = 1_048_576 < length text
-IsAnswer text (Err (Token place)) = (length text ≤ 1_048_576) × IsFaultAt (cut text) place
-IsAnswer text (Err (Grammar place)) = (length text ≤ 1_048_576) × IsGrammarAt (cut text) (length text) place
-IsAnswer text (Err (Deep place)) = (length text ≤ 1_048_576) × IsTooDeepAt (cut text) place
+IsAnswer text (Ok d) = (length text ≤ most_desc_bytes) × (tokens_in text ≡ Some (tokens_of d))
+IsAnswer text (Err Long) = most_desc_bytes < length text
+IsAnswer text (Err (Token place)) = (length text ≤ most_desc_bytes) × IsFaultAt (cut text) place
+IsAnswer text (Err (Grammar place)) = (length text ≤ most_desc_bytes) × IsGrammarAt (cut text) (length text) place
+IsAnswer text (Err (Deep place)) = (length text ≤ most_desc_bytes) × IsTooDeepAt (cut text) place
 IsAnswer text (Err Memory) = Unit {0}

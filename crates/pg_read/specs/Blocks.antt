@@ -1,6 +1,7 @@
--- Blocks of so many levels, and the expressions in them of at most 32.
+-- Blocks of so many levels, and the expressions in them of as many as they may have.
 use Rattle.std.specs.Prelude.{ℕ, zero, suc, List, [], ◌∷◌, length, Option, None, Some}
 use Rattle.pg_token.specs.declared.tok.Tok.{Tok}
+use Rattle.pg_ast.specs.Levels.{most_expr_levels}
 use Rattle.pg_ast.specs.declared.tree.Stmt.{Stmt}
 use Rattle.pg_ast.specs.Reading.{then_read, past_close, read_expr, read_stmt}
 
@@ -18,4 +19,4 @@ stmts_at stmt (suc k) ts = stmts_next stmt (stmts_at stmt k) ts (past_close ts)
 -- tokens
 unfoldable pub body_at : ℕ → List Tok → Option (List Stmt × List Tok)
 body_at zero ts = None
-body_at (suc n) ts = stmts_at (read_stmt (read_expr 32) (body_at n)) (suc (length ts)) ts
+body_at (suc n) ts = stmts_at (read_stmt (read_expr most_expr_levels) (body_at n)) (suc (length ts)) ts

@@ -45,7 +45,7 @@ unfoldable pub wide_marks : Wide → List Mark
 wide_marks w = map (λ t. Plain) (head_tokens (bare_of w)) ++ instrs_marks w.instrs
 
 -- some description of any depth begins with these tokens, and they have these marks there
-pub record IsFront (ts : List Tok) (marks : List Mark) : Type 0 where
+pub record IsMarkedFront (ts : List Tok) (marks : List Mark) : Type 0 where
   pub wide : Wide
   pub rest : List Tok
   pub begins : wide_tokens wide ≡ ts ++ rest
@@ -54,14 +54,14 @@ pub record IsFront (ts : List Tok) (marks : List Mark) : Type 0 where
 -- and none of them is too deep
 pub record IsAllowed (ts : List Tok) : Type 0 where
   pub marks : List Mark
-  pub front : IsFront ts marks
+  pub front : IsMarkedFront ts marks
   pub shallow : has_deep marks ≡ false
 
 -- the token at k is the first with which no description goes on
 pub record IsWrongAt (ts : List Tok) (k : ℕ) : Type 0 where
   pub inside : k < length ts
   pub allowed : IsAllowed (take k ts)
-  pub wrong : (marks : List Mark) → IsFront (take (suc k) ts) marks → ⊥
+  pub wrong : (marks : List Mark) → IsMarkedFront (take (suc k) ts) marks → ⊥
 
 -- descriptions begin so, and none ends here
 pub record EndsEarly (ts : List Tok) : Type 0 where
@@ -75,4 +75,4 @@ pub record IsDeepAt (ts : List Tok) (k : ℕ) : Type 0 where
   pub marks : List Mark
   pub last : Mark
   pub deep : is_deep last ≡ true
-  pub front : IsFront (take (suc k) ts) (marks ++ last ∷ [])
+  pub front : IsMarkedFront (take (suc k) ts) (marks ++ last ∷ [])

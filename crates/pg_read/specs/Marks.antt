@@ -1,6 +1,7 @@
 -- What each token of an expression, a statement or a block does to depth. The lists of marks stand beside the lists of
 -- tokens that pg_ast defines, one mark for each token.
 use Rattle.std.specs.Prelude.{ℕ, suc, Bool, false, ◌||◌, nat_lt, map, List, [], ◌∷◌, ◌++◌, Option, None, Some}
+use Rattle.pg_ast.specs.Levels.{most_expr_levels, most_block_levels}
 use Rattle.pg_ast.specs.declared.tree.Expr.{Expr}
 use Rattle.pg_ast.specs.declared.tree.Expr.TheOpen.{Expr-F, Lit, Name, Pc, Mode, Rel, Bound, Load, Not, Bin, Cat, Cut, Ext, Sext, Sel}
 use Rattle.pg_ast.specs.declared.tree.Expr.TheFolds.{fold-Expr}
@@ -14,10 +15,10 @@ pub data Mark : Type 0 where
   Opens : ℕ → Mark
   Plain : Mark
 
--- expressions go down to level 32, and blocks to level 16
+-- too deep is what stands below the last level of expressions, or of blocks
 abbrev pub is_deep : Mark → Bool
-is_deep (Begins n) = nat_lt 32 n
-is_deep (Opens n) = nat_lt 16 n
+is_deep (Begins n) = nat_lt most_expr_levels n
+is_deep (Opens n) = nat_lt most_block_levels n
 is_deep Plain = false
 
 -- whether one of these marks is too deep

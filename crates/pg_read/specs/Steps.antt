@@ -9,10 +9,10 @@ use Rattle.pg_read.specs.declared.fault.Stop.{Stop}
 use Rattle.pg_read.specs.declared.fault.Stop.TheVariants.{Unread, Memory}
 
 -- what a step answers, and the tokens that it leaves, are what is due, unless memory ran out
-abbrev pub IsDue : {A : Type 0} → Result A Stop → Option (A × List Tok) → List Tok → Type 0
-IsDue (Ok a) due left = due ≡ Some (a, left)
-IsDue (Err Unread) due left = due ≡ None
-IsDue (Err Memory) due left = Unit {0}
+abbrev pub IsStepDue : {A : Type 0} → Result A Stop → Option (A × List Tok) → List Tok → Type 0
+IsStepDue (Ok a) due left = due ≡ Some (a, left)
+IsStepDue (Err Unread) due left = due ≡ None
+IsStepDue (Err Memory) due left = Unit {0}
 
 -- what comes first was found and passed over, or else nothing is passed over
 abbrev pub IsPassed : Bool → Option (List Tok) → (before after : List Tok) → Type 0

@@ -2,6 +2,7 @@
 use Rattle.std.specs.Prelude.{◌≡◌, ℕ, zero, suc, Bool, true, false, List, [], ◌∷◌, length, Option, None, Some, Result, Ok, Err, codes}
 use Rattle.pg_token.specs.declared.tok.Tok.{Tok}
 use Rattle.pg_token.specs.declared.tok.Sign.TheVariants.{OpenBrace, CloseBrace, Semicolon}
+use Rattle.pg_ast.specs.Levels.{most_block_levels}
 use Rattle.pg_ast.specs.declared.tree.Instr.{Instr}
 use Rattle.pg_ast.specs.declared.tree.Desc.{Desc}
 use Rattle.pg_ast.specs.Reading.{then_read, past_found, past_sign, past_word, past_close, instr_of, cons_read, with_instrs}
@@ -24,7 +25,7 @@ instr_made found ts = past_found found ts (λ i us. Some (i, us))
 unfoldable pub instr_at : List Tok → Option (Instr × List Tok)
 instr_at ts =
     then_read (past_word (codes "instr") ts alone) (λ _ us. then_read (name_at us) (λ n vs. then_read (pattern_at vs) (λ p ws.
-    then_read (past_sign OpenBrace ws (body_at 16)) (λ body rest. instr_made (instr_of n p body) rest))))
+    then_read (past_sign OpenBrace ws (body_at most_block_levels)) (λ body rest. instr_made (instr_of n p body) rest))))
 
 -- the instructions up to the end, fewer than so many
 unfoldable pub instrs_within : ℕ → List Tok → Option (List Instr)

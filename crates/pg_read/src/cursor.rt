@@ -7,7 +7,7 @@
 
 ghost use Rattle.std.specs.Prelude.{◌≡◌, [], ◌∷◌, map, IsTrue, ◌↔◌, IfOk, MatchOption};
 ghost use Rattle.pg_ast.specs.Reading.{past_sign, past_word, past_close, past_else, name_of, pattern_of, op_of};
-ghost use Rattle.pg_read.specs.Steps.{IsDue, IsPassed, alone, number_at, name_at, pattern_at, op_at};
+ghost use Rattle.pg_read.specs.Steps.{IsStepDue, IsPassed, alone, number_at, name_at, pattern_at, op_at};
 
 use crate::fault::Stop;
 use crate::words::is_same;
@@ -101,7 +101,7 @@ impl<'a> Cursor<'a> {
 
     /// Passes over this sign.
     pub fn sign(&mut self, sign: Sign) -> Result<(), Stop>
-        ensures { IsDue result (past_sign sign self.old alone) self.new }
+        ensures { IsStepDue result (past_sign sign self.old alone) self.new }
     {
         match self.next() {
             Some(Tok::Sign(found)) => {
@@ -117,7 +117,7 @@ impl<'a> Cursor<'a> {
 
     /// Passes over this word.
     pub fn word(&mut self, word: &[u8]) -> Result<(), Stop>
-        ensures { IsDue result (past_word word.now self.old alone) self.new }
+        ensures { IsStepDue result (past_word word.now self.old alone) self.new }
     {
         match self.next() {
             Some(Tok::Word(found)) => {
@@ -133,7 +133,7 @@ impl<'a> Cursor<'a> {
 
     /// Passes over a number.
     pub fn number(&mut self) -> Result<u64, Stop>
-        ensures { IsDue result (number_at self.old) self.new }
+        ensures { IsStepDue result (number_at self.old) self.new }
     {
         match self.next() {
             Some(Tok::Number(value)) => Ok(*value),
@@ -143,7 +143,7 @@ impl<'a> Cursor<'a> {
 
     /// Passes over this sign and a number.
     pub fn number_behind(&mut self, sign: Sign) -> Result<u64, Stop>
-        ensures { IsDue result (past_sign sign self.old number_at) self.new }
+        ensures { IsStepDue result (past_sign sign self.old number_at) self.new }
     {
         self.sign(sign)?;
         self.number()
@@ -151,7 +151,7 @@ impl<'a> Cursor<'a> {
 
     /// Passes over a name.
     pub fn name(&mut self, alloc: Global) -> Result<Name, Stop>
-        ensures { IsDue result (name_at self.old) self.new }
+        ensures { IsStepDue result (name_at self.old) self.new }
     {
         match self.next() {
             Some(Tok::Word(found)) => name_of(alloc, found.as_slice())?.ok_or(Stop::Unread),
@@ -161,7 +161,7 @@ impl<'a> Cursor<'a> {
 
     /// Passes over a pattern.
     pub fn pattern(&mut self, alloc: Global) -> Result<PatternText, Stop>
-        ensures { IsDue result (pattern_at self.old) self.new }
+        ensures { IsStepDue result (pattern_at self.old) self.new }
     {
         match self.next() {
             Some(Tok::Pattern(found)) => pattern_of(alloc, found.as_slice())?.ok_or(Stop::Unread),
@@ -171,7 +171,7 @@ impl<'a> Cursor<'a> {
 
     /// Passes over the sign of an operator.
     pub fn op(&mut self) -> Result<Op, Stop>
-        ensures { IsDue result (op_at self.old) self.new }
+        ensures { IsStepDue result (op_at self.old) self.new }
     {
         match self.next() {
             Some(Tok::Sign(found)) => op_of(*found).ok_or(Stop::Unread),

@@ -6,7 +6,7 @@
 //! that name (`cat`, and `cat_at` in `specs/Forms.antt`). An expression inside another takes memory for its box.
 
 ghost use Rattle.pg_ast.specs.Reading.{read_expr, read_level, read_word, read_sign, past_sign, name_of};
-ghost use Rattle.pg_read.specs.Steps.{IsDue};
+ghost use Rattle.pg_read.specs.Steps.{IsStepDue};
 ghost use Rattle.pg_read.specs.Forms.{lit_at, load_at, not_at, bin_at, cat_at, cut_at, ext_at, sext_at, sel_at, expr_word_at};
 
 use crate::cursor::{Cursor, name_of};
@@ -21,7 +21,7 @@ use std::alloc::Global;
 #[cycle(exprs)]
 #[tactic(auto, using(crate::proofs::FormLemmas::expr_rules))]
 pub fn expr(alloc: Global, cursor: &mut Cursor<'_>, levels: u32) -> Result<Expr, Stop>
-    ensures { IsDue result (read_expr levels cursor.old) cursor.new }
+    ensures { IsStepDue result (read_expr levels cursor.old) cursor.new }
 {
     if levels == 0 {
         return Err(Stop::Unread);
@@ -37,7 +37,7 @@ pub fn expr_behind(
     sign: Sign,
     levels: u32,
 ) -> Result<Expr, Stop>
-    ensures { IsDue result (past_sign sign cursor.old (read_expr levels)) cursor.new }
+    ensures { IsStepDue result (past_sign sign cursor.old (read_expr levels)) cursor.new }
 {
     cursor.sign(sign)?;
     expr(alloc, cursor, levels)
@@ -47,7 +47,7 @@ pub fn expr_behind(
 #[cycle(exprs)]
 #[tactic(auto, unfolding(pg_ast::specs::Reading::read_level))]
 fn level(alloc: Global, cursor: &mut Cursor<'_>, inner: u32) -> Result<Expr, Stop>
-    ensures { IsDue result (read_level (read_expr inner) cursor.old) cursor.new }
+    ensures { IsStepDue result (read_level (read_expr inner) cursor.old) cursor.new }
 {
     match cursor.next() {
         None => Err(Stop::Unread),
@@ -62,7 +62,7 @@ fn level(alloc: Global, cursor: &mut Cursor<'_>, inner: u32) -> Result<Expr, Sto
 #[cycle(exprs)]
 #[tactic(auto, using(crate::proofs::FormLemmas::keyword_rules))]
 fn word(alloc: Global, cursor: &mut Cursor<'_>, bytes: &[u8], inner: u32) -> Result<Expr, Stop>
-    ensures { IsDue result (read_word (read_expr inner) bytes.now cursor.old (name_of bytes.now)) cursor.new }
+    ensures { IsStepDue result (read_word (read_expr inner) bytes.now cursor.old (name_of bytes.now)) cursor.new }
 {
     match name_of(alloc, bytes)? {
         Some(name) => Ok(Expr::Name(name)),
@@ -78,7 +78,7 @@ fn keyword(
     word: Option<ExprWord>,
     inner: u32,
 ) -> Result<Expr, Stop>
-    ensures { IsDue result (expr_word_at (read_expr inner) word cursor.old) cursor.new }
+    ensures { IsStepDue result (expr_word_at (read_expr inner) word cursor.old) cursor.new }
 {
     match word {
         None => Err(Stop::Unread),
@@ -99,7 +99,7 @@ fn keyword(
 #[cycle(exprs)]
 #[tactic(auto, using(crate::proofs::FormLemmas::sign_rules), unfolding(crate::specs::Forms::not_at))]
 fn signed(alloc: Global, cursor: &mut Cursor<'_>, sign: Sign, inner: u32) -> Result<Expr, Stop>
-    ensures { IsDue result (read_sign (read_expr inner) sign cursor.old) cursor.new }
+    ensures { IsStepDue result (read_sign (read_expr inner) sign cursor.old) cursor.new }
 {
     match sign {
         Sign::Tilde => not(alloc, cursor, inner),
@@ -111,7 +111,7 @@ fn signed(alloc: Global, cursor: &mut Cursor<'_>, sign: Sign, inner: u32) -> Res
 /// The rest of `v:w`.
 #[tactic(auto, unfolding(crate::specs::Forms::lit_at))]
 fn lit(cursor: &mut Cursor<'_>, value: u64) -> Result<Expr, Stop>
-    ensures { IsDue result (lit_at value cursor.old) cursor.new }
+    ensures { IsStepDue result (lit_at value cursor.old) cursor.new }
 {
     let width = cursor.number_behind(Sign::Colon)?;
     Ok(Expr::Lit(value, width))
@@ -121,7 +121,7 @@ fn lit(cursor: &mut Cursor<'_>, value: u64) -> Result<Expr, Stop>
 #[cycle(exprs)]
 #[tactic(auto, unfolding(crate::specs::Forms::load_at))]
 fn load(alloc: Global, cursor: &mut Cursor<'_>, inner: u32) -> Result<Expr, Stop>
-    ensures { IsDue result (load_at (read_expr inner) cursor.old) cursor.new }
+    ensures { IsStepDue result (load_at (read_expr inner) cursor.old) cursor.new }
 {
     let e = expr_behind(alloc, cursor, Sign::OpenBracket, inner)?;
     cursor.sign(Sign::CloseBracket)?;
@@ -132,7 +132,7 @@ fn load(alloc: Global, cursor: &mut Cursor<'_>, inner: u32) -> Result<Expr, Stop
 #[cycle(exprs)]
 #[tactic(auto, unfolding(crate::specs::Forms::not_at))]
 fn not(alloc: Global, cursor: &mut Cursor<'_>, inner: u32) -> Result<Expr, Stop>
-    ensures { IsDue result (not_at (read_expr inner) cursor.old) cursor.new }
+    ensures { IsStepDue result (not_at (read_expr inner) cursor.old) cursor.new }
 {
     let e = expr(alloc, cursor, inner)?;
     Ok(Expr::Not(Boxed::new(alloc, e)?))
@@ -142,7 +142,7 @@ fn not(alloc: Global, cursor: &mut Cursor<'_>, inner: u32) -> Result<Expr, Stop>
 #[cycle(exprs)]
 #[tactic(auto, unfolding(crate::specs::Forms::bin_at))]
 fn bin(alloc: Global, cursor: &mut Cursor<'_>, inner: u32) -> Result<Expr, Stop>
-    ensures { IsDue result (bin_at (read_expr inner) cursor.old) cursor.new }
+    ensures { IsStepDue result (bin_at (read_expr inner) cursor.old) cursor.new }
 {
     let x = expr(alloc, cursor, inner)?;
     let op = cursor.op()?;
@@ -155,7 +155,7 @@ fn bin(alloc: Global, cursor: &mut Cursor<'_>, inner: u32) -> Result<Expr, Stop>
 #[cycle(exprs)]
 #[tactic(auto, unfolding(crate::specs::Forms::cat_at))]
 fn cat(alloc: Global, cursor: &mut Cursor<'_>, inner: u32) -> Result<Expr, Stop>
-    ensures { IsDue result (cat_at (read_expr inner) cursor.old) cursor.new }
+    ensures { IsStepDue result (cat_at (read_expr inner) cursor.old) cursor.new }
 {
     let x = expr_behind(alloc, cursor, Sign::OpenParen, inner)?;
     let y = expr_behind(alloc, cursor, Sign::Comma, inner)?;
@@ -167,7 +167,7 @@ fn cat(alloc: Global, cursor: &mut Cursor<'_>, inner: u32) -> Result<Expr, Stop>
 #[cycle(exprs)]
 #[tactic(auto, unfolding(crate::specs::Forms::cut_at))]
 fn cut(alloc: Global, cursor: &mut Cursor<'_>, inner: u32) -> Result<Expr, Stop>
-    ensures { IsDue result (cut_at (read_expr inner) cursor.old) cursor.new }
+    ensures { IsStepDue result (cut_at (read_expr inner) cursor.old) cursor.new }
 {
     let e = expr_behind(alloc, cursor, Sign::OpenParen, inner)?;
     let high = cursor.number_behind(Sign::Comma)?;
@@ -180,7 +180,7 @@ fn cut(alloc: Global, cursor: &mut Cursor<'_>, inner: u32) -> Result<Expr, Stop>
 #[cycle(exprs)]
 #[tactic(auto, unfolding(crate::specs::Forms::ext_at))]
 fn ext(alloc: Global, cursor: &mut Cursor<'_>, inner: u32) -> Result<Expr, Stop>
-    ensures { IsDue result (ext_at (read_expr inner) cursor.old) cursor.new }
+    ensures { IsStepDue result (ext_at (read_expr inner) cursor.old) cursor.new }
 {
     let e = expr_behind(alloc, cursor, Sign::OpenParen, inner)?;
     let width = cursor.number_behind(Sign::Comma)?;
@@ -192,7 +192,7 @@ fn ext(alloc: Global, cursor: &mut Cursor<'_>, inner: u32) -> Result<Expr, Stop>
 #[cycle(exprs)]
 #[tactic(auto, unfolding(crate::specs::Forms::sext_at))]
 fn sext(alloc: Global, cursor: &mut Cursor<'_>, inner: u32) -> Result<Expr, Stop>
-    ensures { IsDue result (sext_at (read_expr inner) cursor.old) cursor.new }
+    ensures { IsStepDue result (sext_at (read_expr inner) cursor.old) cursor.new }
 {
     let e = expr_behind(alloc, cursor, Sign::OpenParen, inner)?;
     let width = cursor.number_behind(Sign::Comma)?;
@@ -204,7 +204,7 @@ fn sext(alloc: Global, cursor: &mut Cursor<'_>, inner: u32) -> Result<Expr, Stop
 #[cycle(exprs)]
 #[tactic(auto, unfolding(crate::specs::Forms::sel_at))]
 fn sel(alloc: Global, cursor: &mut Cursor<'_>, inner: u32) -> Result<Expr, Stop>
-    ensures { IsDue result (sel_at (read_expr inner) cursor.old) cursor.new }
+    ensures { IsStepDue result (sel_at (read_expr inner) cursor.old) cursor.new }
 {
     let test = expr_behind(alloc, cursor, Sign::OpenParen, inner)?;
     let chosen = expr_behind(alloc, cursor, Sign::Comma, inner)?;

@@ -13,8 +13,8 @@ use thiserror::Error;
 /// Why the bytes of a text were not read as a description. Places are bytes of the text, counted from 0.
 #[derive(Clone, Copy, Debug, PartialEq, Eq, Error)]
 pub enum DescFault {
-    /// There are more than `TEXT_LIMIT` of them.
-    #[error("more than 1048576 bytes")]
+    /// There are more than `DESC_BYTES` of them.
+    #[error("too many bytes")]
     Long,
     /// The first byte, number, word or pattern that makes no token stands here.
     #[error("no token at {0}")]

@@ -8,7 +8,7 @@
 ghost use Rattle.std.specs.Prelude.{◌≡◌, Some};
 ghost use Rattle.pg_ast.specs.Levels.{IsShallow};
 ghost use Rattle.pg_ast.specs.Reading.{instr_of};
-ghost use Rattle.pg_read.specs.Steps.{IsDue};
+ghost use Rattle.pg_read.specs.Steps.{IsStepDue};
 ghost use Rattle.pg_read.specs.Whole.{IsAllDue, instr_at, instrs_at, line_at, causes_at, desc_at};
 
 use crate::cursor::Cursor;
@@ -30,7 +30,7 @@ fn made(name: Name, pattern: PatternText, body: StmtList) -> Instr
 /// An instruction.
 #[tactic(auto, unfolding(crate::specs::Whole::instr_at))]
 fn instr(alloc: Global, cursor: &mut Cursor<'_>) -> Result<Instr, Stop>
-    ensures { IsDue result (instr_at cursor.old) cursor.new }
+    ensures { IsStepDue result (instr_at cursor.old) cursor.new }
 {
     cursor.word(b"instr")?;
     let name = cursor.name(alloc)?;
@@ -54,7 +54,7 @@ fn instrs(alloc: Global, cursor: &mut Cursor<'_>) -> Result<InstrList, Stop>
 /// A line of the head: this word, a number and `;`.
 #[tactic(auto, unfolding(crate::specs::Whole::line_at))]
 fn line(cursor: &mut Cursor<'_>, word: &[u8]) -> Result<u64, Stop>
-    ensures { IsDue result (line_at word.now cursor.old) cursor.new }
+    ensures { IsStepDue result (line_at word.now cursor.old) cursor.new }
 {
     cursor.word(word)?;
     let number = cursor.number()?;
@@ -64,7 +64,7 @@ fn line(cursor: &mut Cursor<'_>, word: &[u8]) -> Result<u64, Stop>
 
 /// The end of the head: whether causes are on, and its closing brace.
 fn causes(cursor: &mut Cursor<'_>) -> Result<bool, Stop>
-    ensures { IsDue result (causes_at cursor.old) cursor.new }
+    ensures { IsStepDue result (causes_at cursor.old) cursor.new }
 {
     if cursor.close() {
         return Ok(false);

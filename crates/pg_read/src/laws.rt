@@ -6,7 +6,7 @@
 ghost use Rattle.std.specs.Prelude.{◌≡◌, ◌≢◌, ℕ, List, Result, Err};
 ghost use Rattle.pg_token.specs.declared.tok.Tok.{Tok};
 ghost use Rattle.pg_read.specs.Marks.{Mark};
-ghost use Rattle.pg_read.specs.Fronts.{IsFront};
+ghost use Rattle.pg_read.specs.Fronts.{IsMarkedFront};
 ghost use Rattle.pg_ast.specs.declared.tree.Desc.{Desc};
 ghost use Rattle.pg_read.specs.declared.fault.DescFault.{DescFault};
 ghost use Rattle.pg_read.specs.declared.fault.DescFault.TheVariants.{Memory};
@@ -14,7 +14,7 @@ ghost use Rattle.pg_read.specs.Answer.{IsAnswer};
 
 /// The law of marks: what tokens do to depth is said by the tokens alone, whichever descriptions begin with them.
 pub fn tokens_determine_marks()
-    ensures { (ts : List Tok) (ms ns : List Mark) → IsFront ts ms → IsFront ts ns → ms ≡ ns }
+    ensures { (ts : List Tok) (ms ns : List Mark) → IsMarkedFront ts ms → IsMarkedFront ts ns → ms ≡ ns }
 {}
 
 /// The law of answers: a text allows one answer, unless memory runs out.

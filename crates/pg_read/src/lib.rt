@@ -6,8 +6,8 @@
 //! the fault is the place of the first with which no description goes on, or which goes down too many levels
 //! (`specs/Fronts.antt`).
 //!
-//! A text of any kind is safe to read. It has at most `TEXT_LIMIT` bytes, expressions are read down to 32 levels and blocks
-//! down to 16, so that no text makes the reader recurse further, and its time grows with the bytes alone. What is read
+//! A text of any kind is safe to read. It has at most `DESC_BYTES` bytes, expressions are read down to `EXPR_LEVELS` and
+//! blocks down to `BLOCK_LEVELS`, so that no text makes the reader recurse further, and its time grows with the bytes alone. What is read
 //! owns its memory, and nothing of the text is kept.
 //!
 //! - `fault`: why there is no description.
@@ -30,11 +30,9 @@ mod instrs;
 mod judge;
 mod laws;
 mod stmts;
-#[cfg(test)]
-mod tests;
 mod whole;
 mod words;
 
 pub use fault::DescFault;
 pub use laws::{one_answer_is_due, tokens_determine_marks};
-pub use whole::{TEXT_LIMIT, read_desc};
+pub use whole::{DESC_BYTES, read_desc};

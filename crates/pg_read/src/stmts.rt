@@ -8,7 +8,7 @@
 ghost use Rattle.std.specs.Prelude.{suc, length};
 ghost use Rattle.pg_ast.specs.Reading.{read_expr, read_stmt, read_stmt_word, past_sign, past_else};
 ghost use Rattle.pg_token.specs.declared.tok.Sign.TheVariants.{OpenBrace};
-ghost use Rattle.pg_read.specs.Steps.{IsDue};
+ghost use Rattle.pg_read.specs.Steps.{IsStepDue};
 ghost use Rattle.pg_read.specs.Forms.{value_at, let_at, store_at, trap_at, else_found, if_at, stmt_word_at};
 ghost use Rattle.pg_read.specs.Blocks.{stmts_at, body_at};
 
@@ -24,7 +24,7 @@ use std::alloc::Global;
 /// What is assigned: `=`, an expression and `;`.
 #[tactic(auto, unfolding(crate::specs::Forms::value_at))]
 fn value(alloc: Global, cursor: &mut Cursor<'_>) -> Result<Expr, Stop>
-    ensures { IsDue result (value_at (read_expr 32) cursor.old) cursor.new }
+    ensures { IsStepDue result (value_at (read_expr 32) cursor.old) cursor.new }
 {
     let e = expr_behind(alloc, cursor, Sign::Equals, EXPR_LEVELS)?;
     cursor.sign(Sign::Semicolon)?;
@@ -34,7 +34,7 @@ fn value(alloc: Global, cursor: &mut Cursor<'_>) -> Result<Expr, Stop>
 /// A let, behind its first word.
 #[tactic(auto, unfolding(crate::specs::Forms::let_at))]
 fn binding(alloc: Global, cursor: &mut Cursor<'_>) -> Result<Stmt, Stop>
-    ensures { IsDue result (let_at (read_expr 32) cursor.old) cursor.new }
+    ensures { IsStepDue result (let_at (read_expr 32) cursor.old) cursor.new }
 {
     let name = cursor.name(alloc)?;
     let e = value(alloc, cursor)?;
@@ -44,7 +44,7 @@ fn binding(alloc: Global, cursor: &mut Cursor<'_>) -> Result<Stmt, Stop>
 /// A store, behind its first word.
 #[tactic(auto, unfolding(crate::specs::Forms::store_at))]
 fn store(alloc: Global, cursor: &mut Cursor<'_>) -> Result<Stmt, Stop>
-    ensures { IsDue result (store_at (read_expr 32) cursor.old) cursor.new }
+    ensures { IsStepDue result (store_at (read_expr 32) cursor.old) cursor.new }
 {
     let address = expr_behind(alloc, cursor, Sign::OpenBracket, EXPR_LEVELS)?;
     cursor.sign(Sign::CloseBracket)?;
@@ -55,7 +55,7 @@ fn store(alloc: Global, cursor: &mut Cursor<'_>) -> Result<Stmt, Stop>
 /// A trap, behind its word.
 #[tactic(auto, unfolding(crate::specs::Forms::trap_at))]
 fn trap(cursor: &mut Cursor<'_>) -> Result<Stmt, Stop>
-    ensures { IsDue result (trap_at cursor.old) cursor.new }
+    ensures { IsStepDue result (trap_at cursor.old) cursor.new }
 {
     cursor.sign(Sign::Semicolon)?;
     Ok(Stmt::Trap)
@@ -65,7 +65,7 @@ fn trap(cursor: &mut Cursor<'_>) -> Result<Stmt, Stop>
 #[cycle(stmts)]
 #[tactic(auto, unfolding(pg_ast::specs::Reading::read_stmt))]
 fn stmt(alloc: Global, cursor: &mut Cursor<'_>, inner: u32) -> Result<Stmt, Stop>
-    ensures { IsDue result (read_stmt (read_expr 32) (body_at inner) cursor.old) cursor.new }
+    ensures { IsStepDue result (read_stmt (read_expr 32) (body_at inner) cursor.old) cursor.new }
 {
     match cursor.next() {
         Some(Tok::Word(bytes)) => word(alloc, cursor, bytes.as_slice(), inner),
@@ -77,7 +77,7 @@ fn stmt(alloc: Global, cursor: &mut Cursor<'_>, inner: u32) -> Result<Stmt, Stop
 #[cycle(stmts)]
 #[tactic(auto, using(crate::proofs::FormLemmas::stmt_rules))]
 fn word(alloc: Global, cursor: &mut Cursor<'_>, bytes: &[u8], inner: u32) -> Result<Stmt, Stop>
-    ensures { IsDue result (read_stmt_word (read_expr 32) (body_at inner) bytes.now cursor.old) cursor.new }
+    ensures { IsStepDue result (read_stmt_word (read_expr 32) (body_at inner) bytes.now cursor.old) cursor.new }
 {
     keyword(alloc, cursor, StmtWord::of(bytes), inner)
 }
@@ -91,7 +91,7 @@ fn keyword(
     word: Option<StmtWord>,
     inner: u32,
 ) -> Result<Stmt, Stop>
-    ensures { IsDue result (stmt_word_at (read_expr 32) (body_at inner) word cursor.old) cursor.new }
+    ensures { IsStepDue result (stmt_word_at (read_expr 32) (body_at inner) word cursor.old) cursor.new }
 {
     match word {
         None => Err(Stop::Unread),
@@ -110,7 +110,7 @@ fn keyword(
 #[cycle(stmts)]
 #[tactic(auto, unfolding(crate::specs::Forms::if_at))]
 fn choice(alloc: Global, cursor: &mut Cursor<'_>, inner: u32) -> Result<Stmt, Stop>
-    ensures { IsDue result (if_at (read_expr 32) (body_at inner) cursor.old) cursor.new }
+    ensures { IsStepDue result (if_at (read_expr 32) (body_at inner) cursor.old) cursor.new }
 {
     let c = expr(alloc, cursor, EXPR_LEVELS)?;
     let held = block(alloc, cursor, inner)?;
@@ -121,7 +121,7 @@ fn choice(alloc: Global, cursor: &mut Cursor<'_>, inner: u32) -> Result<Stmt, St
 /// The block of an else, where that word comes next.
 #[cycle(stmts)]
 fn other_block(alloc: Global, cursor: &mut Cursor<'_>, inner: u32) -> Result<Option<StmtList>, Stop>
-    ensures { IsDue result (else_found (body_at inner) cursor.old (past_else cursor.old)) cursor.new }
+    ensures { IsStepDue result (else_found (body_at inner) cursor.old (past_else cursor.old)) cursor.new }
 {
     if !cursor.otherwise() {
         return Ok(None);
@@ -133,7 +133,7 @@ fn other_block(alloc: Global, cursor: &mut Cursor<'_>, inner: u32) -> Result<Opt
 /// A block of at most so many levels.
 #[cycle(stmts)]
 pub fn block(alloc: Global, cursor: &mut Cursor<'_>, levels: u32) -> Result<StmtList, Stop>
-    ensures { IsDue result (past_sign OpenBrace cursor.old (body_at levels)) cursor.new }
+    ensures { IsStepDue result (past_sign OpenBrace cursor.old (body_at levels)) cursor.new }
 {
     cursor.sign(Sign::OpenBrace)?;
     body(alloc, cursor, levels)
@@ -143,7 +143,7 @@ pub fn block(alloc: Global, cursor: &mut Cursor<'_>, levels: u32) -> Result<Stmt
 #[cycle(stmts)]
 #[tactic(auto, using(crate::proofs::BlockLemmas::body_rules))]
 fn body(alloc: Global, cursor: &mut Cursor<'_>, levels: u32) -> Result<StmtList, Stop>
-    ensures { IsDue result (body_at levels cursor.old) cursor.new }
+    ensures { IsStepDue result (body_at levels cursor.old) cursor.new }
 {
     if levels == 0 {
         return Err(Stop::Unread);
@@ -154,7 +154,7 @@ fn body(alloc: Global, cursor: &mut Cursor<'_>, levels: u32) -> Result<StmtList,
 /// The statements up to a closing brace, and past it. Blocks inside have at most so many levels.
 #[cycle(stmts)]
 fn stmts(alloc: Global, cursor: &mut Cursor<'_>, inner: u32) -> Result<StmtList, Stop>
-    ensures { IsDue result (stmts_at (read_stmt (read_expr 32) (body_at inner)) (suc (length cursor.old)) cursor.old) cursor.new }
+    ensures { IsStepDue result (stmts_at (read_stmt (read_expr 32) (body_at inner)) (suc (length cursor.old)) cursor.old) cursor.new }
 {
     let mut stmts = Items::new(alloc);
     while !cursor.close() {

@@ -19,7 +19,7 @@ use pg_token::Tok;
 use std::alloc::Global;
 
 /// The greatest number of bytes of a text: one more, and the text is `Long`.
-pub const TEXT_LIMIT: usize = 1_048_576;
+pub const DESC_BYTES: usize = 1_048_576;
 
 /// The fault of a text that has a fault of its tokens.
 fn token_fault(fault: TextFault) -> DescFault
@@ -47,13 +47,13 @@ fn why_unread(alloc: Global, toks: &[(Tok, Span)], end: usize) -> DescFault
 /// The description of a text, or why there is none.
 ///
 /// `Ok` is the description whose tokens are the text's. `Long` comes before all else, where the text has more than
-/// `TEXT_LIMIT` bytes. `Token` is the place of the text's first fault, where it has one. `Grammar` and `Deep` are the
+/// `DESC_BYTES` bytes. `Token` is the place of the text's first fault, where it has one. `Grammar` and `Deep` are the
 /// place of the first token that is wrong or too deep, where tokens are no description's; `Grammar` is the text's length
 /// where they come to an end too early. `Memory` comes where an allocation fails, and says nothing of the text.
 pub fn read_desc(alloc: Global, bytes: &[u8]) -> Result<Desc, DescFault>
     ensures { IsAnswer bytes.now result }
 {
-    if bytes.len() > TEXT_LIMIT {
+    if bytes.len() > DESC_BYTES {
         return Err(DescFault::Long);
     }
     let toks = match tokens(alloc, bytes) {

@@ -4,16 +4,16 @@ use Rattle.std.proofs.lemmas.List.{take_min}
 use Rattle.std.proofs.lemmas.Bool.{and_parts}
 use Rattle.std.specs.Prelude.{IsTrue}
 use Rattle.std.specs.List.{list_all}
-use Rattle.pg_token.specs.Words.{is_name, is_word, is_letter, is_word_byte, is_reserved}
+use Rattle.pg_token.specs.Words.{most_name_bytes, is_name, is_word, is_letter, is_word_byte, is_reserved}
 
 -- a word has at most 32 bytes
-length-word : (w : List ℕ) → is_word w ≡ true → length w ≤ 32
+length-word : (w : List ℕ) → is_word w ≡ true → length w ≤ most_name_bytes
 length-word [] h = omega arith
 length-word (c ∷ cs) h =
-    let rest = (and_parts (is_letter c && list_all is_word_byte cs) (nat_le (length cs) 31) h).1 in
+    let rest = (and_parts (is_letter c && list_all is_word_byte cs) (nat_le (length (c ∷ cs)) most_name_bytes) h).1 in
     grind (arith, rest)
 
-pub length-name : (w : List ℕ) → IsTrue (is_name w) → length w ≤ 32
+pub length-name : (w : List ℕ) → IsTrue (is_name w) → length w ≤ most_name_bytes
 length-name w h = length-word w (and_parts (is_word w) (not (is_reserved w)) h).0
 
 -- as many bytes as are wanted, where there are so many

@@ -3,7 +3,7 @@ use Rattle.std.proofs.Common.{◌≡◌, ℕ, zero, suc, ◌+◌, ◌-◌, ◌*�
 use Rattle.std.proofs.lemmas.List.{append-nil, append_assoc}
 use Rattle.std.specs.List.{list_all}
 use Rattle.pg_word.specs.declared.psw.Psw.{Psw}
-use Rattle.pg_image.specs.Lines.{size_text, psw_text, cells_text, cells_shown, lines_before, line_count, line_words, state_text}
+use Rattle.pg_image.specs.Lines.{line_cells, size_text, psw_text, cells_text, cells_shown, lines_before, line_count, line_words, state_text}
 
 -- three pieces one after another
 pub pushed-three : {X : Type 0} (old a b c x y z : List X) → x ≡ old ++ a → y ≡ x ++ b → z ≡ y ++ c → z ≡ old ++ (a ++ b ++ c)
@@ -32,7 +32,7 @@ pub lines_before-none : (w : ℕ) (cells : List ℕ) → lines_before w 0 cells 
 unfolding lines_before
 lines_before-none w cells = refl
 
-pub lines_before-next : (w k : ℕ) (cells : List ℕ) → lines_before w (k + 1) cells ≡ lines_before w k cells ++ cells_shown w (8 * k) (line_words k cells)
+pub lines_before-next : (w k : ℕ) (cells : List ℕ) → lines_before w (k + 1) cells ≡ lines_before w k cells ++ cells_shown w (line_cells * k) (line_words k cells)
 unfolding lines_before
 lines_before-next w k cells =
     let next : k + 1 ≡ suc k = omega arith in
@@ -46,7 +46,7 @@ lines_before-more w k zero cells =
 lines_before-more w k (suc m) cells =
     let front = lines_before-more w k m cells in
     let next : k + suc m ≡ (k + m) + 1 = omega arith in
-    let line = cells_shown w (8 * (k + m)) (line_words (k + m) cells) in
+    let line = cells_shown w (line_cells * (k + m)) (line_words (k + m) cells) in
     (front.0 ++ line, ap (λ n. lines_before w n cells) next ∙ lines_before-next w (k + m) cells ∙ ap (λ t. t ++ line) front.1 ∙ append_assoc (lines_before w k cells) front.0 line)
 
 pub lines_before-front : (w k n : ℕ) (cells : List ℕ) → k ≤ n → (rest : List ℕ) × (lines_before w n cells ≡ lines_before w k cells ++ rest)

@@ -1,6 +1,7 @@
 -- The texts of refusals and of usage: what is put where a command is refused. Every line ends with LF; numbers are decimal.
 use Rattle.std.specs.Prelude.{ℕ, List, [], ◌∷◌, ◌++◌, take, codes}
 use Rattle.std.specs.Fmt.{decimal}
+use Rattle.pg_token.specs.Words.{most_name_bytes}
 use Rattle.pg_valid.specs.declared.fault.Limit.{Limit as Limits}
 use Rattle.pg_valid.specs.declared.fault.Limit.TheVariants.{Instructions, Accesses, Lets, Statements, Expressions}
 use Rattle.pg_report.specs.declared.line.RefusalLine.{RefusalLine}
@@ -18,9 +19,9 @@ limit_number Lets = 3
 limit_number Statements = 4
 limit_number Expressions = 5
 
--- a name: names have at most 32 bytes
+-- a name, which has no more bytes
 abbrev pub name_text : List ℕ → List ℕ
-name_text name = take 32 name
+name_text name = take most_name_bytes name
 
 -- two numbers with a space between
 abbrev pub two_numbers : ℕ → ℕ → List ℕ

@@ -27,6 +27,3 @@ pub use refusal::{put_refusal, put_usage};
 pub use run::{put_guest, put_steps};
 pub use state::put_state;
 pub use text::put_text;
-
-#[cfg(test)]
-mod tests;

@@ -30,7 +30,8 @@ pub enum DescriptionLine {
     Token(usize),
     /// The token at this place is the first that no description goes on with; or the text ends too early, at this length.
     Grammar(usize),
-    /// The token at this place begins an expression of more than 32 levels, or opens a block of more than 16.
+    /// The token at this place begins an expression of more levels than `EXPR_LEVELS`, or opens a block of more than
+    /// `BLOCK_LEVELS`.
     Deep(usize),
     /// The numbers of the head are those of no machine.
     Shape,

@@ -7,12 +7,13 @@
 ghost use Rattle.std.specs.Prelude.{◌≡◌, ◌+◌, ◌≤◌, ◌++◌};
 ghost use Rattle.arrayvec.specs.ArrayVec.{array_vec_len};
 ghost use Rattle.pg_edge.specs.Sink.{Puts};
+ghost use Rattle.pg_image.specs.Lines.{most_line_bytes};
 ghost use Rattle.pg_report.specs.Texts.{limit_number, description_text, image_text, refusal_text, usage_text};
 
 use crate::line::{DescriptionLine, ImageLine, RefusalLine};
-use crate::push::{push, push_at, push_name, push_pair};
+use crate::push::{push_at, push_name, push_pair};
 use pg_edge::{Failed, Sink};
-use pg_image::Line;
+use pg_image::{Line, push};
 use pg_valid::Limit;
 
 /// Puts the line that says why a command is refused. The cost is that of one line.
@@ -51,7 +52,7 @@ fn refusal_line(line: &RefusalLine) -> Line
 /// Pushes the line of a refusal, with its LF.
 #[tactic(auto, unfolding(crate::specs::Texts::refusal_text))]
 fn push_refusal(text: &mut Line, line: &RefusalLine)
-    requires { array_vec_len text.old + 72 ≤ 160 }
+    requires { array_vec_len text.old + 72 ≤ most_line_bytes }
     ensures items { text.new.items ≡ text.old.items ++ refusal_text line.now }
 {
     match line {
@@ -81,7 +82,7 @@ fn push_refusal(text: &mut Line, line: &RefusalLine)
 /// Pushes why a description is refused.
 #[tactic(auto, unfolding(crate::specs::Texts::description_text))]
 fn push_description(text: &mut Line, why: &DescriptionLine)
-    requires { array_vec_len text.old + 58 ≤ 160 }
+    requires { array_vec_len text.old + 58 ≤ most_line_bytes }
     ensures items { text.new.items ≡ text.old.items ++ description_text why.now }
     ensures len { array_vec_len text.new ≤ array_vec_len text.old + 58 }
 {
@@ -133,7 +134,7 @@ fn number_of(limit: Limit) -> u64
 /// Pushes why an image is refused.
 #[tactic(auto, unfolding(crate::specs::Texts::image_text))]
 fn push_image(text: &mut Line, why: &ImageLine)
-    requires { array_vec_len text.old + 28 ≤ 160 }
+    requires { array_vec_len text.old + 28 ≤ most_line_bytes }
     ensures items { text.new.items ≡ text.old.items ++ image_text why.now }
     ensures len { array_vec_len text.new ≤ array_vec_len text.old + 28 }
 {

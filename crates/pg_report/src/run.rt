@@ -8,9 +8,9 @@ ghost use Rattle.std.specs.Prelude.{◌≡◌};
 ghost use Rattle.pg_edge.specs.Sink.{Puts};
 ghost use Rattle.pg_report.specs.Runs.{guest_line, steps_line};
 
-use crate::push::{push, push_number};
+use crate::push::push_number;
 use pg_edge::{Failed, Sink};
-use pg_image::Line;
+use pg_image::{Line, push};
 
 /// Puts the line before the state of a guest, by its number from 0.
 ///

@@ -2,21 +2,24 @@
 //!
 //! A state is a run of a hardware's cells, and a program status word, which need not be the hardware's own: under a
 //! monitor both are those of its guest. The text has a line for the size, one for the program status word, and one for
-//! each eight cells that are not all zero. The cells are read eight at a time, so that a line is all that is held of them.
+//! each `LINE_CELLS` cells that are not all zero. The cells are read a line at a time, so that a line is all that is held of them.
 
 ghost use Rattle.std.specs.Prelude.{◌≡◌, ◌+◌, ◌*◌, ◌^◌, ◌<◌, ◌≤◌, length, ◌==◌, All};
 ghost use Rattle.std.specs.List.{list_all};
 ghost use Rattle.arrayvec.specs.ArrayVec.{array_vec_len};
 ghost use Rattle.pg_edge.specs.Sink.{Puts};
 ghost use Rattle.pg_word.specs.Shape.{IsShape};
-ghost use Rattle.pg_image.specs.Lines.{state_text, lines_before, line_count, line_words, cells_shown};
+ghost use Rattle.pg_image.specs.Lines.{line_cells, state_text, lines_before, line_count, line_words, cells_shown};
 ghost use Rattle.pg_report.specs.Spans.{span};
 
 use arrayvec::ArrayVec;
 use pg_edge::{Failed, Sink};
 use pg_hw::Hardware;
-use pg_image::{cell_line, psw_line, size_line};
+use pg_image::{LINE_CELLS, cell_line, psw_line, size_line};
 use pg_word::{Psw, Shape};
+
+/// How many cells a line shows, to reckon addresses with.
+const CELLS: u32 = LINE_CELLS as u32;
 
 /// Puts the text of a state: the `size` cells of the hardware from `base` on, and a program status word. The cost is
 /// linear in the size.
@@ -59,7 +62,7 @@ fn put_lines<S: Sink, H: Hardware>(
     // A hardware's size is a `u32`, and so each address below is one.
     let held = hw.size();
     prove!(base <= held && size <= held - base);
-    for k in 0..size.div_ceil(8) {
+    for k in 0..size.div_ceil(CELLS) {
         put_line(out, shape, hw, base, size, k)?;
     }
     Ok(())
@@ -77,35 +80,35 @@ fn put_line<S: Sink, H: Hardware>(
     requires shape { IsShape shape.now }
     requires within { base + size ≤ length (H.machinery hw.now).state.cells }
     requires addressable { base + size < 2 ^ 32 }
-    requires some { 8 * k < size }
+    requires some { line_cells * k < size }
     requires fit { All (λ word. word < 2 ^ shape.now.w) (span base size (H.machinery hw.now).state.cells) }
     ensures { Puts (S.written out.old) (S.written out.new) (S.faults out.old) (S.faults out.new)
-        (cells_shown shape.now.w (8 * k) (line_words k (span base size (H.machinery hw.now).state.cells))) result }
+        (cells_shown shape.now.w (line_cells * k) (line_words k (span base size (H.machinery hw.now).state.cells))) result }
 {
     let line = words_of(hw, base, size, k);
     let words = line.as_slice();
     if are_zero(words) {
         return Ok(());
     }
-    out.put(cell_line(shape, 8 * k, words).as_slice())
+    out.put(cell_line(shape, CELLS * k, words).as_slice())
 }
 
-/// The words of the line of this number: eight, or what is left of the cells.
-fn words_of<H: Hardware>(hw: &H, base: u32, size: u32, k: u32) -> ArrayVec<u64, 8>
+/// The words of the line of this number: `LINE_CELLS`, or what is left of the cells.
+fn words_of<H: Hardware>(hw: &H, base: u32, size: u32, k: u32) -> ArrayVec<u64, LINE_CELLS>
     requires within { base + size ≤ length (H.machinery hw.now).state.cells }
     requires addressable { base + size < 2 ^ 32 }
-    requires some { 8 * k < size }
+    requires some { line_cells * k < size }
     ensures items { result.items ≡ line_words k (span base size (H.machinery hw.now).state.cells) }
     ensures some { 1 ≤ array_vec_len result }
-    ensures eight { array_vec_len result ≤ 8 }
+    ensures most { array_vec_len result ≤ line_cells }
 {
-    let first = 8 * k;
-    words_at(hw, base + first, (size - first).min(8))
+    let first = CELLS * k;
+    words_at(hw, base + first, (size - first).min(CELLS))
 }
 
-/// Up to eight words of the hardware's cells, from cell `base` on.
-fn words_at<H: Hardware>(hw: &H, base: u32, count: u32) -> ArrayVec<u64, 8>
-    requires eight { count ≤ 8 }
+/// Up to `LINE_CELLS` words of the hardware's cells, from cell `base` on.
+fn words_at<H: Hardware>(hw: &H, base: u32, count: u32) -> ArrayVec<u64, LINE_CELLS>
+    requires most { count ≤ line_cells }
     requires addressable { base + count < 2 ^ 32 }
     requires within { base + count ≤ length (H.machinery hw.now).state.cells }
     ensures items { result.items ≡ span base count (H.machinery hw.now).state.cells }

@@ -1,5 +1,5 @@
 -- Digits that std reads: a run of them is a numeral, and its number is the one that is due.
-use Rattle.std.proofs.Common.{◌≡◌, ℕ, ◌<◌, ◌≤◌, true, List, [], ◌∷◌, IsAscii, arith}
+use Rattle.std.proofs.Common.{◌^◌, ◌≡◌, ℕ, ◌<◌, ◌≤◌, true, List, [], ◌∷◌, Some, IsAscii, arith}
 use Rattle.std.proofs.lemmas.Bool.{and_parts}
 use Rattle.std.proofs.lemmas.Bool.Decides.{nat_tests}
 use Rattle.std.proofs.lemmas.Str.Ascii.{IsAscii-nil, IsAscii-cons}
@@ -9,6 +9,7 @@ use Rattle.std.specs.Char.{digit_value, is_ascii_hexdigit}
 use Rattle.std.specs.Str.Parse.{AllDigits}
 use Rattle.std.proofs.lemmas.Str.{IsUtf8-from_ascii}
 use Rattle.pg_token.specs.Words.{is_digit}
+use Rattle.pg_text.specs.Cutting.{limited}
 
 dec_digit : (c : ℕ) → is_digit c ≡ true → digit_value c < 10
 dec_digit c h = grind (arith, nat_tests)
@@ -38,3 +39,7 @@ ascii_digits base (c ∷ cs) most h = IsAscii-cons c cs (ascii_digit c base most
 
 pub digits_utf8 : (base : ℕ) (ds : List ℕ) → base ≤ 36 → AllDigits base ds → IsUtf8 ds
 digits_utf8 base ds most h = IsUtf8-from_ascii ds (ascii_digits base ds most h)
+
+-- a number below the limit
+pub limited_is : (v : ℕ) → v < 2 ^ 64 → limited v ≡ Some v
+limited_is v h = grind (arith, nat_tests)

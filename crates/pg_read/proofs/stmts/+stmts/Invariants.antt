@@ -1,4 +1,5 @@
 use Rattle.std.proofs.Common.{◌+◌, ◌*◌, length}
+use Rattle.pg_ast.specs.Levels.{most_expr_levels}
 use Rattle.pg_ast.specs.Reading.{read_expr, read_stmt}
 use Rattle.pg_read.specs.Blocks.{body_at}
 use Rattle.pg_read.proofs.BlockLemmas.{StmtsSoFar}
@@ -29,7 +30,7 @@ abbrev pub decreases-stmts : goal.decreases-stmts
 decreases-stmts l = 8 * l.inner + 7
 
 abbrev pub invariant-stmts-loop-alloc : goal.invariant-stmts-loop-alloc
-invariant-stmts-loop-alloc l = StmtsSoFar (read_stmt (read_expr 32) (body_at l.inner)) l.fn.cursor l.cursor l.stmts
+invariant-stmts-loop-alloc l = StmtsSoFar (read_stmt (read_expr most_expr_levels) (body_at l.inner)) l.fn.cursor l.cursor l.stmts
 
 abbrev pub decreases-stmts-loop-alloc : goal.decreases-stmts-loop-alloc
 decreases-stmts-loop-alloc l = length l.cursor
