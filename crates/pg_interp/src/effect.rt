@@ -1,6 +1,7 @@
 //! What an instruction leaves to be done.
 
 use arrayvec::ArrayVec;
+use pg_valid::MOST_ACCESSES;
 use pg_word::Psw;
 
 /// A store that is to be made: a cell at an address of the window.
@@ -14,7 +15,7 @@ pub struct Write {
 /// word that follows.
 #[derive(Debug, Drop)]
 pub struct Effect {
-    pub writes: ArrayVec<Write, 8>,
+    pub writes: ArrayVec<Write, MOST_ACCESSES>,
     pub psw: Psw,
 }
 

@@ -4,6 +4,7 @@ ghost use Rattle.std.specs.Prelude.{◌≡◌, ℕ, ◌+◌, ◌^◌, ◌<◌, �
 ghost use Rattle.pg_word.specs.Psw.{mode_of};
 ghost use Rattle.pg_meaning.specs.Values.{value};
 ghost use Rattle.pg_meaning.specs.Bodies.{with_bits, let_deed, store_deed, with_p, with_mode, with_l, with_b};
+ghost use Rattle.pg_valid.specs.Limits.{most_accesses, most_lets};
 ghost use Rattle.pg_interp.specs.declared.numbers.Number.{Number as Numbers};
 ghost use Rattle.pg_interp.specs.Writes.{written, AreWrites};
 ghost use Rattle.pg_interp.specs.Numbers.{numbers_as, IsReady, IsTyped, OnNumber};
@@ -19,12 +20,13 @@ use crate::overlay::Overlay;
 use crate::values::value;
 use arrayvec::ArrayVec;
 use pg_ast::Expr;
+use pg_valid::MOST_ACCESSES;
 use pg_word::{Mode, Psw};
 
 /// A body under way: its stores so far, the program status word that it will leave, and the lets that are visible.
 #[derive(Debug, Drop)]
 pub struct Run<'m> {
-    pub writes: ArrayVec<Write, 8>,
+    pub writes: ArrayVec<Write, MOST_ACCESSES>,
     pub next: Psw,
     pub lets: Lets<'m>,
 }
@@ -54,7 +56,7 @@ pub fn number<C: Cells>(at: &Entry<'_>, cells: &C, run: &Run<'_>, expr: &Expr) -
 
 /// A let, visible from the next statement on.
 pub fn bind<'m>(run: &mut Run<'m>, name: &'m [u8], number: Option<Number>) -> Course
-    requires { length run.old.lets < 32 }
+    requires { length run.old.lets < most_lets }
     ensures is { (window : List ℕ) → course_as result (run_as window run.new) ≡ let_deed (run_as window run.old) name.now (numbers_as number) }
     ensures writes { run.new.writes ≡ run.old.writes }
     ensures kept { Grows run.old.lets run.new.lets }
@@ -71,7 +73,7 @@ pub fn bind<'m>(run: &mut Run<'m>, name: &'m [u8], number: Option<Number>) -> Co
 
 /// A store of a cell at an address; a memory trap where the window ends before it.
 fn keep<C: Cells>(cells: &C, run: &mut Run<'_>, at: u32, cell: u64) -> Course
-    requires { length run.old.writes.items < 8 }
+    requires { length run.old.writes.items < most_accesses }
     ensures is { course_as result (run_as (C.window cells.now) run.new) ≡ store_deed (run_as (C.window cells.now) run.old) at cell }
     ensures lets { run.new.lets ≡ run.old.lets }
     ensures writes { length run.new.writes.items ≤ length run.old.writes.items + 1 }
@@ -93,7 +95,7 @@ pub fn store<C: Cells>(
     address: Option<Number>,
     cell: Option<Number>,
 ) -> Course
-    requires room { length run.old.writes.items < 8 }
+    requires room { length run.old.writes.items < most_accesses }
     requires address { (p : Numbers) → address ≡ Some p → p.value < 2 ^ 32 }
     ensures is { course_as result (run_as (C.window cells.now) run.new) ≡ with_bits (numbers_as address) (λ address. with_bits (numbers_as cell) (λ cell. store_deed (run_as (C.window cells.now) run.old) address cell)) }
     ensures lets { run.new.lets ≡ run.old.lets }

@@ -1,3 +1,4 @@
+pub mod Folds
 pub mod PatternLemmas
 pub mod DecoderLemmas
 pub mod ValueEquations

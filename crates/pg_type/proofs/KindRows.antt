@@ -9,8 +9,8 @@ use Rattle.pg_meaning.specs.Values.{let_value}
 use Rattle.pg_meaning.specs.Bodies.{MemTrapped, Trapped, Going, body, in_order}
 use Rattle.pg_meaning.specs.States.{IsState}
 use Rattle.pg_type.specs.Kinds.{course_at}
-use Rattle.pg_type.specs.Examples.{alone, state, rtu, lr, store_mode, store_rel, store_bound, supervisor_load, user_jump, open_lr}
-use Rattle.pg_type.specs.WorkedKinds.{RtuShowsControl, RtuInUserModeDoesNot, RtuBreaksPrivilege, LrBreaksNoPrivilege, StoreModeShowsMode, StoreModeOutsideDoesNot, SupervisorLoadShowsMode, UserJumpShowsMode, UserJumpBreaksPrivilege, StoreRelShowsLocation, StoreRelUserShowsLocation, StoreRelOutsideDoesNot, StoreBoundShowsBound, StoreBoundUserShowsBound, StoreBoundOutsideDoesNot, OpenLrShowsControl, OpenLrOfTheSameDoesNot, StoreRelIsNoUserPair, StoreBoundIsNoUserPair}
+use Rattle.pg_type.specs.Examples.{alone, state, rtu, lr, svc, store_mode, store_rel, store_bound, supervisor_load, user_jump, open_lr}
+use Rattle.pg_type.specs.WorkedKinds.{RtuShowsControl, RtuInUserModeDoesNot, RtuBreaksPrivilege, LrBreaksNoPrivilege, StoreModeShowsMode, StoreModeOutsideDoesNot, SupervisorLoadShowsMode, UserJumpShowsMode, UserJumpBreaksPrivilege, StoreRelShowsLocation, StoreRelUserShowsLocation, StoreRelOutsideDoesNot, StoreBoundShowsBound, StoreBoundUserShowsBound, StoreBoundOutsideDoesNot, OpenLrShowsControl, OpenLrOfTheSameDoesNot, StoreRelIsNoUserPair, StoreBoundIsNoUserPair, StoreBoundOfTwoSizesShowsBound, StoreRelOfTwoSizesDoesNot, StoreRelOfTwoBoundsDoesNot, LrDoneInSupervisorModeDoesNot, SvcBreaksPrivilege}
 use Rattle.pg_meaning.proofs.ValueEquations.{value_rules}
 use Rattle.pg_meaning.proofs.DeedEquations.{deed_rules}
 
@@ -335,3 +335,62 @@ store_rel_is_no_user_pair h = cc (h.1)
 
 pub store_bound_is_no_user_pair : StoreBoundIsNoUserPair
 store_bound_is_no_user_pair h = cc (h.1)
+
+-- ---- near misses
+
+-- the same storage with a cell more, and the bound where the other has its end
+store_bound_5_of_4 : course_at (alone store_bound) store_bound (state (0 ∷ 0 ∷ 0x06000000 ∷ 0 ∷ 0 ∷ []) S 2 0 4) ≡ Going (record { window = (0x00000004 ∷ 0 ∷ 0x06000000 ∷ 0 ∷ []); psw = record { mode = S; p = 3; l = 0; b = 4 } })
+unfolding course_at body matches in_order run_length field_of_letter let_value
+store_bound_5_of_4 = simp (deed_rules, value_rules)
+
+pub store_bound_of_two_sizes_shows_bound : StoreBoundOfTwoSizesShowsBound
+unfolding matches
+store_bound_of_two_sizes_shows_bound = record {
+  first = four_cells store_bound 0 0 0x06000000 0 S 2 0 5 (lit< tt) (lit< tt) (lit< tt) (lit< tt) (lit< tt) (lit< tt) (lit< tt);
+  second = record {
+    size_least = lit≤ tt;
+    size_most = lit≤ tt;
+    words = All-from_recursion (λ cell. cell < 2 ^ 32) (0 ∷ 0 ∷ 0x06000000 ∷ 0 ∷ 0 ∷ []) (lit< tt, (lit< tt, (lit< tt, (lit< tt, (lit< tt, tt)))));
+    fields = record { p = lit< tt; l = lit< tt; b = lit< tt };
+  };
+  at_first = refl;
+  at_second = refl;
+  same_l = refl;
+  same_mode = refl;
+  same_p = refl;
+  same_window = refl;
+  other_bound = λ e. cc;
+  done = rw store_bound_5 (inl tt);
+  differ = rw (store_bound_5, store_bound_5_of_4) (λ e. cc);
+}
+
+pub store_rel_of_two_sizes_does_not : StoreRelOfTwoSizesDoesNot
+store_rel_of_two_sizes_does_not h = cc (h.same_size)
+
+pub store_rel_of_two_bounds_does_not : StoreRelOfTwoBoundsDoesNot
+store_rel_of_two_bounds_does_not h = cc (h.same_bound)
+
+pub lr_done_in_supervisor_mode_does_not : LrDoneInSupervisorModeDoesNot
+lr_done_in_supervisor_mode_does_not h = let done : ⊥ = rw lr_in_u at h.done in done
+
+-- a trap in both modes
+svc_in_s : course_at (alone svc) svc (state (0 ∷ 0 ∷ 0x03000000 ∷ 0 ∷ []) S 2 0 4) ≡ Trapped
+unfolding course_at body matches in_order run_length field_of_letter let_value
+svc_in_s = simp deed_rules
+
+svc_in_u : course_at (alone svc) svc (state (0 ∷ 0 ∷ 0x03000000 ∷ 0 ∷ []) U 2 0 4) ≡ Trapped
+unfolding course_at body matches in_order run_length field_of_letter let_value
+svc_in_u = simp deed_rules
+
+pub svc_breaks_privilege : SvcBreaksPrivilege
+unfolding matches
+svc_breaks_privilege = record {
+  pair = record {
+    state = four_cells svc 0 0 0x03000000 0 S 2 0 4 (lit< tt) (lit< tt) (lit< tt) (lit< tt) (lit< tt) (lit< tt) (lit< tt);
+    supervisor = refl;
+    same_in_user = refl;
+    at_first = refl;
+    at_second = refl;
+  };
+  breaks = rw (svc_in_u, svc_in_s) (inr (tt, tt));
+}

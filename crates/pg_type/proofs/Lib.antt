@@ -1,5 +1,7 @@
 pub mod RunRows
 pub mod KindRows
+pub mod KindLaws
+pub mod HybridRow
 pub mod AlikeLemmas
 pub mod AlikeSteps
 pub mod PlainEquations

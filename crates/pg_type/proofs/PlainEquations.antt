@@ -7,121 +7,120 @@ use Rattle.pg_ast.specs.declared.tree.Op.{Op}
 use Rattle.pg_ast.specs.declared.tree.Expr.{Expr}
 use Rattle.pg_ast.specs.declared.tree.Expr.TheVariants as exprs
 use Rattle.pg_ast.specs.declared.tree.Expr.TheOpen as OpenExpr
-use Rattle.pg_ast.specs.declared.tree.Expr.TheFolds.{fold-roll-Expr}
 use Rattle.pg_ast.specs.declared.tree.Expr.TheViews.{out-Expr, out-roll-Expr}
 use Rattle.pg_ast.specs.declared.tree.Stmt.{Stmt}
 use Rattle.pg_ast.specs.declared.tree.Stmt.TheVariants as stmts
 use Rattle.pg_ast.specs.declared.tree.Stmt.TheOpen as OpenStmt
-use Rattle.pg_ast.specs.declared.tree.Stmt.TheFolds.{fold-roll-Stmt}
 use Rattle.pg_ast.specs.declared.tree.Stmt.TheViews.{out-Stmt, out-roll-Stmt}
 use Rattle.pg_type.specs.Plain.{Controls, reads_step, reads, Sought, any, any_if_there, has_step, has}
+use Rattle.pg_meaning.proofs.Folds.{expr-bin, expr-bound, expr-cat, expr-cut, expr-ext, expr-lit, expr-load, expr-mode, expr-name, expr-not, expr-pc, expr-rel, expr-sel, expr-sext, stmt-bound, stmt-if, stmt-let, stmt-mode, stmt-pc, stmt-rel, stmt-store, stmt-trap}
 
 pub reads-lit : (of : Controls) (v n : ℕ) → reads of (exprs.Lit v n) ≡ false
 unfolding reads
 reads-lit of v n =
-    ap (reads of) (sym (exprs.rolls-Lit v n)) ∙ fold-roll-Expr Bool (reads_step of) (OpenExpr.Lit v n)
+    expr-lit Bool (reads_step of) v n
 
 pub reads-name : (of : Controls) (n : Names) → reads of (exprs.Name n) ≡ false
 unfolding reads
 reads-name of n =
-    ap (reads of) (sym (exprs.rolls-Name n)) ∙ fold-roll-Expr Bool (reads_step of) (OpenExpr.Name n)
+    expr-name Bool (reads_step of) n
 
 pub reads-pc : (of : Controls) → reads of exprs.Pc ≡ false
 unfolding reads
 reads-pc of =
-    ap (reads of) (sym exprs.rolls-Pc) ∙ fold-roll-Expr Bool (reads_step of) OpenExpr.Pc
+    expr-pc Bool (reads_step of)
 
 pub reads-mode : (of : Controls) → reads of exprs.Mode ≡ of.mode
 unfolding reads
 reads-mode of =
-    ap (reads of) (sym exprs.rolls-Mode) ∙ fold-roll-Expr Bool (reads_step of) OpenExpr.Mode
+    expr-mode Bool (reads_step of)
 
 pub reads-rel : (of : Controls) → reads of exprs.Rel ≡ of.rel
 unfolding reads
 reads-rel of =
-    ap (reads of) (sym exprs.rolls-Rel) ∙ fold-roll-Expr Bool (reads_step of) OpenExpr.Rel
+    expr-rel Bool (reads_step of)
 
 pub reads-bound : (of : Controls) → reads of exprs.Bound ≡ of.bound
 unfolding reads
 reads-bound of =
-    ap (reads of) (sym exprs.rolls-Bound) ∙ fold-roll-Expr Bool (reads_step of) OpenExpr.Bound
+    expr-bound Bool (reads_step of)
 
 pub reads-load : (of : Controls) (e : Expr) → reads of (exprs.Load e) ≡ reads of e
 unfolding reads
 reads-load of e =
-    ap (reads of) (sym (exprs.rolls-Load e)) ∙ fold-roll-Expr Bool (reads_step of) (OpenExpr.Load e)
+    expr-load Bool (reads_step of) e
 
 pub reads-not : (of : Controls) (e : Expr) → reads of (exprs.Not e) ≡ reads of e
 unfolding reads
 reads-not of e =
-    ap (reads of) (sym (exprs.rolls-Not e)) ∙ fold-roll-Expr Bool (reads_step of) (OpenExpr.Not e)
+    expr-not Bool (reads_step of) e
 
 pub reads-bin : (of : Controls) (op : Op) (x y : Expr) → reads of (exprs.Bin op x y) ≡ reads of x || reads of y
 unfolding reads
 reads-bin of op x y =
-    ap (reads of) (sym (exprs.rolls-Bin op x y)) ∙ fold-roll-Expr Bool (reads_step of) (OpenExpr.Bin op x y)
+    expr-bin Bool (reads_step of) op x y
 
 pub reads-cat : (of : Controls) (x y : Expr) → reads of (exprs.Cat x y) ≡ reads of x || reads of y
 unfolding reads
 reads-cat of x y =
-    ap (reads of) (sym (exprs.rolls-Cat x y)) ∙ fold-roll-Expr Bool (reads_step of) (OpenExpr.Cat x y)
+    expr-cat Bool (reads_step of) x y
 
 pub reads-cut : (of : Controls) (e : Expr) (h k : ℕ) → reads of (exprs.Cut e h k) ≡ reads of e
 unfolding reads
 reads-cut of e h k =
-    ap (reads of) (sym (exprs.rolls-Cut e h k)) ∙ fold-roll-Expr Bool (reads_step of) (OpenExpr.Cut e h k)
+    expr-cut Bool (reads_step of) e h k
 
 pub reads-ext : (of : Controls) (e : Expr) (n : ℕ) → reads of (exprs.Ext e n) ≡ reads of e
 unfolding reads
 reads-ext of e n =
-    ap (reads of) (sym (exprs.rolls-Ext e n)) ∙ fold-roll-Expr Bool (reads_step of) (OpenExpr.Ext e n)
+    expr-ext Bool (reads_step of) e n
 
 pub reads-sext : (of : Controls) (e : Expr) (n : ℕ) → reads of (exprs.Sext e n) ≡ reads of e
 unfolding reads
 reads-sext of e n =
-    ap (reads of) (sym (exprs.rolls-Sext e n)) ∙ fold-roll-Expr Bool (reads_step of) (OpenExpr.Sext e n)
+    expr-sext Bool (reads_step of) e n
 
 pub reads-sel : (of : Controls) (c x y : Expr) → reads of (exprs.Sel c x y) ≡ reads of c || (reads of x || reads of y)
 unfolding reads
 reads-sel of c x y =
-    ap (reads of) (sym (exprs.rolls-Sel c x y)) ∙ fold-roll-Expr Bool (reads_step of) (OpenExpr.Sel c x y)
+    expr-sel Bool (reads_step of) c x y
 
 pub ruleset reads_rules = (reads-lit, reads-name, reads-pc, reads-mode, reads-rel, reads-bound, reads-load, reads-not, reads-bin, reads-cat, reads-cut, reads-ext, reads-sext, reads-sel)
 
 pub has-let : (what : Sought) (n : Names) (e : Expr) → has what (stmts.Let n e) ≡ reads what.read e
 unfolding has
 has-let what n e =
-    ap (has what) (sym (stmts.rolls-Let n e)) ∙ fold-roll-Stmt Bool (has_step what) (OpenStmt.Let n e)
+    stmt-let Bool (has_step what) n e
 
 pub has-store : (what : Sought) (a e : Expr) → has what (stmts.Store a e) ≡ reads what.read a || reads what.read e
 unfolding has
 has-store what a e =
-    ap (has what) (sym (stmts.rolls-Store a e)) ∙ fold-roll-Stmt Bool (has_step what) (OpenStmt.Store a e)
+    stmt-store Bool (has_step what) a e
 
 pub has-pc : (what : Sought) (e : Expr) → has what (stmts.Pc e) ≡ reads what.read e
 unfolding has
 has-pc what e =
-    ap (has what) (sym (stmts.rolls-Pc e)) ∙ fold-roll-Stmt Bool (has_step what) (OpenStmt.Pc e)
+    stmt-pc Bool (has_step what) e
 
 pub has-mode : (what : Sought) (e : Expr) → has what (stmts.Mode e) ≡ what.assigned.mode || reads what.read e
 unfolding has
 has-mode what e =
-    ap (has what) (sym (stmts.rolls-Mode e)) ∙ fold-roll-Stmt Bool (has_step what) (OpenStmt.Mode e)
+    stmt-mode Bool (has_step what) e
 
 pub has-rel : (what : Sought) (e : Expr) → has what (stmts.Rel e) ≡ what.assigned.rel || reads what.read e
 unfolding has
 has-rel what e =
-    ap (has what) (sym (stmts.rolls-Rel e)) ∙ fold-roll-Stmt Bool (has_step what) (OpenStmt.Rel e)
+    stmt-rel Bool (has_step what) e
 
 pub has-bound : (what : Sought) (e : Expr) → has what (stmts.Bound e) ≡ what.assigned.bound || reads what.read e
 unfolding has
 has-bound what e =
-    ap (has what) (sym (stmts.rolls-Bound e)) ∙ fold-roll-Stmt Bool (has_step what) (OpenStmt.Bound e)
+    stmt-bound Bool (has_step what) e
 
 pub has-trap : (what : Sought) → has what stmts.Trap ≡ what.trap
 unfolding has
 has-trap what =
-    ap (has what) (sym stmts.rolls-Trap) ∙ fold-roll-Stmt Bool (has_step what) OpenStmt.Trap
+    stmt-trap Bool (has_step what)
 
 or_false : (b : Bool) → (b || false) ≡ b
 or_false true = refl
@@ -130,13 +129,13 @@ or_false false = refl
 pub has-if_none : (what : Sought) (c : Expr) (held : List Stmt) → has what (stmts.If c held None) ≡ reads what.read c || any (map (has what) held)
 unfolding has
 has-if_none what c held =
-    ap (has what) (sym (stmts.rolls-If c held None)) ∙ fold-roll-Stmt Bool (has_step what) (OpenStmt.If c held None)
+    stmt-if Bool (has_step what) c held None
     ∙ ap (λ b. reads what.read c || b) (or_false (any (map (has what) held)))
 
 pub has-if_some : (what : Sought) (c : Expr) (held other : List Stmt) → has what (stmts.If c held (Some other)) ≡ reads what.read c || (any (map (has what) held) || any (map (has what) other))
 unfolding has
 has-if_some what c held other =
-    ap (has what) (sym (stmts.rolls-If c held (Some other))) ∙ fold-roll-Stmt Bool (has_step what) (OpenStmt.If c held (Some other))
+    stmt-if Bool (has_step what) c held (Some other)
 
 pub has-if : (what : Sought) (c : Expr) (held : List Stmt) (other : Option (List Stmt)) → has what (stmts.If c held other) ≡ reads what.read c || (any (map (has what) held) || any_if_there (option_map (map (has what)) other))
 has-if what c held None = has-if_none what c held ∙ ap (λ b. reads what.read c || b) (sym (or_false (any (map (has what) held))))

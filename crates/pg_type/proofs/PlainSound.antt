@@ -25,7 +25,7 @@ use Rattle.pg_type.specs.Plain.{every_control, any_has, naming, trapping, is_mod
 use Rattle.pg_type.specs.Blind.{AreEndsAlike, IsSameCourse, IsTrapless}
 use Rattle.pg_meaning.proofs.ValueEquations as values
 use Rattle.pg_meaning.proofs.DeedEquations as deeds
-use Rattle.pg_valid.proofs.ValueSound.{and_both}
+use Rattle.pg_valid.proofs.CheckLemmas.{and_both}
 use Rattle.pg_type.proofs.BlindBodies.{body-blind, kept-left, in_order-trapless}
 
 -- ---- a body that names no register of control

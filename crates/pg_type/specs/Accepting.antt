@@ -4,7 +4,7 @@ use Rattle.pg_word.specs.declared.psw.Mode.TheVariants.{S, U}
 use Rattle.pg_ast.specs.declared.tree.Instr.{Instr}
 use Rattle.pg_ast.specs.declared.tree.Desc.{Desc}
 use Rattle.pg_meaning.specs.States.{State, IsState, in_user}
-use Rattle.pg_type.specs.Kinds.{IsAt, course_at, IsDone, IsNoMemTrap, ShowsControl, ShowsMode, ShowsLocation, ShowsBound}
+use Rattle.pg_type.specs.Kinds.{IsAt, course_at, IsDone, IsNoMemTrap, BreaksPrivilege, ShowsControl, ShowsMode, ShowsLocation, ShowsBound}
 
 -- *Privileged* (section 3 of the paper): in user mode the instruction traps, in some way, at every state; and where neither
 -- it nor the same state in supervisor mode memory traps, the supervisor one does not trap
@@ -12,6 +12,10 @@ pub record IsPrivileged (d : Desc) (i : Instr) : Type 0 where
   pub user_traps : (s : State) → IsState d s → s.psw.mode ≡ S → IsAt i s → ¬ IsDone (course_at d i (in_user s))
   pub supervisor_done : (s : State) → IsState d s → s.psw.mode ≡ S → IsAt i s →
       IsNoMemTrap (course_at d i s) → IsNoMemTrap (course_at d i (in_user s)) → IsDone (course_at d i s)
+
+-- no pair of states shows that it is not
+abbrev pub IsNeverBroken : Desc → Instr → Type 0
+IsNeverBroken d i = (s t : State) → ¬ BreaksPrivilege d i s t
 
 -- *ControlSensitive* (section 3 of the paper): at some state it is done with another mode or another R
 abbrev pub ControlSensitive : Desc → Instr → Type 0

@@ -45,12 +45,6 @@ IsSameCourse trapless P Trapped Trapped = trapless ≡ false
 IsSameCourse trapless P (Going x) (Going y) = P x y
 IsSameCourse trapless P c d = ⊥
 
--- these registers are as they were
-pub record AreKept (of : Controls) (old new : Psw) : Type 0 where
-  pub mode : of.mode ≡ true → new.mode ≡ old.mode
-  pub rel : of.rel ≡ true → new.l ≡ old.l
-  pub bound : of.bound ≡ true → new.b ≡ old.b
-
 -- no trap, but that there may be a memory trap
 abbrev pub IsTrapless : {X : Type 0} → Course X → Type 0
 IsTrapless MemTrapped = Unit {0}

@@ -22,15 +22,6 @@ no_control = record { mode = false; rel = false; bound = false }
 abbrev pub every_control : Controls
 every_control = record { mode = true; rel = true; bound = true }
 
-abbrev pub only_mode : Controls
-only_mode = record { mode = true; rel = false; bound = false }
-
-abbrev pub only_rel : Controls
-only_rel = record { mode = false; rel = true; bound = false }
-
-abbrev pub only_bound : Controls
-only_bound = record { mode = false; rel = false; bound = true }
-
 -- one layer of an expression, the answer of each part standing in its place
 abbrev pub reads_step : Controls → Expr-F Bool → Bool
 reads_step of (Lit v n) = false
@@ -84,14 +75,6 @@ has what = fold-Stmt Bool (has_step what)
 -- one of these statements has
 abbrev pub any_has : Sought → List Stmt → Bool
 any_has what stmts = any (map (has what) stmts)
-
--- readings of these registers
-abbrev pub reading : Controls → Sought
-reading of = record { read = of; assigned = no_control; trap = false }
-
--- assignments to these registers
-abbrev pub assigning : Controls → Sought
-assigning of = record { read = no_control; assigned = of; trap = false }
 
 -- the names of these registers, read or assigned
 abbrev pub naming : Controls → Sought

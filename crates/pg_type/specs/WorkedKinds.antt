@@ -1,9 +1,11 @@
--- For each kind a pair of states that shows it, and a near pair that does not: each is a law of the crate.
+-- For each kind a pair of states that shows it, and near pairs that do not; and a machine between the two conditions.
+-- Each is a law of the crate.
 use Rattle.std.specs.Prelude.{[], ◌∷◌}
 use Rattle.pg_word.specs.declared.psw.Mode.TheVariants.{S, U}
 use Rattle.pg_type.specs.declared.kind.Kind.TheVariants.{Privileged, Control, ModeDep, Location, Bound, UControl, ULocation, UBound}
 use Rattle.pg_type.specs.Kinds.{Shows}
-use Rattle.pg_type.specs.Examples.{alone, state, rtu, lr, store_mode, store_rel, store_bound, supervisor_load, user_jump, open_lr}
+use Rattle.pg_type.specs.Accepting.{IsAccepted, IsHybridAccepted}
+use Rattle.pg_type.specs.Examples.{alone, state, rtu, lr, svc, store_mode, store_rel, store_bound, supervisor_load, user_jump, open_lr}
 
 abbrev pub RtuShowsControl : Type 0
 RtuShowsControl = Shows (alone rtu) rtu Control (state (0 ∷ 0 ∷ 0x05000000 ∷ 0 ∷ []) S 2 0 4) (state (0 ∷ 0 ∷ 0x05000000 ∷ 0 ∷ []) S 2 0 4)
@@ -63,3 +65,27 @@ StoreRelIsNoUserPair = ¬ Shows (alone store_rel) store_rel ULocation (state (0x
 
 abbrev pub StoreBoundIsNoUserPair : Type 0
 StoreBoundIsNoUserPair = ¬ Shows (alone store_bound) store_bound UBound (state (0 ∷ 0 ∷ 0x06000000 ∷ 0 ∷ []) S 2 0 4) (state (0 ∷ 0 ∷ 0x06000000 ∷ 0 ∷ []) S 2 0 5)
+
+-- a pair of two sizes: the same window of four cells, of which the size cuts off the first and the bound the second
+abbrev pub StoreBoundOfTwoSizesShowsBound : Type 0
+StoreBoundOfTwoSizesShowsBound = Shows (alone store_bound) store_bound Bound (state (0 ∷ 0 ∷ 0x06000000 ∷ 0 ∷ []) S 2 0 5) (state (0 ∷ 0 ∷ 0x06000000 ∷ 0 ∷ 0 ∷ []) S 2 0 4)
+
+-- one window at two places, with different observations: but in storages of two sizes
+abbrev pub StoreRelOfTwoSizesDoesNot : Type 0
+StoreRelOfTwoSizesDoesNot = ¬ Shows (alone store_rel) store_rel Location (state (0x06000000 ∷ 0 ∷ 0 ∷ 0 ∷ []) S 0 0 3) (state (0 ∷ 0x06000000 ∷ 0 ∷ 0 ∷ 0 ∷ []) S 0 1 3)
+
+-- or under two bounds
+abbrev pub StoreRelOfTwoBoundsDoesNot : Type 0
+StoreRelOfTwoBoundsDoesNot = ¬ Shows (alone store_rel) store_rel Location (state (0x06000000 ∷ 0 ∷ 0 ∷ 0 ∷ []) S 0 0 3) (state (0 ∷ 0x06000000 ∷ 0 ∷ 0 ∷ []) S 0 1 4)
+
+-- different observations of a mode pair, of which only the supervisor one is done
+abbrev pub LrDoneInSupervisorModeDoesNot : Type 0
+LrDoneInSupervisorModeDoesNot = ¬ Shows (alone lr) lr ModeDep (state (0 ∷ 0 ∷ 0x04000004 ∷ 0 ∷ []) S 2 0 4) (state (0 ∷ 0 ∷ 0x04000004 ∷ 0 ∷ []) U 2 0 4)
+
+-- the pair of which neither memory traps, and the supervisor one traps
+abbrev pub SvcBreaksPrivilege : Type 0
+SvcBreaksPrivilege = Shows (alone svc) svc Privileged (state (0 ∷ 0 ∷ 0x03000000 ∷ 0 ∷ []) S 2 0 4) (state (0 ∷ 0 ∷ 0x03000000 ∷ 0 ∷ []) U 2 0 4)
+
+-- the machine of rtu alone serves a hybrid monitor, and not the other
+abbrev pub RtuServesHybridAlone : Type 0
+RtuServesHybridAlone = IsHybridAccepted (alone rtu) × (¬ IsAccepted (alone rtu))

@@ -1,10 +1,22 @@
 //! What follows from the definitions of kinds alone, for those who read them: none of it does anything when it runs.
 
-ghost use Rattle.std.specs.Prelude.{◌≡◌, true, false, None};
-ghost use Rattle.pg_type.specs.Accepting.{IsPrivileged, IsInnocuous, IsAccepted};
+ghost use Rattle.std.specs.Prelude.{◌≡◌, ◌↔◌, true, false, None};
+ghost use Rattle.pg_type.specs.Accepting.{IsPrivileged, IsNeverBroken, IsInnocuous, IsAccepted, IsHybridAccepted};
 ghost use Rattle.pg_type.specs.Plain.{every_control, any_has, naming, is_guarded, first_breach};
 
 use pg_ast::{Desc, Instr};
+
+/// An instruction is privileged exactly where no pair of states shows that it is not.
+pub fn privileged_where_never_broken(desc: &Desc, instr: &Instr)
+    ensures { IsPrivileged desc.now instr.now ↔ IsNeverBroken desc.now instr.now }
+{}
+
+/// What the monitor of Theorem 1 may run, that of Theorem 3 may run too. The other way round it is not so
+/// (`rows::hybrid_alone`).
+pub fn accepted_means_hybrid_accepted(desc: &Desc)
+    requires { IsAccepted desc.now }
+    ensures { IsHybridAccepted desc.now }
+{}
 
 /// An instruction whose body names none of the mode and the relocation-bounds register is innocuous.
 pub fn unnamed_control_means_innocuous(desc: &Desc, instr: &Instr)

@@ -2,10 +2,10 @@
 //!
 //! A definition can be wrong and every proof on it right. So here are runs and pairs whose outcome was worked out by
 //! hand: `specs/WorkedRuns.antt` and `specs/WorkedKinds.antt` state them, over the machines of `specs/Examples.antt`,
-//! and the proof computes them. Neither function does anything when it runs.
+//! and the proof computes them. None of the functions does anything when it runs.
 
 ghost use Rattle.pg_type.specs.WorkedRuns.{NoPattern, NoWindow, PastStorage, LastUsable, FirstPastBound, FirstPastSize, RunsPastWindow, DoublesInALoop, WindowOfOneCell, NoPatternCause, MemoryTrapCause, TrapCause, TrapsForEver, WidensAndShifts};
-ghost use Rattle.pg_type.specs.WorkedKinds.{RtuShowsControl, RtuInUserModeDoesNot, RtuBreaksPrivilege, LrBreaksNoPrivilege, StoreModeShowsMode, StoreModeOutsideDoesNot, SupervisorLoadShowsMode, UserJumpShowsMode, UserJumpBreaksPrivilege, StoreRelShowsLocation, StoreRelUserShowsLocation, StoreRelOutsideDoesNot, StoreBoundShowsBound, StoreBoundUserShowsBound, StoreBoundOutsideDoesNot, OpenLrShowsControl, OpenLrOfTheSameDoesNot, StoreRelIsNoUserPair, StoreBoundIsNoUserPair};
+ghost use Rattle.pg_type.specs.WorkedKinds.{RtuShowsControl, RtuInUserModeDoesNot, RtuBreaksPrivilege, LrBreaksNoPrivilege, StoreModeShowsMode, StoreModeOutsideDoesNot, SupervisorLoadShowsMode, UserJumpShowsMode, UserJumpBreaksPrivilege, StoreRelShowsLocation, StoreRelUserShowsLocation, StoreRelOutsideDoesNot, StoreBoundShowsBound, StoreBoundUserShowsBound, StoreBoundOutsideDoesNot, OpenLrShowsControl, OpenLrOfTheSameDoesNot, StoreRelIsNoUserPair, StoreBoundIsNoUserPair, StoreBoundOfTwoSizesShowsBound, StoreRelOfTwoSizesDoesNot, StoreRelOfTwoBoundsDoesNot, LrDoneInSupervisorModeDoesNot, SvcBreaksPrivilege, RtuServesHybridAlone};
 
 /// Runs of bare machines, each with the state that it ends in.
 pub fn worked_runs()
@@ -25,7 +25,7 @@ pub fn worked_runs()
     ensures widens_and_shifts { WidensAndShifts }
 {}
 
-/// For each kind a pair of states that shows it, and a near pair that does not.
+/// For each kind a pair of states that shows it, and near pairs that do not.
 pub fn worked_kinds()
     ensures rtu_shows_control { RtuShowsControl }
     ensures rtu_in_user_mode_does_not { RtuInUserModeDoesNot }
@@ -46,4 +46,15 @@ pub fn worked_kinds()
     ensures open_lr_of_the_same_does_not { OpenLrOfTheSameDoesNot }
     ensures store_rel_is_no_user_pair { StoreRelIsNoUserPair }
     ensures store_bound_is_no_user_pair { StoreBoundIsNoUserPair }
+    ensures store_bound_of_two_sizes_shows_bound { StoreBoundOfTwoSizesShowsBound }
+    ensures store_rel_of_two_sizes_does_not { StoreRelOfTwoSizesDoesNot }
+    ensures store_rel_of_two_bounds_does_not { StoreRelOfTwoBoundsDoesNot }
+    ensures lr_done_in_supervisor_mode_does_not { LrDoneInSupervisorModeDoesNot }
+    ensures svc_breaks_privilege { SvcBreaksPrivilege }
+{}
+
+/// A machine that a hybrid monitor may run and the other may not: its one instruction enters user mode, and in user mode
+/// does what any jump does.
+pub fn hybrid_alone()
+    ensures { RtuServesHybridAlone }
 {}

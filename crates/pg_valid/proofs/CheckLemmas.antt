@@ -1,8 +1,12 @@
--- Patterns that clash, from some place on.
-use Rattle.std.proofs.Common.{◌≡◌, ℕ, ◌≤◌, inl, inr, min, length, drop, false, List, [], ◌∷◌, refl, arith, ap, ◌∙◌}
+-- Tests that hold both, and patterns that clash, from some place on.
+use Rattle.std.proofs.Common.{◌≡◌, ℕ, ◌≤◌, inl, inr, min, length, drop, Bool, true, false, ◌&&◌, List, [], ◌∷◌, refl, arith, ap, ◌∙◌}
 use Rattle.std.proofs.lemmas.List.{drop_all}
 use Rattle.std.proofs.lemmas.Bool.{cases_lt}
 use Rattle.pg_valid.specs.Overlaps.{clash}
+
+pub and_both : (a b : Bool) → (a && b) ≡ true → (a ≡ true) × (b ≡ true)
+and_both true b h = (refl, h)
+and_both false b h = absurd (cc h)
 
 -- an empty pattern clashes with none
 pub clash-nil : (p : List ℕ) → clash p [] ≡ false

@@ -16,8 +16,4 @@ newest f xs j d h =
     ∙ ap reverse (map-append f (take j xs) (get_or xs j d ∷ []))
     ∙ reverse-append (map f (take j xs)) (f (get_or xs j d) ∷ [])
 
--- one more at the end of a list is first from its end
-pub newest_pushed : {X Y : Type 0} (f : X → Y) (xs : List X) (x : X) → reverse (map f (xs ++ x ∷ [])) ≡ f x ∷ reverse (map f xs)
-newest_pushed f xs x = ap reverse (map-append f xs (x ∷ [])) ∙ reverse-append (map f xs) (f x ∷ [])
-
 pub ruleset name_rules = (append_assoc, append-nil)

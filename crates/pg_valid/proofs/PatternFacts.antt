@@ -5,14 +5,11 @@ use Rattle.std.proofs.lemmas.Option.{slice_get-get_or}
 use Rattle.pg_ast.specs.declared.tree.Instr.{Instr}
 use Rattle.pg_ast.specs.declared.tree.Desc.{Desc}
 use Rattle.pg_meaning.specs.Patterns.{byte_0, byte_1, bit_of_word, takes_bit, matches, Field, field_of}
-use Rattle.pg_meaning.proofs.PatternLemmas.{field-within}
+use Rattle.pg_meaning.proofs.PatternLemmas.{field_of-within}
+use Rattle.pg_valid.proofs.CheckLemmas.{and_both}
 use Rattle.pg_valid.specs.Overlaps.{has_split_letter, is_well_formed, pattern_broken, bytes_clash, clash, overlap_with, paired, overlap}
 use Rattle.pg_valid.specs.Valid.{as_pattern, as_overlap, IsValid}
-use Rattle.pg_valid.proofs.ValidFacts.{IsWidth-word}
-
-both_true : (x y : Bool) → (x && y) ≡ true → (x ≡ true) × (y ≡ true)
-both_true true y e = (refl, e)
-both_true false y e = cc
+use Rattle.pg_valid.proofs.ValidFacts.{as_pattern_none, IsWidth-word}
 
 either_true : (x y : Bool) → (x || y) ≡ true → (x ≡ true) ⊎ (y ≡ true)
 either_true true y e = inl refl
@@ -31,12 +28,12 @@ bytes_apart c d bit e s t = by (either_true ((c == byte_0) && (d == byte_1)) ((c
   where
     by : (((c == byte_0) && (d == byte_1)) ≡ true) ⊎ (((c == byte_1) && (d == byte_0)) ≡ true) → ⊥
     by (inl h) =
-        let g = both_true (c == byte_0) (d == byte_1) h in
+        let g = and_both (c == byte_0) (d == byte_1) h in
         let x : bit ≡ 0 = takes_0 c bit (eqb-true c 48 g.0) s in
         let y : bit ≡ 1 = takes_1 d bit (eqb-true d 49 g.1) t in
         omega arith
     by (inr h) =
-        let g = both_true (c == byte_1) (d == byte_0) h in
+        let g = and_both (c == byte_1) (d == byte_0) h in
         let x : bit ≡ 1 = takes_1 c bit (eqb-true c 49 g.0) s in
         let y : bit ≡ 0 = takes_0 d bit (eqb-true d 48 g.1) t in
         omega arith
@@ -48,8 +45,8 @@ clash-apart [] q word n e s t = cc
 clash-apart (c ∷ cs) [] word n e s t = cc
 clash-apart (c ∷ cs) (d ∷ ds) word n e s t =
     let same : length cs ≡ length ds = omega arith in
-    let s2 = both_true (takes_bit c (bit_of_word word (length cs))) (matches cs word) s in
-    let t2 = both_true (takes_bit d (bit_of_word word (length ds))) (matches ds word) t in
+    let s2 = and_both (takes_bit c (bit_of_word word (length cs))) (matches cs word) s in
+    let t2 = and_both (takes_bit d (bit_of_word word (length ds))) (matches ds word) t in
     let there : takes_bit d (bit_of_word word (length cs)) ≡ true = ap (λ k. takes_bit d (bit_of_word word k)) same ∙ t2.0 in
     elim (either_true (bytes_clash c d) (clash cs ds) e) [
       | inl h ↦ bytes_apart c d (bit_of_word word (length cs)) h s2.0 there
@@ -73,7 +70,7 @@ each_formed w k (y ∷ is) (suc i) x none at =
 
 -- and each pattern has as many places as a word has bits
 pub formed-length : (w : ℕ) (pattern : List ℕ) → is_well_formed w pattern ≡ true → length pattern ≡ w
-formed-length w pattern e = eqb-true (length pattern) w (both_true (length pattern == w) (not (has_split_letter pattern)) e).0
+formed-length w pattern e = eqb-true (length pattern) w (and_both (length pattern == w) (not (has_split_letter pattern)) e).0
 
 each_clash : (p : List ℕ) (k : ℕ) (is : List Instr) (j : ℕ) (y : Instr) → overlap_with p k is ≡ None → slice_get is j ≡ Some y → clash p y.pattern.bytes ≡ true
 unfolding overlap_with
@@ -103,10 +100,6 @@ two_clash k (z ∷ is) (suc i) zero x y none less at_i at_j = absurd (let no : �
 two_clash k (z ∷ is) (suc i) (suc j) x y none less at_i at_j =
     two_clash (k + 1) is i j x y (none_paired k (overlap_with z.pattern.bytes (k + 1) is) (overlap (k + 1) is) none).1 (omega arith) at_i at_j
 
-none_pattern : (x : Option ℕ) → as_pattern x ≡ None → x ≡ None
-none_pattern None e = refl
-none_pattern (Some k) e = cc
-
 none_overlap : (x : Option (ℕ × ℕ)) → as_overlap x ≡ None → x ≡ None
 none_overlap None e = refl
 none_overlap (Some k) e = cc
@@ -114,7 +107,7 @@ none_overlap (Some k) e = cc
 -- a pattern of a valid description has as many places as a word has bits
 pub valid-length : (d : Desc) (i : ℕ) (x : Instr) → IsValid d → slice_get d.instrs i ≡ Some x → length x.pattern.bytes ≡ d.word
 valid-length d i x v at =
-    formed-length d.word x.pattern.bytes (each_formed d.word 0 d.instrs i x (none_pattern (pattern_broken d.word 0 d.instrs) v.patterns) at)
+    formed-length d.word x.pattern.bytes (each_formed d.word 0 d.instrs i x (as_pattern_none (pattern_broken d.word 0 d.instrs) v.patterns) at)
 
 -- of a valid description at most one pattern matches a word
 pub valid-apart : (d : Desc) (i j : ℕ) (x y : Instr) (word : ℕ) → IsValid d → i < j → slice_get d.instrs i ≡ Some x → slice_get d.instrs j ≡ Some y →
@@ -126,7 +119,7 @@ valid-apart d i j x y word v less at_i at_j s t =
 -- a field of a valid description lies within the word
 pub valid-field : (d : Desc) (i : ℕ) (x : Instr) (name : List ℕ) (f : Field) → IsValid d → slice_get d.instrs i ≡ Some x →
     field_of x.pattern.bytes name ≡ Some f → f.low + f.width ≤ d.word
-valid-field d i x name f v at e = omega (arith, field-within x.pattern.bytes name f e, valid-length d i x v at)
+valid-field d i x name f v at e = omega (arith, (field_of-within x.pattern.bytes name f e).within, valid-length d i x v at)
 
 -- the patterns of a valid description are no longer than 64 places
 pub valid-short : (d : Desc) → IsValid d → All (λ i. length i.pattern.bytes ≤ 64) d.instrs

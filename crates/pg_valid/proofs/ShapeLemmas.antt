@@ -1,25 +1,22 @@
 -- The test of a shape, and its numbers.
 use Rattle.std.proofs.Common.{◌≡◌, ℕ, Bool, true, false, ◌&&◌, if◌then◌else◌, None, Some, refl, ap, sym, ◌∙◌}
-use Rattle.std.proofs.lemmas.Bool.{leb-true, ltb-true, eqb-true, le-leb, lt-ltb, eq-eqb}
+use Rattle.std.proofs.lemmas.Bool.{leb-true, ltb-true, eqb-true}
 use Rattle.pg_word.specs.Shape.{AreShapeNumbers}
 use Rattle.pg_ast.specs.declared.tree.Desc.{Desc}
 use Rattle.pg_valid.specs.declared.fault.TypeFault.TheVariants.{Shape}
 use Rattle.pg_valid.specs.Valid.{has_shape, shape_fault}
-
-both_true : (x y : Bool) → (x && y) ≡ true → (x ≡ true) × (y ≡ true)
-both_true true y e = (refl, e)
-both_true false y e = cc
+use Rattle.pg_valid.proofs.CheckLemmas.{and_both}
 
 -- the test passes at the numbers of a machine
 pub has_shape-true : (w a q : ℕ) (causes : Bool) → has_shape w a q causes ≡ true → AreShapeNumbers w a q causes
 has_shape-true w a q causes e =
-    let h7 = both_true _ _ e in
-    let h6 = both_true _ _ h7.0 in
-    let h5 = both_true _ _ h6.0 in
-    let h4 = both_true _ _ h5.0 in
-    let h3 = both_true _ _ h4.0 in
-    let h2 = both_true _ _ h3.0 in
-    let h1 = both_true _ _ h2.0 in
+    let h7 = and_both _ _ e in
+    let h6 = and_both _ _ h7.0 in
+    let h5 = and_both _ _ h6.0 in
+    let h4 = and_both _ _ h5.0 in
+    let h3 = and_both _ _ h4.0 in
+    let h2 = and_both _ _ h3.0 in
+    let h1 = and_both _ _ h2.0 in
     record {
       whole_bytes = eqb-true _ _ h1.0;
       word_least = leb-true _ _ h1.1;
@@ -30,20 +27,6 @@ has_shape-true w a q causes e =
       size_least = leb-true _ _ h6.1;
       size_most = ltb-true _ _ h7.1;
     }
-
--- and at no others
-pub has_shape-holds : (w a q : ℕ) (causes : Bool) → AreShapeNumbers w a q causes → has_shape w a q causes ≡ true
-has_shape-holds w a q causes n =
-    rw (
-      eq-eqb _ _ n.whole_bytes,
-      le-leb _ _ n.word_least,
-      le-leb _ _ n.word_most,
-      le-leb _ _ n.address_least,
-      le-leb _ _ n.address_most,
-      le-leb _ _ n.psw_fits,
-      le-leb _ _ n.size_least,
-      lt-ltb _ _ n.size_most,
-    ) refl
 
 none_where : (b : Bool) (d : Desc) → has_shape d.word d.address d.size d.causes ≡ b → shape_fault d ≡ None → b ≡ true
 none_where true d e none = refl

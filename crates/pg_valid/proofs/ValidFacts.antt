@@ -11,13 +11,13 @@ use Rattle.pg_valid.specs.Overlaps.{has_split_letter, is_well_formed, pattern_br
 use Rattle.pg_valid.specs.Widths.{width_broken, width_broken_in, placed_at}
 use Rattle.pg_valid.specs.Valid.{IsValid, as_pattern, as_width}
 use Rattle.pg_valid.proofs.ShapeLemmas.{shape_valid}
-use Rattle.pg_valid.proofs.ValueSound.{and_both}
+use Rattle.pg_valid.proofs.CheckLemmas.{and_both}
 
 -- the numbers of a valid description
 pub IsShape-of_valid : (d : Desc) → IsValid d → IsShape (shape_of d)
 IsShape-of_valid d v = shape_valid d v.shape
 
-as_pattern_none : (o : Option ℕ) → as_pattern o ≡ None → o ≡ None
+pub as_pattern_none : (o : Option ℕ) → as_pattern o ≡ None → o ≡ None
 as_pattern_none None h = refl
 as_pattern_none (Some k) h = absurd (cc h)
 

@@ -10,6 +10,23 @@ use Rattle.pg_ast.specs.declared.tree.Instr.{Instr}
 use Rattle.pg_valid.specs.declared.fault.Limit.{Limit}
 use Rattle.pg_valid.specs.declared.fault.Limit.TheVariants.{Instructions, Accesses, Lets, Statements, Expressions}
 
+-- the limits: how many instructions a description has at most; and how many occurrences of `mem [`, lets, statements and
+-- expressions an instruction
+abbrev pub most_instructions : ℕ
+most_instructions = 256
+
+abbrev pub most_accesses : ℕ
+most_accesses = 8
+
+abbrev pub most_lets : ℕ
+most_lets = 32
+
+abbrev pub most_statements : ℕ
+most_statements = 200
+
+abbrev pub most_expressions : ℕ
+most_expressions = 1024
+
 -- what the limits of an instruction count: occurrences of `mem [`, lets, statements, expressions
 pub record Tally : Type 0 where
   pub accesses : ℕ
@@ -85,17 +102,17 @@ stmt_tally = fold-Stmt Tally stmt_tally_step
 abbrev pub instr_tally : Instr → Tally
 instr_tally i = all_of (map stmt_tally i.body)
 
--- the least limit that an instruction's counts break: 8 accesses, 32 lets, 200 statements, 1,024 expressions
+-- the least limit that an instruction's counts break
 abbrev pub tally_limit : Tally → Option Limit
 tally_limit t =
-    (if nat_lt 8 t.accesses then Some Accesses
-    else (if nat_lt 32 t.lets then Some Lets
-    else (if nat_lt 200 t.statements then Some Statements
-    else (if nat_lt 1024 t.expressions then Some Expressions else None))))
+    (if nat_lt most_accesses t.accesses then Some Accesses
+    else (if nat_lt most_lets t.lets then Some Lets
+    else (if nat_lt most_statements t.statements then Some Statements
+    else (if nat_lt most_expressions t.expressions then Some Expressions else None))))
 
--- the least limit that the instruction of this number breaks; instruction 256 is one too many
+-- the least limit that the instruction of this number breaks; the numbers begin at 0
 abbrev pub limit_at : ℕ → Instr → Option Limit
-limit_at k i = (if k == 256 then Some Instructions else tally_limit (instr_tally i))
+limit_at k i = (if k == most_instructions then Some Instructions else tally_limit (instr_tally i))
 
 abbrev pub at_number : ℕ → Option Limit → Option (Limit × ℕ) → Option (Limit × ℕ)
 at_number k None later = later

@@ -9,15 +9,15 @@ use thiserror::Error;
 /// What is limited in a description.
 #[derive(Clone, Copy, Debug, PartialEq, Eq)]
 pub enum Limit {
-    /// At most 256 instructions.
+    /// Instructions: at most `MOST_INSTRUCTIONS`.
     Instructions,
-    /// At most 8 occurrences of `mem [` in an instruction, reads and writes.
+    /// Occurrences of `mem [` in an instruction, reads and writes: at most `MOST_ACCESSES`.
     Accesses,
-    /// At most 32 lets in an instruction.
+    /// Lets in an instruction: at most `MOST_LETS`.
     Lets,
-    /// At most 200 statements in an instruction, an if counting itself and those inside.
+    /// Statements in an instruction, an if counting itself and those inside: at most `MOST_STATEMENTS`.
     Statements,
-    /// At most 1,024 expressions in an instruction, parts included.
+    /// Expressions in an instruction, parts included: at most `MOST_EXPRESSIONS`.
     Expressions,
 }
 

@@ -33,4 +33,5 @@ mod widths;
 
 pub use check_desc::check;
 pub use fault::{Limit, TypeFault};
+pub use limits::{MOST_ACCESSES, MOST_EXPRESSIONS, MOST_INSTRUCTIONS, MOST_LETS, MOST_STATEMENTS};
 pub use machine::Machine;

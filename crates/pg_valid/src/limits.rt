@@ -1,16 +1,31 @@
 //! How much a description holds, against its limits.
 //!
 //! The second class of validity, before every other that goes over the bodies: the limits bound the work of those, and
-//! the interpreter has room for 8 stores and 32 lets and no more. An instruction is counted whole, in one walk over its
-//! body, and the counts are compared at its end; the one with the number 256 is one too many, whatever its body. A
-//! count stops at the greatest number of 64 bits in place of wrapping, so it is past its limit where the number that it
-//! stands for is (`Counted`). Nothing here takes memory.
+//! the interpreter has room for so many stores and lets and no more. An instruction is counted whole, in one walk over
+//! its body, and the counts are compared at its end; one too many is so whatever its body. A count stops at the greatest
+//! number of 64 bits in place of wrapping, so it is past its limit where the number that it stands for is (`Counted`).
+//! Nothing here takes memory.
 
 ghost use Rattle.std.specs.Prelude.{◌≡◌, map};
 ghost use Rattle.pg_valid.specs.Limits.{Tally, tally, both, all_of, expr_tally, stmt_tally, tally_limit, limit_at, limit_broken};
 
 use crate::fault::Limit;
 use pg_ast::{Expr, Instr, Stmt};
+
+/// The most instructions of a description.
+pub const MOST_INSTRUCTIONS: usize = 256;
+
+/// The most occurrences of `mem [` in an instruction, reads and writes.
+pub const MOST_ACCESSES: usize = 8;
+
+/// The most lets of an instruction.
+pub const MOST_LETS: usize = 32;
+
+/// The most statements of an instruction, an if counting itself and those inside.
+pub const MOST_STATEMENTS: usize = 200;
+
+/// The most expressions of an instruction, parts included.
+pub const MOST_EXPRESSIONS: usize = 1024;
 
 /// What the limits of an instruction count, each count stopping at the greatest number of 64 bits.
 #[derive(Clone, Copy, Debug)]
@@ -181,13 +196,13 @@ impl Counts {
     fn limit(self) -> Option<Limit>
         ensures { (t : Tally) → self ≡ capped t → result ≡ tally_limit t }
     {
-        if 8 < self.accesses {
+        if (MOST_ACCESSES as u64) < self.accesses {
             Some(Limit::Accesses)
-        } else if 32 < self.lets {
+        } else if (MOST_LETS as u64) < self.lets {
             Some(Limit::Lets)
-        } else if 200 < self.statements {
+        } else if (MOST_STATEMENTS as u64) < self.statements {
             Some(Limit::Statements)
-        } else if 1024 < self.expressions {
+        } else if (MOST_EXPRESSIONS as u64) < self.expressions {
             Some(Limit::Expressions)
         } else {
             None
@@ -195,11 +210,11 @@ impl Counts {
     }
 }
 
-/// The least limit that the instruction of this number breaks; instruction 256 is one too many.
+/// The least limit that the instruction of this number breaks; the numbers begin at 0.
 fn limit_at(k: usize, instr: &Instr) -> Option<Limit>
     ensures { result ≡ limit_at k instr.now }
 {
-    if k == 256 {
+    if k == MOST_INSTRUCTIONS {
         Some(Limit::Instructions)
     } else {
         Counts::of_stmts(instr.body.as_slice()).limit()

@@ -2,7 +2,7 @@
 //!
 //! The tests of names go over bodies with such a list: `twice` gathers the names of lets in one, and `scopes` has the
 //! visible lets in one. The names stay where they are, in the tree, so a list takes memory for its places alone, and
-//! only `push` takes any. A search goes over the whole list: there are at most 32 lets in a body when it is asked for.
+//! only `push` takes any. A search goes over the whole list: the limits have been tested when it is asked for, so it is short.
 
 ghost use Rattle.std.specs.Prelude.{◌≡◌, ℕ, List, [], ◌∷◌, ◌++◌, length, take, map, bytes_eq, OnOk};
 ghost use Rattle.pg_valid.specs.Twice.{is_among};

@@ -1,5 +1,5 @@
 use Rattle.std.proofs.Common.{sym, arith}
-use Rattle.pg_valid.proofs.ValueSound.{field_of-within}
+use Rattle.pg_meaning.proofs.PatternLemmas.{field_of-within}
 use Rattle.pg_interp.proofs.values.name_number.Goals as goal
 
 pub field_number-requires-clause-some : goal.field_number-requires-clause-some
