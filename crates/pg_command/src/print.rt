@@ -1,4 +1,6 @@
 //! The command `print`: a printed description.
+//!
+//! It takes one word, the name of the file with the description, and no option.
 ghost use Rattle.std.specs.Prelude.{◌≡◌, IfOk, Some};
 ghost use Rattle.clap.specs.Words.{app_of, found_of, rows_of, with_subcommand};
 ghost use Rattle.pg_command.specs.Print as spec;

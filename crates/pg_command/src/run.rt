@@ -1,4 +1,6 @@
 //! The command `run`: a run as a guest under a monitor.
+//!
+//! It takes the words that every command takes which runs an image.
 ghost use Rattle.std.specs.Prelude.{◌≡◌, IfOk, Some, codes};
 ghost use Rattle.clap.specs.Words.{app_of, found_of, rows_of, with_subcommand};
 ghost use Rattle.pg_command.specs.Running.{HoldsRun, running};

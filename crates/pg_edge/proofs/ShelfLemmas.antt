@@ -4,7 +4,7 @@ use Rattle.std.specs.Str.{bytes_eq}
 use Rattle.std.specs.Prelude.{nat_le, IsSome, IsSomeAnd}
 use Rattle.std.proofs.lemmas.Slice.Eq.{bytes_eq-Decides}
 use Rattle.std.proofs.lemmas.List.{length-take, take_min}
-use Rattle.pg_edge.specs.Shelf.{Saves, HasOldOrFront, SameBut, IsFront}
+use Rattle.pg_edge.specs.Shelf.{Saves, HasOldOrFront, SameBut, IsPrefix}
 use Rattle.pg_edge.specs.ShelfView.{content_of, with_content, cut_short, files_left}
 
 -- ---- the name itself
@@ -65,14 +65,14 @@ record Left (files after : List (List ℕ × List ℕ)) (name bytes : List ℕ) 
 Left-nothing : (files : List (List ℕ × List ℕ)) (name bytes : List ℕ) → Left files files name bytes
 Left-nothing files name bytes = record { front = inl refl; others = λ other differs. refl }
 
-IsFront-take : (n : ℕ) (bytes : List ℕ) → IsFront (take n bytes) bytes
-IsFront-take n bytes = rw length-take (take_min n bytes)
+IsPrefix-take : (n : ℕ) (bytes : List ℕ) → IsPrefix (take n bytes) bytes
+IsPrefix-take n bytes = rw length-take (take_min n bytes)
 
-old_or_front : (n : ℕ) (held now : Option (List ℕ)) (bytes : List ℕ) → now ≡ put_in (take n bytes) held → (now ≡ held) ⊎ IsSomeAnd now (λ front. IsFront front bytes)
+old_or_front : (n : ℕ) (held now : Option (List ℕ)) (bytes : List ℕ) → now ≡ put_in (take n bytes) held → (now ≡ held) ⊎ IsSomeAnd now (λ front. IsPrefix front bytes)
 old_or_front n None now bytes is = inl is
 old_or_front n (Some was) now bytes is =
-    let P : Option (List ℕ) → Type 0 = λ o. IsSomeAnd o (λ front. IsFront front bytes) in
-    inr (subst P (sym is) (IsFront-take n bytes))
+    let P : Option (List ℕ) → Type 0 = λ o. IsSomeAnd o (λ front. IsPrefix front bytes) in
+    inr (subst P (sym is) (IsPrefix-take n bytes))
 
 Left-cut_short : (files : List (List ℕ × List ℕ)) (failing : Option ℕ) (name bytes : List ℕ) → Left files (cut_short files failing name bytes) name bytes
 Left-cut_short files None name bytes = Left-nothing files name bytes

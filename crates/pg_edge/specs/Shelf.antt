@@ -26,12 +26,12 @@ abbrev pub HasSize : Option Files → List ℕ → ℕ → Type 0
 HasSize told name size = IfSome told (λ files. IsSomeAnd (files name) (λ bytes. size ≡ length bytes))
 
 -- the bytes begin with these
-abbrev pub IsFront : List ℕ → List ℕ → Type 0
-IsFront front bytes = take (length front) bytes ≡ front
+abbrev pub IsPrefix : List ℕ → List ℕ → Type 0
+IsPrefix front bytes = take (length front) bytes ≡ front
 
 -- a piece of the bytes that begins at this place, and is empty only from their end on
 pub record IsPart (bytes : List ℕ) (at : ℕ) (piece : List ℕ) : Type 0 where
-  pub front : IsFront piece (drop at bytes)
+  pub front : IsPrefix piece (drop at bytes)
   pub some : at < length bytes → 0 < length piece
 
 -- where the files are told, the one of this name has this piece at this place
@@ -85,7 +85,7 @@ pub record CountsSave {T E : Type 0} (before now : ℕ) (result : Result T E) : 
 
 -- the name has what it had, or bytes that these begin with
 abbrev pub HasOldOrFront : List ℕ → List ℕ → Files → Files → Type 0
-HasOldOrFront name bytes was now = (now name ≡ was name) ⊎ IsSomeAnd (now name) (λ front. IsFront front bytes)
+HasOldOrFront name bytes was now = (now name ≡ was name) ⊎ IsSomeAnd (now name) (λ front. IsPrefix front bytes)
 
 -- no file but the one of this name differs
 abbrev pub SameBut : List ℕ → Files → Files → Type 0

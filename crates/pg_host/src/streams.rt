@@ -65,11 +65,7 @@ fn write_piece<W: Write>(to: &mut W, bytes: &[u8]) -> Result<usize, Failed>
 /// # Errors
 /// `Long` where it is more, `Failed` where a read fails, and `Memory` where there is none for the bytes. `into` is then
 /// empty.
-pub fn read_within<R: Read>(
-    from: &mut R,
-    limit: u64,
-    into: &mut Vec<u8>,
-) -> Result<(), LoadFault>
+pub fn read_within<R: Read>(from: &mut R, limit: u64, into: &mut Vec<u8>) -> Result<(), LoadFault>
     requires empty { into.old.items ≡ [] }
     ensures whole { OnOk result (IfSome (R.remaining from.old) (λ bytes. into.new.items ≡ bytes)) }
     ensures within { OnOk result (length into.new.items ≤ limit) }
@@ -90,11 +86,7 @@ pub fn read_within<R: Read>(
 ///
 /// # Errors
 /// `Failed` where a read fails, and `Memory` where there is none for the bytes. `into` is then empty.
-pub fn read_up_to<R: Read>(
-    from: &mut R,
-    most: u64,
-    into: &mut Vec<u8>,
-) -> Result<(), LoadFault>
+pub fn read_up_to<R: Read>(from: &mut R, most: u64, into: &mut Vec<u8>) -> Result<(), LoadFault>
     requires empty { into.old.items ≡ [] }
     ensures bytes { OnOk result (IfSome (R.remaining from.old) (λ bytes. into.new.items ≡ take most bytes)) }
     ensures within { OnOk result (length into.new.items ≤ most) }

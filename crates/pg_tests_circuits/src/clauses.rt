@@ -1,4 +1,7 @@
 //! Clauses of small circuits, on all assignments.
+//!
+//! A row of the table is a root over two inputs, with the assignments that satisfy its clauses, worked out by hand: of the
+//! constant false there are none.
 
 use pg_circuit::{Circuit, Gate};
 use pg_cnf::{Clause, Cnf, encode};
@@ -88,7 +91,10 @@ fn clauses_of_roots(rt: HostRuntime) -> Result<(), Fail> {
         assert!(rt; cnf.clauses.len() == count, "{root:?}");
         for assignment in 0..16u8 {
             let model = models.wrapping_shr(u32::from(assignment)) & 1 == 1;
-            assert!(rt; satisfies(&cnf, assignment) == model, "{root:?} at {assignment}");
+            assert!(rt;
+                satisfies(&cnf, assignment) == model,
+                "{root:?} at {assignment}"
+            );
         }
     }
     Ok(())

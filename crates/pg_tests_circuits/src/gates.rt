@@ -1,4 +1,6 @@
 //! Gates: what each is worth on all values of its inputs, and which need no node.
+//!
+//! A full adder has all kinds of gates in it. What needs no node is told by how many nodes there are afterwards.
 
 use pg_circuit::{Circuit, Gate};
 use std::alloc::AllocError;
@@ -54,9 +56,18 @@ fn a_full_adder(rt: HostRuntime) -> Result<(), Fail> {
     for number in 0..8u8 {
         let inputs = [number & 4 != 0, number & 2 != 0, number & 1 != 0];
         let ones = number.count_ones();
-        assert!(rt; value(&rt, &circuit, &inputs, sum) == (ones & 1 != 0), "{number}");
-        assert!(rt; value(&rt, &circuit, &inputs, carry) == (ones >= 2), "{number}");
-        assert!(rt; value(&rt, &circuit, &inputs, not_carry) == (ones < 2), "{number}");
+        assert!(rt;
+            value(&rt, &circuit, &inputs, sum) == (ones & 1 != 0),
+            "{number}"
+        );
+        assert!(rt;
+            value(&rt, &circuit, &inputs, carry) == (ones >= 2),
+            "{number}"
+        );
+        assert!(rt;
+            value(&rt, &circuit, &inputs, not_carry) == (ones < 2),
+            "{number}"
+        );
     }
     Ok(())
 }

@@ -311,7 +311,14 @@ fn agrees_on(
     left: u64,
 ) -> Result<(), Fail> {
     for right in OPERANDS {
-        agrees(rt, alloc, built, row, left & mask(row.left), right & mask(row.right))?;
+        agrees(
+            rt,
+            alloc,
+            built,
+            row,
+            left & mask(row.left),
+            right & mask(row.right),
+        )?;
     }
     Ok(())
 }

@@ -20,12 +20,27 @@ fn asked(alloc: Global, line: &str) -> Result<Result<Request, Fault>, AllocError
 /// image, where the command has one, `i`.
 const TAKEN: [(&str, &str, u32, u64); 9] = [
     ("pgv|bare|d|i|--grant|8|--steps|0", "bare", 8, 0),
-    ("pgv|bare|--steps=1000000|d|--grant=8|i", "bare", 8, 1_000_000),
+    (
+        "pgv|bare|--steps=1000000|d|--grant=8|i",
+        "bare",
+        8,
+        1_000_000,
+    ),
     ("x|bare|--grant|2|--steps|7|--|d|i", "bare", 2, 7),
-    ("pgv|bare|d|i|--grant|1048575|--steps|+7", "bare", 1_048_575, 7),
+    (
+        "pgv|bare|d|i|--grant|1048575|--steps|+7",
+        "bare",
+        1_048_575,
+        7,
+    ),
     ("pgv|bare|d|i|--grant|+008|--steps|00", "bare", 8, 0),
     ("pgv|run|d|i|--grant|8|--steps|3", "run", 8, 3),
-    ("pgv|run|--steps=1000000|d|i|--grant=1048575", "run", 1_048_575, 1_000_000),
+    (
+        "pgv|run|--steps=1000000|d|i|--grant=1048575",
+        "run",
+        1_048_575,
+        1_000_000,
+    ),
     ("pgv|print|d", "print", 0, 0),
     ("x|print|--|d", "print", 0, 0),
 ];
@@ -100,7 +115,10 @@ const REFUSED: [&str; 41] = [
 #[test]
 fn lines_that_are_refused(rt: HostRuntime) -> Result<(), Fail> {
     for line in REFUSED {
-        assert!(rt; matches!(asked(rt.alloc(), line)?, Err(Fault::Refused)), "{line}");
+        assert!(rt;
+            matches!(asked(rt.alloc(), line)?, Err(Fault::Refused)),
+            "{line}"
+        );
     }
     let none = Vec::new(rt.alloc());
     assert!(rt; matches!(request(rt.alloc(), &none), Err(Fault::Refused)));

@@ -1,4 +1,7 @@
 //! Shelves: the same calls on one in memory and on one over files of the system, with the same answers.
+//!
+//! A call stands in a table with what is to come of it. Only the calls that are to fail differ: a shelf in memory fails at
+//! those that it was given, and the system where a directory stands in the way.
 
 use pg_edge::{Failed, LoadFault, MemShelf, Shelf};
 use pg_host::DirShelf;

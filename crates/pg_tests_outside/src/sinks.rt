@@ -1,4 +1,6 @@
 //! Sinks: puts that go through, and puts that fail, in memory and over a writer.
+//!
+//! A row of a table is a piece, and whether it goes through. A put of no bytes is a put: it may fail, and counts then.
 
 use pg_edge::{MemSink, Sink};
 use pg_host::StdSink;

@@ -1,4 +1,6 @@
 //! Reads of a stream that is slow, is interrupted, and fails in the middle.
+//!
+//! What was read before a fault is not kept, and a stream that is longer than the limit is refused at one byte beyond it.
 
 use pg_edge::LoadFault;
 use pg_host::streams::{read_up_to, read_within};

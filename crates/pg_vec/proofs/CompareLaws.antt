@@ -27,9 +27,7 @@ add-makes nodes xs ys h txs tys e =
     let r = sum-makes xs ys nodes (constant_gate false) h h.begun txs tys e in
     record {
       circuit = r.circuit;
-      grown = r.grown;
-      inputs = r.inputs;
-      few = r.few;
+      adds = r.adds;
       there = r.there;
       wide = r.wide;
       value = λ inputs values v.
@@ -45,9 +43,7 @@ sub-makes nodes xs ys h txs tys e =
     let r = sum-makes xs (flipped ys) nodes (constant_gate true) h h.begun txs (flipped-there (length nodes) ys tys) (e ∙ sym (length-map ys not_gate)) in
     record {
       circuit = r.circuit;
-      grown = r.grown;
-      inputs = r.inputs;
-      few = r.few;
+      adds = r.adds;
       there = r.there;
       wide = r.wide;
       value = λ inputs values v.
@@ -81,9 +77,7 @@ pub carry_out-makes : (xs ys : List Gate) (nodes : List Node) (carry : Gate) →
 unfolding carry_out_made
 carry_out-makes [] [] nodes carry h tc txs tys e = record {
   circuit = h;
-  grown = front_same nodes;
-  inputs = refl;
-  few = omega arith;
+  adds = record { front = front_same nodes; few = omega arith; inputs = refl };
   there = tc;
   value = λ inputs values v. carry_alone (gate_value values carry);
 }
@@ -95,20 +89,18 @@ carry_out-makes (x ∷ xs) (y ∷ ys) nodes carry h tc txs tys e =
     let a = xor-makes nodes x y h tx ty in
     let half = (xor_made nodes x y).0 in
     let n = (xor_made nodes x y).1 in
-    let d = carry-makes n x y half carry a.circuit (there_later nodes n x a.grown tx) (there_later nodes n y a.grown ty) a.there (there_later nodes n carry a.grown tc) in
+    let d = carry-makes n x y half carry a.circuit (there_later nodes n x a.adds.front tx) (there_later nodes n y a.adds.front ty) a.there (there_later nodes n carry a.adds.front tc) in
     let next = (carry_made n x y half carry).0 in
     let k = (carry_made n x y half carry).1 in
-    let nk = front_then nodes n k a.grown d.grown in
+    let nk = front_then nodes n k a.adds.front d.adds.front in
     let r = carry_out-makes xs ys k next d.circuit d.there (all_there_later nodes k xs nk (All-tail (IsThere (length nodes)) x xs txs)) (all_there_later nodes k ys nk (All-tail (IsThere (length nodes)) y ys tys)) (omega arith) in
     record {
       circuit = r.circuit;
-      grown = front_then nodes k _ nk r.grown;
-      inputs = r.inputs ∙ d.inputs ∙ a.inputs;
-      few = let p = a.few in let q = d.few in let t = r.few in omega arith;
+      adds = record { front = front_then nodes k _ nk r.adds.front; few = let p = a.adds.few in let q = d.adds.few in let t = r.adds.few in omega arith; inputs = r.adds.inputs ∙ d.adds.inputs ∙ a.adds.inputs };
       there = r.there;
       value = λ inputs values v.
-          let u2 = values_earlier inputs values k _ r.grown v in
-          let u1 = values_earlier inputs values n k d.grown u2 in
+          let u2 = values_earlier inputs values k _ r.adds.front v in
+          let u1 = values_earlier inputs values n k d.adds.front u2 in
           let bx = gate_value values x in
           let by = gate_value values y in
           let c = gate_value values carry in
@@ -127,9 +119,7 @@ lt-makes nodes xs ys h txs tys e =
     let n = (carry_out_made nodes (constant_gate true) xs (flipped ys)).1 in
     record {
       circuit = r.circuit;
-      grown = r.grown;
-      inputs = r.inputs;
-      few = r.few;
+      adds = r.adds;
       there = All-cons (IsThere (length n)) (not_gate carry) [] r.there (All-nil (IsThere (length n)));
       wide = refl;
       value = λ inputs values v.
@@ -152,9 +142,7 @@ pub same-makes : (xs ys : List Gate) (nodes : List Node) (so_far : Gate) → IsC
 unfolding same_made
 same-makes [] [] nodes so_far h ts txs tys e = record {
   circuit = h;
-  grown = front_same nodes;
-  inputs = refl;
-  few = omega arith;
+  adds = record { front = front_same nodes; few = omega arith; inputs = refl };
   there = ts;
   value = λ inputs values v. sym (and-true (gate_value values so_far));
 }
@@ -166,20 +154,18 @@ same-makes (x ∷ xs) (y ∷ ys) nodes so_far h ts txs tys e =
     let a = xor-makes nodes x y h tx ty in
     let apart = (xor_made nodes x y).0 in
     let n = (xor_made nodes x y).1 in
-    let d = and-makes n so_far (not_gate apart) a.circuit (there_later nodes n so_far a.grown ts) a.there in
+    let d = and-makes n so_far (not_gate apart) a.circuit (there_later nodes n so_far a.adds.front ts) a.there in
     let same = (and_made n so_far (not_gate apart)).0 in
     let k = (and_made n so_far (not_gate apart)).1 in
-    let nk = front_then nodes n k a.grown d.grown in
+    let nk = front_then nodes n k a.adds.front d.adds.front in
     let r = same-makes xs ys k same d.circuit d.there (all_there_later nodes k xs nk (All-tail (IsThere (length nodes)) x xs txs)) (all_there_later nodes k ys nk (All-tail (IsThere (length nodes)) y ys tys)) (omega arith) in
     record {
       circuit = r.circuit;
-      grown = front_then nodes k _ nk r.grown;
-      inputs = r.inputs ∙ d.inputs ∙ a.inputs;
-      few = let p = a.few in let q = d.few in let t = r.few in omega arith;
+      adds = record { front = front_then nodes k _ nk r.adds.front; few = let p = a.adds.few in let q = d.adds.few in let t = r.adds.few in omega arith; inputs = r.adds.inputs ∙ d.adds.inputs ∙ a.adds.inputs };
       there = r.there;
       value = λ inputs values v.
-          let u2 = values_earlier inputs values k _ r.grown v in
-          let u1 = values_earlier inputs values n k d.grown u2 in
+          let u2 = values_earlier inputs values k _ r.adds.front v in
+          let u1 = values_earlier inputs values n k d.adds.front u2 in
           let b = gate_value values so_far in
           let rest = nat_eq (number values xs) (number values ys) in
           r.value inputs values v
@@ -197,9 +183,7 @@ eq-makes nodes xs ys h txs tys e =
     let n = (same_made nodes (constant_gate true) xs ys).1 in
     record {
       circuit = r.circuit;
-      grown = r.grown;
-      inputs = r.inputs;
-      few = r.few;
+      adds = r.adds;
       there = All-cons (IsThere (length n)) same [] r.there (All-nil (IsThere (length n)));
       wide = refl;
       value = λ inputs values v.

@@ -59,9 +59,7 @@ pub each-makes : (make : List Node → Gate → Gate → Gate × List Node) (bas
 unfolding each_made
 each-makes make base most f F law none more [] [] nodes h g txs tys e = record {
   circuit = h;
-  grown = front_same nodes;
-  inputs = refl;
-  few = omega arith;
+  adds = record { front = front_same nodes; few = omega arith; inputs = refl };
   there = txs;
   wide = refl;
   value = λ inputs values v. sym (none values);
@@ -72,17 +70,15 @@ each-makes make base most f F law none more (x ∷ xs) (y ∷ ys) nodes h g txs 
     let a = law nodes x y h g (All-head (IsThere (length nodes)) x xs txs) (All-head (IsThere (length nodes)) y ys tys) in
     let bit = (make nodes x y).0 in
     let n = (make nodes x y).1 in
-    let r = each-makes make base most f F law none more xs ys n a.circuit (front_then base nodes n g a.grown)
-    (all_there_later nodes n xs a.grown (All-tail (IsThere (length nodes)) x xs txs)) (all_there_later nodes n ys a.grown (All-tail (IsThere (length nodes)) y ys tys)) (omega arith) in
+    let r = each-makes make base most f F law none more xs ys n a.circuit (front_then base nodes n g a.adds.front)
+    (all_there_later nodes n xs a.adds.front (All-tail (IsThere (length nodes)) x xs txs)) (all_there_later nodes n ys a.adds.front (All-tail (IsThere (length nodes)) y ys tys)) (omega arith) in
     record {
       circuit = r.circuit;
-      grown = front_then nodes n _ a.grown r.grown;
-      inputs = r.inputs ∙ a.inputs;
-      few = let p = a.few in let q = r.few in omega (arith, suc-mul (length xs) most);
-      there = All-cons (IsThere (length (each_made make n xs ys).1)) bit (each_made make n xs ys).0 (there_later n _ bit r.grown a.there) r.there;
+      adds = record { front = front_then nodes n _ a.adds.front r.adds.front; few = let p = a.adds.few in let q = r.adds.few in omega (arith, suc-mul (length xs) most); inputs = r.adds.inputs ∙ a.adds.inputs };
+      there = All-cons (IsThere (length (each_made make n xs ys).1)) bit (each_made make n xs ys).0 (there_later n _ bit r.adds.front a.there) r.there;
       wide = let w = r.wide in omega arith;
       value = λ inputs values v.
-          let u = values_earlier inputs values n _ r.grown v in
+          let u = values_earlier inputs values n _ r.adds.front v in
           ap (λ k. k * 2 + bit_of (gate_value values bit)) (r.value inputs values v)
           ∙ ap (λ k. F values (number values xs) (number values ys) * 2 + bit_of k) (a.value inputs values u)
           ∙ sym (more values (number values xs) (number values ys) (gate_value values x) (gate_value values y));

@@ -26,9 +26,7 @@ or-makes nodes x y h tx ty =
     let a = and-makes nodes (not_gate x) (not_gate y) h tx ty in
     record {
       circuit = a.circuit;
-      grown = a.grown;
-      inputs = a.inputs;
-      few = a.few;
+      adds = a.adds;
       there = a.there;
       value = λ inputs values v.
           not_value values (and_made nodes (not_gate x) (not_gate y)).0
@@ -41,18 +39,16 @@ unfolding choice_made
 choice-makes choice nodes x y h tc tx ty =
     let a = and-makes nodes choice x h tc tx in
     let n = (and_made nodes choice x).1 in
-    let b = and-makes n (not_gate choice) y a.circuit (there_later nodes n choice a.grown tc) (there_later nodes n y a.grown ty) in
+    let b = and-makes n (not_gate choice) y a.circuit (there_later nodes n choice a.adds.front tc) (there_later nodes n y a.adds.front ty) in
     let m = (and_made n (not_gate choice) y).1 in
-    let d = or-makes m (and_made nodes choice x).0 (and_made n (not_gate choice) y).0 b.circuit (there_later n m (and_made nodes choice x).0 b.grown a.there) b.there in
+    let d = or-makes m (and_made nodes choice x).0 (and_made n (not_gate choice) y).0 b.circuit (there_later n m (and_made nodes choice x).0 b.adds.front a.there) b.there in
     record {
       circuit = d.circuit;
-      grown = front_then nodes n _ a.grown (front_then n m _ b.grown d.grown);
-      inputs = d.inputs ∙ b.inputs ∙ a.inputs;
-      few = let p = a.few in let q = b.few in let r = d.few in omega arith;
+      adds = record { front = front_then nodes n _ a.adds.front (front_then n m _ b.adds.front d.adds.front); few = let p = a.adds.few in let q = b.adds.few in let r = d.adds.few in omega arith; inputs = d.adds.inputs ∙ b.adds.inputs ∙ a.adds.inputs };
       there = d.there;
       value = λ inputs values v.
-          let w = values_earlier inputs values m _ d.grown v in
-          let u = values_earlier inputs values n m b.grown w in
+          let w = values_earlier inputs values m _ d.adds.front v in
+          let u = values_earlier inputs values n m b.adds.front w in
           d.value inputs values v
           ∙ ap (λ k. k || gate_value values (and_made n (not_gate choice) y).0) (a.value inputs values u)
           ∙ ap (λ k. (gate_value values choice && gate_value values x) || k) (b.value inputs values w ∙ ap (λ k. k && gate_value values y) (not_value values choice))
@@ -64,18 +60,16 @@ unfolding carry_made
 carry-makes nodes x y half carry h tx ty th tc =
     let a = and-makes nodes x y h tx ty in
     let n = (and_made nodes x y).1 in
-    let b = and-makes n half carry a.circuit (there_later nodes n half a.grown th) (there_later nodes n carry a.grown tc) in
+    let b = and-makes n half carry a.circuit (there_later nodes n half a.adds.front th) (there_later nodes n carry a.adds.front tc) in
     let m = (and_made n half carry).1 in
-    let d = or-makes m (and_made nodes x y).0 (and_made n half carry).0 b.circuit (there_later n m (and_made nodes x y).0 b.grown a.there) b.there in
+    let d = or-makes m (and_made nodes x y).0 (and_made n half carry).0 b.circuit (there_later n m (and_made nodes x y).0 b.adds.front a.there) b.there in
     record {
       circuit = d.circuit;
-      grown = front_then nodes n _ a.grown (front_then n m _ b.grown d.grown);
-      inputs = d.inputs ∙ b.inputs ∙ a.inputs;
-      few = let p = a.few in let q = b.few in let r = d.few in omega arith;
+      adds = record { front = front_then nodes n _ a.adds.front (front_then n m _ b.adds.front d.adds.front); few = let p = a.adds.few in let q = b.adds.few in let r = d.adds.few in omega arith; inputs = d.adds.inputs ∙ b.adds.inputs ∙ a.adds.inputs };
       there = d.there;
       value = λ inputs values v.
-          let w = values_earlier inputs values m _ d.grown v in
-          let u = values_earlier inputs values n m b.grown w in
+          let w = values_earlier inputs values m _ d.adds.front v in
+          let u = values_earlier inputs values n m b.adds.front w in
           d.value inputs values v
           ∙ ap (λ k. k || gate_value values (and_made n half carry).0) (a.value inputs values u)
           ∙ ap (λ k. (gate_value values x && gate_value values y) || k) (b.value inputs values w);

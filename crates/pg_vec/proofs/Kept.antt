@@ -117,9 +117,7 @@ and-makes nodes x y h tx ty =
     let m = and_made-there nodes h x y tx ty in
     record {
       circuit = m.circuit;
-      grown = m.front;
-      inputs = and_made-inputs nodes h x y tx ty;
-      few = and-few nodes x y;
+      adds = record { front = m.front; few = and-few nodes x y; inputs = and_made-inputs nodes h x y tx ty };
       there = m.there;
       value = λ inputs values v.
           let u = values_earlier inputs values nodes _ m.front v in
@@ -134,9 +132,7 @@ xor-makes nodes x y h tx ty =
     let m = xor_made-there nodes h x y tx ty in
     record {
       circuit = m.circuit;
-      grown = m.front;
-      inputs = xor_made-inputs nodes h x y tx ty;
-      few = xor-few nodes x y;
+      adds = record { front = m.front; few = xor-few nodes x y; inputs = xor_made-inputs nodes h x y tx ty };
       there = m.there;
       value = λ inputs values v.
           let u = values_earlier inputs values nodes _ m.front v in
@@ -152,12 +148,12 @@ pub and_adds : (r : Result Gate AllocError) (old new : Circuit) (x y : Gate) →
     IfOk r (λ g. (g, new.nodes) ≡ and_made old.nodes x y) → OnErr r (new ≡ old) → AddsNodes old.nodes new.nodes 1
 and_adds (Ok g) old new x y tx ty e f =
     let m = and-makes old.nodes x y old.circuit tx ty in
-    subst (λ (k : Gate × List Node). AddsNodes old.nodes k.1 1) (sym e) (record { front = m.grown; few = m.few; inputs = m.inputs })
+    subst (λ (k : Gate × List Node). AddsNodes old.nodes k.1 1) (sym e) m.adds
 and_adds (Err e') old new x y tx ty e f = subst (λ (m : Circuit). AddsNodes old.nodes m.nodes 1) (sym f) (adds_more _ _ 0 1 (adds_none old.nodes) (omega arith))
 
 pub xor_adds : (r : Result Gate AllocError) (old new : Circuit) (x y : Gate) → IsThere (length old.nodes) x → IsThere (length old.nodes) y →
     IfOk r (λ g. (g, new.nodes) ≡ xor_made old.nodes x y) → OnErr r (new ≡ old) → AddsNodes old.nodes new.nodes 1
 xor_adds (Ok g) old new x y tx ty e f =
     let m = xor-makes old.nodes x y old.circuit tx ty in
-    subst (λ (k : Gate × List Node). AddsNodes old.nodes k.1 1) (sym e) (record { front = m.grown; few = m.few; inputs = m.inputs })
+    subst (λ (k : Gate × List Node). AddsNodes old.nodes k.1 1) (sym e) m.adds
 xor_adds (Err e') old new x y tx ty e f = subst (λ (m : Circuit). AddsNodes old.nodes m.nodes 1) (sym f) (adds_more _ _ 0 1 (adds_none old.nodes) (omega arith))

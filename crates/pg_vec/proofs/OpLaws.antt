@@ -26,9 +26,7 @@ made_of nodes made due width most more worth e l m =
     subst (λ (k : List Gate × List Node). MakesBits nodes k width more worth) (sym e)
     (record {
       circuit = m.circuit;
-      grown = m.grown;
-      inputs = m.inputs;
-      few = let p = m.few in omega arith;
+      adds = record { front = m.adds.front; few = let p = m.adds.few in omega arith; inputs = m.adds.inputs };
       there = m.there;
       wide = m.wide;
       value = m.value;

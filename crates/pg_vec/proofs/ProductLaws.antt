@@ -33,9 +33,7 @@ pub row-makes : (xs : List Gate) (nodes : List Node) (y : Gate) → IsCircuit no
 unfolding row_made
 row-makes [] nodes y h ty txs = record {
   circuit = h;
-  grown = front_same nodes;
-  inputs = refl;
-  few = omega arith;
+  adds = record { front = front_same nodes; few = omega arith; inputs = refl };
   there = txs;
   wide = refl;
   value = λ inputs values v. row_none (gate_value values y);
@@ -44,17 +42,15 @@ row-makes (x ∷ xs) nodes y h ty txs =
     let a = and-makes nodes y x h ty (All-head (IsThere (length nodes)) x xs txs) in
     let bit = (and_made nodes y x).0 in
     let n = (and_made nodes y x).1 in
-    let r = row-makes xs n y a.circuit (there_later nodes n y a.grown ty) (all_there_later nodes n xs a.grown (All-tail (IsThere (length nodes)) x xs txs)) in
+    let r = row-makes xs n y a.circuit (there_later nodes n y a.adds.front ty) (all_there_later nodes n xs a.adds.front (All-tail (IsThere (length nodes)) x xs txs)) in
     record {
       circuit = r.circuit;
-      grown = front_then nodes n _ a.grown r.grown;
-      inputs = r.inputs ∙ a.inputs;
-      few = let p = a.few in let q = r.few in omega arith;
-      there = All-cons (IsThere (length (row_made n y xs).1)) bit (row_made n y xs).0 (there_later n _ bit r.grown a.there) r.there;
+      adds = record { front = front_then nodes n _ a.adds.front r.adds.front; few = let p = a.adds.few in let q = r.adds.few in omega arith; inputs = r.adds.inputs ∙ a.adds.inputs };
+      there = All-cons (IsThere (length (row_made n y xs).1)) bit (row_made n y xs).0 (there_later n _ bit r.adds.front a.there) r.there;
       wide = let w = r.wide in omega arith;
       value = λ inputs values v.
           ap (λ k. k * 2 + bit_of (gate_value values bit)) (r.value inputs values v)
-          ∙ ap (λ k. number values xs * bit_of (gate_value values y) * 2 + bit_of k) (a.value inputs values (values_earlier inputs values n _ r.grown v))
+          ∙ ap (λ k. number values xs * bit_of (gate_value values y) * 2 + bit_of k) (a.value inputs values (values_earlier inputs values n _ r.adds.front v))
           ∙ row_more (number values xs) (gate_value values x) (gate_value values y);
     }
 
@@ -74,9 +70,7 @@ pub rows-makes : (ys sum xs : List Gate) (nodes : List Node) → IsCircuit nodes
 unfolding rows_made
 rows-makes [] sum xs nodes h ts txs tys e = record {
   circuit = h;
-  grown = front_same nodes;
-  inputs = refl;
-  few = omega arith;
+  adds = record { front = front_same nodes; few = omega arith; inputs = refl };
   there = ts;
   wide = e;
   value = λ inputs values v. rows_none (number values sum) (number values xs) (2 ^ length xs) (subst (λ n. number values sum < 2 ^ n) e (number-below values sum));
@@ -85,28 +79,30 @@ rows-makes (y ∷ ys) sum xs nodes h ts txs tys e =
     let a = row-makes xs nodes y h (All-head (IsThere (length nodes)) y ys tys) txs in
     let row = (row_made nodes y xs).0 in
     let n = (row_made nodes y xs).1 in
-    let b = add-makes n sum row a.circuit (all_there_later nodes n sum a.grown ts) a.there (e ∙ sym a.wide) in
+    let b = add-makes n sum row a.circuit (all_there_later nodes n sum a.adds.front ts) a.there (e ∙ sym a.wide) in
     let total = (add_made n sum row).0 in
     let k = (add_made n sum row).1 in
-    let nk = front_then nodes n k a.grown b.grown in
+    let nk = front_then nodes n k a.adds.front b.adds.front in
     let wide : length (moved_up 1 xs) ≡ length xs = length-moved_up 1 xs in
     let r = rows-makes ys total (moved_up 1 xs) k b.circuit b.there (moved_up-there (length k) 1 xs b.circuit.begun (all_there_later nodes k xs nk txs))
     (all_there_later nodes k ys nk (All-tail (IsThere (length nodes)) y ys tys)) (b.wide ∙ e ∙ sym wide) in
     record {
       circuit = r.circuit;
-      grown = front_then nodes k _ nk r.grown;
-      inputs = r.inputs ∙ b.inputs ∙ a.inputs;
-      few =
-          let p = a.few in
-          let q : length k ≤ length n + 5 * length xs = subst (λ w. length k ≤ length n + 5 * w) e b.few in
-          let s : length (rows_made k total (moved_up 1 xs) ys).1 ≤ length k + length ys * (6 * length xs) =
-          subst (λ w. length (rows_made k total (moved_up 1 xs) ys).1 ≤ length k + length ys * (6 * w)) wide r.few in
-          omega (arith, suc-mul (length ys) (6 * length xs));
+      adds = record {
+        front = front_then nodes k _ nk r.adds.front;
+        few =
+            let p = a.adds.few in
+            let q : length k ≤ length n + 5 * length xs = subst (λ w. length k ≤ length n + 5 * w) e b.adds.few in
+            let s : length (rows_made k total (moved_up 1 xs) ys).1 ≤ length k + length ys * (6 * length xs) =
+            subst (λ w. length (rows_made k total (moved_up 1 xs) ys).1 ≤ length k + length ys * (6 * w)) wide r.adds.few in
+            omega (arith, suc-mul (length ys) (6 * length xs));
+        inputs = r.adds.inputs ∙ b.adds.inputs ∙ a.adds.inputs;
+      };
       there = r.there;
       wide = r.wide ∙ wide;
       value = λ inputs values v.
-          let u2 = values_earlier inputs values k _ r.grown v in
-          let u1 = values_earlier inputs values n k b.grown u2 in
+          let u2 = values_earlier inputs values k _ r.adds.front v in
+          let u1 = values_earlier inputs values n k b.adds.front u2 in
           let z = constant-value inputs values k false b.circuit u2 in
           let x = number values xs in
           let bit = bit_of (gate_value values y) in
@@ -127,9 +123,7 @@ mul-makes nodes xs ys h txs tys =
     let r = rows-makes ys (zeros (length xs)) xs nodes h (zeros-there (length nodes) (length xs) h.begun) txs tys (length-replicate (length xs) (constant_gate false)) in
     record {
       circuit = r.circuit;
-      grown = r.grown;
-      inputs = r.inputs;
-      few = r.few;
+      adds = r.adds;
       there = r.there;
       wide = r.wide;
       value = λ inputs values v.

@@ -40,9 +40,7 @@ pub any-makes : (ys : List Gate) (nodes : List Node) (so_far : Gate) → IsCircu
 unfolding any_made
 any-makes [] nodes so_far h ts tys = record {
   circuit = h;
-  grown = front_same nodes;
-  inputs = refl;
-  few = omega arith;
+  adds = record { front = front_same nodes; few = omega arith; inputs = refl };
   there = ts;
   value = λ inputs values v. sym (none_more (gate_value values so_far));
 }
@@ -50,16 +48,14 @@ any-makes (y ∷ ys) nodes so_far h ts tys =
     let a = or-makes nodes so_far y h ts (All-head (IsThere (length nodes)) y ys tys) in
     let any = (or_made nodes so_far y).0 in
     let n = (or_made nodes so_far y).1 in
-    let r = any-makes ys n any a.circuit a.there (all_there_later nodes n ys a.grown (All-tail (IsThere (length nodes)) y ys tys)) in
+    let r = any-makes ys n any a.circuit a.there (all_there_later nodes n ys a.adds.front (All-tail (IsThere (length nodes)) y ys tys)) in
     record {
       circuit = r.circuit;
-      grown = front_then nodes n _ a.grown r.grown;
-      inputs = r.inputs ∙ a.inputs;
-      few = let p = a.few in let q = r.few in omega arith;
+      adds = record { front = front_then nodes n _ a.adds.front r.adds.front; few = let p = a.adds.few in let q = r.adds.few in omega arith; inputs = r.adds.inputs ∙ a.adds.inputs };
       there = r.there;
       value = λ inputs values v.
           r.value inputs values v
-          ∙ ap (λ q. q || nat_lt 0 (number values ys)) (a.value inputs values (values_earlier inputs values n _ r.grown v))
+          ∙ ap (λ q. q || nat_lt 0 (number values ys)) (a.value inputs values (values_earlier inputs values n _ r.adds.front v))
           ∙ any_more (gate_value values so_far) (gate_value values y) (number values ys);
     }
 
@@ -122,9 +118,7 @@ pub stages-makes : (move : ℕ → List Gate → List Gate) (result : ℕ → �
 unfolding stages_made
 stages-makes move result m [] xs nodes step h txs tys = record {
   circuit = h;
-  grown = front_same nodes;
-  inputs = refl;
-  few = omega arith;
+  adds = record { front = front_same nodes; few = omega arith; inputs = refl };
   there = txs;
   wide = refl;
   value = λ inputs values v. sym (ap (λ k. result (length xs) (number values xs) k) (mul-zero step) ∙ m.none (length xs) (number values xs) (number-below values xs));
@@ -133,21 +127,23 @@ stages-makes move result m (y ∷ ys) xs nodes step h txs tys =
     let a = mux-makes nodes y (move step xs) xs h (All-head (IsThere (length nodes)) y ys tys) (m.there (length nodes) step xs h.begun txs) txs (m.wide step xs) in
     let moved = (mux_made nodes y (move step xs) xs).0 in
     let n = (mux_made nodes y (move step xs) xs).1 in
-    let r = stages-makes move result m ys moved n (step * 2) a.circuit a.there (all_there_later nodes n ys a.grown (All-tail (IsThere (length nodes)) y ys tys)) in
+    let r = stages-makes move result m ys moved n (step * 2) a.circuit a.there (all_there_later nodes n ys a.adds.front (All-tail (IsThere (length nodes)) y ys tys)) in
     let wide : length moved ≡ length xs = a.wide ∙ m.wide step xs in
     record {
       circuit = r.circuit;
-      grown = front_then nodes n _ a.grown r.grown;
-      inputs = r.inputs ∙ a.inputs;
-      few =
-          let p : length n ≤ length nodes + length xs * 3 = subst (λ w. length n ≤ length nodes + w * 3) (m.wide step xs) a.few in
-          let q : length (stages_made move n (step * 2) moved ys).1 ≤ length n + length ys * (length xs * 3) =
-          subst (λ w. length (stages_made move n (step * 2) moved ys).1 ≤ length n + length ys * (w * 3)) wide r.few in
-          omega (arith, suc-mul (length ys) (length xs * 3));
+      adds = record {
+        front = front_then nodes n _ a.adds.front r.adds.front;
+        few =
+            let p : length n ≤ length nodes + length xs * 3 = subst (λ w. length n ≤ length nodes + w * 3) (m.wide step xs) a.adds.few in
+            let q : length (stages_made move n (step * 2) moved ys).1 ≤ length n + length ys * (length xs * 3) =
+            subst (λ w. length (stages_made move n (step * 2) moved ys).1 ≤ length n + length ys * (w * 3)) wide r.adds.few in
+            omega (arith, suc-mul (length ys) (length xs * 3));
+        inputs = r.adds.inputs ∙ a.adds.inputs;
+      };
       there = r.there;
       wide = r.wide ∙ wide;
       value = λ inputs values v.
-          let u = values_earlier inputs values n _ r.grown v in
+          let u = values_earlier inputs values n _ r.adds.front v in
           let z = constant-value inputs values n false a.circuit u in
           r.value inputs values v
           ∙ ap (λ w. result w (number values moved) (step * 2 * number values ys)) wide
@@ -180,27 +176,29 @@ shift-makes move result m nodes xs ys h txs tys l =
     let a = stages-makes move result m low xs nodes 1 h txs (All-take (IsThere (length nodes)) 6 ys tys) in
     let moved = (stages_made move nodes 1 xs low).0 in
     let n = (stages_made move nodes 1 xs low).1 in
-    let b = any-makes high n (constant_gate false) a.circuit a.circuit.begun (all_there_later nodes n high a.grown (All-drop (IsThere (length nodes)) 6 ys tys)) in
+    let b = any-makes high n (constant_gate false) a.circuit a.circuit.begun (all_there_later nodes n high a.adds.front (All-drop (IsThere (length nodes)) 6 ys tys)) in
     let far = (any_made n (constant_gate false) high).0 in
     let k = (any_made n (constant_gate false) high).1 in
-    let r = mux-makes k far (zeros (length xs)) moved b.circuit b.there (zeros-there (length k) (length xs) b.circuit.begun) (all_there_later n k moved b.grown a.there)
+    let r = mux-makes k far (zeros (length xs)) moved b.circuit b.there (zeros-there (length k) (length xs) b.circuit.begun) (all_there_later n k moved b.adds.front a.there)
     (length-replicate (length xs) (constant_gate false) ∙ sym a.wide) in
     let wide : length (zeros (length xs)) ≡ length xs = length-replicate (length xs) (constant_gate false) in
     record {
       circuit = r.circuit;
-      grown = front_then nodes n _ a.grown (front_then n k _ b.grown r.grown);
-      inputs = r.inputs ∙ b.inputs ∙ a.inputs;
-      few =
-          let p = a.few in
-          let q = b.few in
-          let s : length (mux_made k far (zeros (length xs)) moved).1 ≤ length k + length xs * 3 = subst (λ w. length (mux_made k far (zeros (length xs)) moved).1 ≤ length k + w * 3) wide r.few in
-          let six : length low * (length xs * 3) ≤ 6 * (length xs * 3) = mul-le-mul_right (length xs * 3) (omega (arith, length-take 6 ys)) in
-          omega (arith, length-drop 6 ys);
+      adds = record {
+        front = front_then nodes n _ a.adds.front (front_then n k _ b.adds.front r.adds.front);
+        few =
+            let p = a.adds.few in
+            let q = b.adds.few in
+            let s : length (mux_made k far (zeros (length xs)) moved).1 ≤ length k + length xs * 3 = subst (λ w. length (mux_made k far (zeros (length xs)) moved).1 ≤ length k + w * 3) wide r.adds.few in
+            let six : length low * (length xs * 3) ≤ 6 * (length xs * 3) = mul-le-mul_right (length xs * 3) (omega (arith, length-take 6 ys)) in
+            omega (arith, length-drop 6 ys);
+        inputs = r.adds.inputs ∙ b.adds.inputs ∙ a.adds.inputs;
+      };
       there = r.there;
       wide = r.wide ∙ wide;
       value = λ inputs values v.
-          let u2 = values_earlier inputs values k _ r.grown v in
-          let u1 = values_earlier inputs values n k b.grown u2 in
+          let u2 = values_earlier inputs values k _ r.adds.front v in
+          let u1 = values_earlier inputs values n k b.adds.front u2 in
           let z = constant-value inputs values n false a.circuit u1 in
           r.value inputs values v
           ∙ ap (λ q. cond q (number values (zeros (length xs))) (number values moved))
@@ -229,9 +227,7 @@ shl-makes nodes xs ys h txs tys l =
     let r = shift-makes moved_up up up-is_move nodes xs ys h txs tys l in
     record {
       circuit = r.circuit;
-      grown = r.grown;
-      inputs = r.inputs;
-      few = r.few;
+      adds = r.adds;
       there = r.there;
       wide = r.wide;
       value = λ inputs values v. r.value inputs values v ∙ left_is (length xs) (number values xs) (number values ys) (number-below values xs);
@@ -244,9 +240,7 @@ shr-makes nodes xs ys h txs tys l =
     let r = shift-makes moved_down down down-is_move nodes xs ys h txs tys l in
     record {
       circuit = r.circuit;
-      grown = r.grown;
-      inputs = r.inputs;
-      few = r.few;
+      adds = r.adds;
       there = r.there;
       wide = r.wide;
       value = λ inputs values v. r.value inputs values v ∙ right_is (length xs) (number values xs) (number values ys) (number-below values xs);

@@ -25,9 +25,7 @@ pub not-makes : (nodes : List Node) (xs : List Gate) → IsCircuit nodes → Are
     MakesBits nodes (flipped xs, nodes) (length xs) 0 (λ v. complement_of (length xs) (number v xs))
 not-makes nodes xs h txs = record {
   circuit = h;
-  grown = front_same nodes;
-  inputs = refl;
-  few = omega arith;
+  adds = record { front = front_same nodes; few = omega arith; inputs = refl };
   there = flipped-there (length nodes) xs txs;
   wide = length-map xs not_gate;
   value = λ inputs values v. omega (arith, number-flipped values xs);
@@ -37,9 +35,7 @@ pub cat-makes : (nodes : List Node) (xs ys : List Gate) → IsCircuit nodes → 
     MakesBits nodes (joined_bits xs ys, nodes) (length xs + length ys) 0 (λ v. joined (number v xs) (length ys) (number v ys))
 cat-makes nodes xs ys h txs tys = record {
   circuit = h;
-  grown = front_same nodes;
-  inputs = refl;
-  few = omega arith;
+  adds = record { front = front_same nodes; few = omega arith; inputs = refl };
   there = All-append (IsThere (length nodes)) ys xs tys txs;
   wide = omega (arith, length-append ys xs);
   value = λ inputs values v. number-append values ys xs;
@@ -49,9 +45,7 @@ pub cut-makes : (nodes : List Node) (xs : List Gate) (h k : ℕ) → IsCircuit n
     MakesBits nodes (cut_bits xs h k, nodes) (h - k + 1) 0 (λ v. bits_between (number v xs) h k)
 cut-makes nodes xs h k c txs order within = record {
   circuit = c;
-  grown = front_same nodes;
-  inputs = refl;
-  few = omega arith;
+  adds = record { front = front_same nodes; few = omega arith; inputs = refl };
   there = All-take (IsThere (length nodes)) (h - k + 1) (drop k xs) (All-drop (IsThere (length nodes)) k xs txs);
   wide = omega (arith, length-take (h - k + 1) (drop k xs), length-drop k xs);
   value = λ inputs values v. number-take values (h - k + 1) (drop k xs) ∙ ap (λ n. n % 2 ^ (h - k + 1)) (number-drop values k xs);
@@ -61,9 +55,7 @@ pub ext-makes : (nodes : List Node) (xs : List Gate) (to : ℕ) → IsCircuit no
     MakesBits nodes (widened xs to, nodes) to 0 (λ v. number v xs)
 ext-makes nodes xs to h txs wider = record {
   circuit = h;
-  grown = front_same nodes;
-  inputs = refl;
-  few = omega arith;
+  adds = record { front = front_same nodes; few = omega arith; inputs = refl };
   there = All-append (IsThere (length nodes)) xs (zeros (to - length xs)) txs (zeros-there (length nodes) (to - length xs) h.begun);
   wide = omega (arith, length-append xs (zeros (to - length xs)), length-replicate (to - length xs) (constant_gate false));
   value = λ inputs values v.
@@ -133,9 +125,7 @@ pub sext-makes : (nodes : List Node) (xs : List Gate) (to : ℕ) → IsCircuit n
     MakesBits nodes (sign_widened xs to, nodes) to 0 (λ v. sign_extended (number v xs) (length xs) to)
 sext-makes nodes xs to h txs least wider = record {
   circuit = h;
-  grown = front_same nodes;
-  inputs = refl;
-  few = omega arith;
+  adds = record { front = front_same nodes; few = omega arith; inputs = refl };
   there = All-append (IsThere (length nodes)) xs (replicate (to - length xs) (top_of xs)) txs
       (All-replicate (IsThere (length nodes)) (to - length xs) (top_of xs) (All-get_or (IsThere (length nodes)) xs (length xs - 1) (constant_gate false) (omega arith) txs));
   wide = omega (arith, length-append xs (replicate (to - length xs) (top_of xs)), length-replicate (to - length xs) (top_of xs));

@@ -32,9 +32,7 @@ carry_into-makes : (xs : List Gate) (nodes : List Node) (x y half carry : Gate) 
 unfolding carry_into_made
 carry_into-makes [] nodes x y half carry h tx ty th tc = record {
   circuit = h;
-  grown = front_same nodes;
-  inputs = refl;
-  few = omega arith;
+  adds = record { front = front_same nodes; few = omega arith; inputs = refl };
   there = tc;
   value = λ inputs values v. refl;
 }
@@ -64,9 +62,7 @@ pub sum-makes : (xs ys : List Gate) (nodes : List Node) (carry : Gate) → IsCir
 unfolding sum_made
 sum-makes [] ys nodes carry h tc txs tys e = record {
   circuit = h;
-  grown = front_same nodes;
-  inputs = refl;
-  few = omega arith;
+  adds = record { front = front_same nodes; few = omega arith; inputs = refl };
   there = txs;
   wide = refl;
   value = λ inputs values v. sym (mod-one _);
@@ -78,26 +74,24 @@ sum-makes (x ∷ xs) (y ∷ ys) nodes carry h tc txs tys e =
     let a = xor-makes nodes x y h tx ty in
     let half = (xor_made nodes x y).0 in
     let n = (xor_made nodes x y).1 in
-    let b = xor-makes n half carry a.circuit a.there (there_later nodes n carry a.grown tc) in
+    let b = xor-makes n half carry a.circuit a.there (there_later nodes n carry a.adds.front tc) in
     let bit = (xor_made n half carry).0 in
     let m = (xor_made n half carry).1 in
-    let nm = front_then nodes n m a.grown b.grown in
-    let d = carry_into-makes xs m x y half carry b.circuit (there_later nodes m x nm tx) (there_later nodes m y nm ty) (there_later n m half b.grown a.there) (there_later nodes m carry nm tc) in
+    let nm = front_then nodes n m a.adds.front b.adds.front in
+    let d = carry_into-makes xs m x y half carry b.circuit (there_later nodes m x nm tx) (there_later nodes m y nm ty) (there_later n m half b.adds.front a.there) (there_later nodes m carry nm tc) in
     let next = (carry_into_made xs m x y half carry).0 in
     let k = (carry_into_made xs m x y half carry).1 in
-    let nk = front_then nodes m k nm d.grown in
+    let nk = front_then nodes m k nm d.adds.front in
     let r = sum-makes xs ys k next d.circuit d.there (all_there_later nodes k xs nk (All-tail (IsThere (length nodes)) x xs txs)) (all_there_later nodes k ys nk (All-tail (IsThere (length nodes)) y ys tys)) (omega arith) in
-    let mk = front_then m k _ d.grown r.grown in
+    let mk = front_then m k _ d.adds.front r.adds.front in
     record {
       circuit = r.circuit;
-      grown = front_then nodes k _ nk r.grown;
-      inputs = r.inputs ∙ d.inputs ∙ b.inputs ∙ a.inputs;
-      few = let p = a.few in let q = b.few in let s = d.few in let t = r.few in omega arith;
+      adds = record { front = front_then nodes k _ nk r.adds.front; few = let p = a.adds.few in let q = b.adds.few in let s = d.adds.few in let t = r.adds.few in omega arith; inputs = r.adds.inputs ∙ d.adds.inputs ∙ b.adds.inputs ∙ a.adds.inputs };
       there = All-cons (IsThere (length (sum_made k next xs ys).1)) bit (sum_made k next xs ys).0 (there_later m _ bit mk b.there) r.there;
       wide = let w = r.wide in omega arith;
       value = λ inputs values v.
-          let u3 = values_earlier inputs values k _ r.grown v in
-          let u2 = values_earlier inputs values m k d.grown u3 in
-          let u1 = values_earlier inputs values n m b.grown u2 in
+          let u3 = values_earlier inputs values k _ r.adds.front v in
+          let u2 = values_earlier inputs values m k d.adds.front u3 in
+          let u1 = values_earlier inputs values n m b.adds.front u2 in
           sum-value xs ys values (gate_value values x) (gate_value values y) (gate_value values carry) (gate_value values half) (gate_value values bit) (gate_value values next) _ (omega arith) (a.value inputs values u1) (b.value inputs values u2) (d.value inputs values u3) (r.value inputs values v);
     }
