@@ -1,7 +1,7 @@
 use Rattle.std.proofs.Common.{rules}
 use Rattle.pg_hw.specs.Serving.{blank}
-use Rattle.pg_rig.proofs.rig.RigHardware.install.Goals as goal
+use Rattle.pg_hw.proofs.memory.MemoryHardware.install.Goals as goal
 
 pub returns-clause-installed : goal.returns-clause-installed
 unfolding blank
-returns-clause-installed c = search rules
+returns-clause-installed g c = search rules
