@@ -1,20 +1,19 @@
 -- A machine without instructions traps at every step.
-use Rattle.std.proofs.Common.{◌≡◌, ℕ, zero, suc, ◌<◌, Bool, true, false, ◌&&◌, nat_lt, if◌then◌else◌, List, [], length, slice_set, slice_index, None, refl, sym, subst, arith, inl, inr}
+use Rattle.std.proofs.Common.{◌≡◌, ℕ, Bool, true, false, nat_lt, if◌then◌else◌, List, [], length, slice_set, slice_index, None, refl, sym, ◌∙◌, ap, subst, inl, inr}
 use Rattle.std.proofs.lemmas.Option.{slice_get_cases}
 use Rattle.std.proofs.lemmas.Bool.{lt-ltb, le-ltb}
 use Rattle.pg_word.specs.declared.shape.Shape.{Shape}
 use Rattle.pg_word.specs.declared.psw.Psw.{Psw}
 use Rattle.pg_word.specs.declared.cause.Cause.{Cause}
 use Rattle.pg_word.specs.declared.cause.Cause.TheVariants.{Memory, NoPattern}
-use Rattle.pg_word.specs.Psw.{cause_number, packed_trap, unpacked, window_len_of}
+use Rattle.pg_word.specs.Psw.{cause_number, packed_trap, unpacked}
 use Rattle.pg_ast.specs.declared.tree.Instr.{Instr}
 use Rattle.pg_ast.specs.declared.tree.Desc.{Desc}
 use Rattle.pg_meaning.specs.Patterns.{matching}
 use Rattle.pg_meaning.specs.States.{State, shape_of, window, window_length}
-use Rattle.pg_meaning.specs.Steps.{Ending, ByMemTrap, ByNoPattern, ending, left_by, trapped, step, steps, ends_in_trap}
+use Rattle.pg_meaning.specs.Steps.{Ending, ByMemTrap, ByNoPattern, ending, left_by, trapped, step, ends_in_trap}
 use Rattle.pg_valid.proofs.StepSound.{window-length}
-use Rattle.pg_hw.specs.Tallies.{raised_by}
-use Rattle.pg_hw.specs.Bursts.{is_user, one_if, traps, untrapped_at, untrapped_among, burst_length, BottomRises}
+use Rattle.pg_hw.specs.Bursts.{traps}
 use Rattle.pg_hw.specs.Idling.{cause_where}
 
 -- no instruction matches
@@ -50,34 +49,11 @@ pub traps-idle : (d : Desc) (s : State) → d.instrs ≡ [] → traps d s ≡ tr
 unfolding traps
 traps-idle d s e = rw (ending-idle d (window s) s.psw e) (is_trap_test (nat_lt s.psw.p (length (window s))))
 
-pub untrapped_at-idle : (d : Desc) (s : State) → d.instrs ≡ [] → untrapped_at d s ≡ 0
-untrapped_at-idle d s e = rw (traps-idle d s e) (neither (is_user s.psw.mode))
-  where
-    neither : (b : Bool) → one_if (b && false) ≡ 0
-    neither true = refl
-    neither false = refl
-
-pub untrapped_among-idle : (d : Desc) (s : State) → d.instrs ≡ [] → untrapped_among d 1 s ≡ 0
-unfolding untrapped_among steps
-untrapped_among-idle d s e = rw (untrapped_at-idle d s e) refl
-
-pub burst_length-idle : (d : Desc) (k : ℕ) (s : State) → d.instrs ≡ [] → 0 < k → burst_length d k s ≡ 1
-unfolding burst_length
-burst_length-idle d zero s e h = absurd (omega arith)
-burst_length-idle d (suc k) s e h = rw (traps-idle d s e) refl
-
--- what is counted at the bottom of a step that traps
-pub BottomRises-idle : (d : Desc) (s : State) (steps untrapped new : ℕ) → d.instrs ≡ [] → new ≡ raised_by 1 steps →
-    BottomRises d 1 s (record { steps = steps; untrapped = untrapped }) (record { steps = new; untrapped = untrapped })
-BottomRises-idle d s steps untrapped new e h = record {
-  steps = h;
-  untrapped = record { at_least = omega (arith, untrapped_among-idle d s e); at_most = omega (arith, untrapped_among-idle d s e) };
-}
-
 -- the same step, done in parts
-pub step-idle_by : (d : Desc) (s : State) (shape : Shape) (size usable : ℕ) (cause : Cause) (held cells : List ℕ) (psw : Psw) → d.instrs ≡ [] → shape ≡ shape_of d →
-    size ≡ length s.cells → usable ≡ window_len_of s.psw size → cause ≡ cause_where s.psw.p usable → held ≡ s.cells →
-    cells ≡ slice_set held 0 (packed_trap shape s.psw (cause_number cause)) → psw ≡ unpacked shape.a (slice_index held 1) →
-    record { cells = cells; psw = psw } ≡ step d s
-step-idle_by d s shape size usable cause held cells psw none is size_is usable_is cause_is held_is cells_is psw_is =
-    rw (cells_is, psw_is, held_is, cause_is, usable_is, size_is, is) (sym (step-idle d s none))
+pub step-idle_by : (d : Desc) (s t : State) (shape : Shape) (usable : ℕ) (cause : Cause) → d.instrs ≡ [] → shape ≡ shape_of d →
+    usable ≡ window_length s → cause ≡ cause_where s.psw.p usable →
+    t.cells ≡ slice_set s.cells 0 (packed_trap shape s.psw (cause_number cause)) → t.psw ≡ unpacked shape.a (slice_index s.cells 1) → t ≡ step d s
+step-idle_by d s t shape usable cause none is usable_is cause_is cells_is psw_is =
+    ap (λ xs. let r : State = record { cells = xs; psw = t.psw } in r) cells_is
+    ∙ ap (λ (x : Psw). let r : State = record { cells = slice_set s.cells 0 (packed_trap shape s.psw (cause_number cause)); psw = x } in r) psw_is
+    ∙ rw (cause_is, usable_is, is) (sym (step-idle d s none))

@@ -1,13 +1,13 @@
 -- Pokes of cell after cell, and a machine that is switched on.
-use Rattle.std.proofs.Common.{◌≡◌, ℕ, ◌+◌, ◌-◌, ◌<◌, List, [], ◌∷◌, ◌++◌, length, take, refl, sym, ◌∙◌, ap, arith}
-use Rattle.std.proofs.lemmas.List.{take_more_set, take_all, length-set, append-nil}
+use Rattle.std.proofs.Common.{◌≡◌, ℕ, ◌+◌, ◌-◌, List, length, refl, sym, ◌∙◌, ap, arith}
+use Rattle.std.proofs.lemmas.List.{take_all, append-nil}
 use Rattle.pg_word.specs.declared.psw.Psw.{Psw}
 use Rattle.pg_word.specs.Psw.{power_on_psw}
 use Rattle.pg_meaning.specs.States.{State}
 use Rattle.pg_meaning.specs.Steps.{power_on}
 use Rattle.pg_hw.specs.declared.counts.Counts.{Counts}
 use Rattle.pg_hw.specs.Tallies.{Bottom, after_poke, after_load}
-use Rattle.pg_hw.specs.Machinery.{Machinery, poked_at, loaded_with}
+use Rattle.pg_hw.specs.Machinery.{Machinery, loaded_with}
 use Rattle.pg_hw.specs.Running.{after_pokes, Poked}
 use Rattle.pg_hw.proofs.TallyLaws.{raised_by-zero, raised_by-add}
 
@@ -16,20 +16,6 @@ after_pokes-none c = rw (raised_by-zero c.pokes) refl
 
 pub after_pokes-next : (n : ℕ) (c : Counts) → after_poke (after_pokes c n) ≡ after_pokes c (n + 1)
 after_pokes-next n c = rw (raised_by-add n 1 c.pokes) refl
-
-pub Poked-none : (words : List ℕ) (h : Machinery) → Poked words 0 h h
-Poked-none words h = record { cells = refl; size = refl; psw = refl; tally = after_pokes-none h.tally; bottom = refl; room = refl }
-
-pub Poked-next : (words : List ℕ) (n word : ℕ) (old mid new : Machinery) → Poked words n old mid → n < length mid.state.cells →
-    take (n + 1) words ≡ take n words ++ word ∷ [] → new ≡ poked_at n word mid → Poked words (n + 1) old new
-Poked-next words n word old mid new p within one more = record {
-  cells = ap (λ (h : Machinery). take (n + 1) h.state.cells) more ∙ take_more_set mid.state.cells n word within ∙ ap (λ xs. xs ++ word ∷ []) p.cells ∙ sym one;
-  size = ap (λ (h : Machinery). length h.state.cells) more ∙ length-set mid.state.cells n word ∙ p.size;
-  psw = ap (λ (h : Machinery). h.state.psw) more ∙ p.psw;
-  tally = ap (λ (h : Machinery). h.tally) more ∙ ap after_poke p.tally ∙ after_pokes-next n old.tally;
-  bottom = ap (λ (h : Machinery). h.bottom) more ∙ p.bottom;
-  room = ap (λ (h : Machinery). h.room) more ∙ p.room;
-}
 
 -- a hardware all of whose cells were poked holds the words
 Poked-all : (words : List ℕ) (old new : Machinery) → Poked words (length words) old new → length words ≡ length old.state.cells → new.state.cells ≡ words

@@ -11,18 +11,21 @@
 //!
 //! - `hardware`: the trait. `counts`: what is counted.
 //! - `runs`: what is run on any hardware, switching on and bare runs. `laws`: of counts and bursts.
-//! - `parts`: what hardwares in memory do alike. `idle`: the smallest of them.
+//! - `memory`: a hardware in memory, whatever machines it runs; `parts`: the trap, and a count that rises by one. `idle`: the
+//!   smallest hardware.
 #![tactic(auto)]
 
 mod counts;
 mod hardware;
 mod idle;
 pub mod laws;
+mod memory;
 mod parts;
 mod runs;
 
 pub use counts::Counts;
 pub use hardware::Hardware;
-pub use idle::Idle;
+pub use idle::{Idle, Idling};
+pub use memory::{Advanced, Memory, Works};
 pub use parts::{raised, trap};
 pub use runs::{bare, power_on};

@@ -1,4 +1,4 @@
-//! What hardwares in memory do alike: the trap, and a count that rises by one.
+//! What hardwares do alike, whatever machines they run: the trap, and a count that rises by one.
 
 ghost use Rattle.std.specs.Prelude.{◌≡◌, ◌≤◌, length, slice_set, slice_index};
 ghost use Rattle.pg_word.specs.Shape.{IsShape};

@@ -1,16 +1,15 @@
 //! The hardware in memory.
 //!
-//! `Rig` is a machine whose storage is a vector: it executes by the interpreter over the window that the program status
-//! word opens (`window`), makes the stores that come out, and traps by the swap of program status words (`advance`). It is
-//! proved to be a `Hardware`, serves every machine and has room for `2^32 - 1` cells; nothing of it grows with the number
-//! of steps, and a step costs no more on a larger storage.
+//! `Rig` is a machine whose storage is a vector, the `Memory` of `pg_hw`: it executes by the interpreter over the window that
+//! the program status word opens (`window`), makes the stores that come out, and traps by the swap of program status words
+//! (`rig`). It serves every machine and has room for `2^32 - 1` cells; nothing of it grows with the number of steps, and a
+//! step costs no more on a larger storage.
 //!
 //! `power_on` and `bare`, which are for every hardware, stand in `pg_hw`; they are named here too.
 #![tactic(auto)]
 
-mod advance;
 mod rig;
 mod window;
 
 pub use pg_hw::{bare, power_on};
-pub use rig::Rig;
+pub use rig::{Interpreting, Rig};

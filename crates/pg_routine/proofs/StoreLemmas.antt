@@ -54,9 +54,6 @@ pub record Storing (from len : ℕ) (writes : List Write) (n : ℕ) (old new : M
   pub bottom : new.bottom ≡ old.bottom
   pub room : new.room ≡ old.room
 
-pub Storing-none : (from len : ℕ) (writes : List Write) (h : Machinery) → Storing from len writes 0 h h
-Storing-none from len writes h = record { cells = refl; size = refl; psw = refl; tally = PokedWithin-none h.tally; bottom = refl; room = refl }
-
 -- the next store, made
 store-made : (from len : ℕ) (cells : List ℕ) (x : Write) (rest : List Write) → from + len ≤ length cells → x.at < len →
     with_grant (slice_set cells (from + x.at) x.cell) from (written rest (take len (drop from (slice_set cells (from + x.at) x.cell))))

@@ -1,7 +1,0 @@
-use Rattle.std.proofs.Common.{rules}
-use Rattle.pg_hw.specs.Serving.{blank}
-use Rattle.pg_hw.proofs.idle.IdleHardware.install.Goals as goal
-
-pub returns-clause-installed : goal.returns-clause-installed
-unfolding blank
-returns-clause-installed c = search rules

@@ -1,0 +1,23 @@
+//! Tests of the machine and of what runs guests on it: `pg_word`, `pg_hw`, `pg_routine`, `pg_monitor`.
+//!
+//! They stand in a crate of their own, since a crate with tests is proved twice. Each public call is made once on its happy
+//! path, where memory is ample; the values that are compared were worked out by hand. The hardware is `Idle`, the smallest
+//! one, on which every step traps: what a program does on a machine with instructions is tested where commands are.
+//!
+//! - `words`: program status words, windows, numbers of n bits.
+//! - `hardware`: a hardware that is poked, loaded, stepped, switched on and run.
+//! - `routine`: a guest's composed program status word, and its interpreted steps.
+//! - `monitor`: a monitor with a guest, its turns and plans.
+//! - `setting`: the machine without instructions, on which all of them run.
+#![tactic(auto)]
+
+#[cfg(test)]
+mod hardware;
+#[cfg(test)]
+mod monitor;
+#[cfg(test)]
+mod routine;
+#[cfg(test)]
+mod setting;
+#[cfg(test)]
+mod words;
