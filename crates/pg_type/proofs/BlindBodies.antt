@@ -1,11 +1,11 @@
 -- Bodies do not tell apart two PSWs that differ in what they do not read.
-use Rattle.std.proofs.Common.{◌≡◌, ℕ, Bool, true, false, ◌+◌, ◌%◌, ◌^◌, List, map, refl, sym, ◌∙◌, ap, inl, inr}
+use Rattle.std.proofs.Common.{◌≡◌, ℕ, Bool, true, false, ◌+◌, ◌%◌, ◌^◌, List, map, refl, ap, inl, inr}
 use Rattle.pg_word.specs.declared.psw.Psw.{Psw}
 use Rattle.pg_ast.specs.declared.tree.Stmt.{Stmt}
 use Rattle.pg_ast.specs.declared.tree.Instr.{Instr}
 use Rattle.pg_ast.specs.declared.tree.Desc.{Desc}
 use Rattle.pg_meaning.specs.Values.{Entry}
-use Rattle.pg_meaning.specs.Bodies.{Course, MemTrapped, Trapped, Going, Run, After, in_order, deed_of, entry_of, begun, body}
+use Rattle.pg_meaning.specs.Bodies.{Course, MemTrapped, Trapped, Going, Run, in_order, deed_of, entry_of, begun, body}
 use Rattle.pg_type.specs.Plain.{no_control, Sought, any_has, trapping}
 use Rattle.pg_type.specs.Blind.{AreAlikeBut, IsLeftAlike, AreRunsAlike, AreEndsAlike, IsSameCourse, IsTrapless}
 use Rattle.pg_type.proofs.BlindDeeds.{then_same, in_order-blind}

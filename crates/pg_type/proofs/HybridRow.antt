@@ -1,17 +1,15 @@
 -- The machine of rtu alone: what rtu does at every state, and what follows for both monitors.
 use Rattle.std.proofs.Common.{◌≡◌, ◌≢◌, ◌⊎◌, ℕ, ◌/◌, ◌%◌, ◌^◌, List, [], ◌∷◌, slice_get, refl, sym, ◌∙◌, ap, inl, inr}
-use Rattle.std.specs.Prelude.{All}
 use Rattle.std.proofs.lemmas.List.Elements.{All-head, All-from_recursion}
 use Rattle.pg_word.specs.declared.psw.Psw.{Psw}
 use Rattle.pg_word.specs.declared.psw.Mode.TheVariants.{U}
-use Rattle.pg_ast.specs.declared.tree.Instr.{Instr}
 use Rattle.pg_meaning.specs.Patterns.{run_length, field_of_letter}
 use Rattle.pg_meaning.specs.Values.{let_value}
-use Rattle.pg_meaning.specs.Bodies.{Course, Going, After, body, in_order}
+use Rattle.pg_meaning.specs.Bodies.{Going, body, in_order}
 use Rattle.pg_meaning.specs.States.{State, window}
-use Rattle.pg_type.specs.Kinds.{fetched_word, course_at, observed, observation, ChangesControl, ShowsControl}
-use Rattle.pg_type.specs.Accepting.{IsPrivileged, IsInnocuous, IsUserInnocuous, IsAccepted}
-use Rattle.pg_type.specs.Examples.{alone, rtu, state}
+use Rattle.pg_type.specs.Kinds.{fetched_word, course_at, observed, observation, ChangesControl}
+use Rattle.pg_type.specs.Accepting.{IsPrivileged, IsInnocuous, IsUserInnocuous}
+use Rattle.pg_type.specs.Examples.{alone, rtu}
 use Rattle.pg_type.specs.WorkedKinds.{RtuServesHybridAlone}
 use Rattle.pg_meaning.proofs.ValueEquations.{value_rules}
 use Rattle.pg_meaning.proofs.DeedEquations.{deed_rules}

@@ -1,12 +1,11 @@
 -- Laws of the kinds: privileged is that no pair breaks it, and the hybrid condition is the weaker one.
-use Rattle.std.proofs.Common.{◌≡◌, ◌⊎◌, List, length, refl, sym, subst, inl, inr, get_or}
-use Rattle.std.specs.Prelude.{All}
+use Rattle.std.proofs.Common.{◌≡◌, ◌⊎◌, refl, subst, inl, inr, get_or}
 use Rattle.pg_word.specs.declared.psw.Mode.TheVariants.{S}
 use Rattle.pg_ast.specs.declared.tree.Instr.{Instr}
 use Rattle.pg_ast.specs.declared.tree.Desc.{Desc}
 use Rattle.pg_meaning.specs.Bodies.{Course, MemTrapped, Trapped, Going, After}
 use Rattle.pg_meaning.specs.States.{State, IsState, in_user}
-use Rattle.pg_type.specs.Kinds.{IsAt, course_at, IsDone, IsTrap, IsNoMemTrap, IsModePair, BreaksPrivilege}
+use Rattle.pg_type.specs.Kinds.{IsAt, course_at, IsDone, IsTrap, IsNoMemTrap, IsModePair}
 use Rattle.pg_type.specs.Accepting.{IsPrivileged, IsInnocuous, IsUserInnocuous, IsAccepted, IsHybridAccepted, IsNeverBroken}
 
 -- a trap is no memory trap, and nothing that is done

@@ -1,5 +1,5 @@
 -- Two runs of one body, from two PSWs: what they have in common where the body does not read in what the two differ.
-use Rattle.std.specs.Prelude.{◌≡◌, ◌⊎◌, Bool, true, false}
+use Rattle.std.specs.Prelude.{◌≡◌, ◌⊎◌, Bool, false}
 use Rattle.pg_word.specs.declared.psw.Psw.{Psw}
 use Rattle.pg_meaning.specs.Values.{Entry}
 use Rattle.pg_meaning.specs.Bodies.{Course, MemTrapped, Trapped, Going, Run, After}

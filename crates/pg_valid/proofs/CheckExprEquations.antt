@@ -1,5 +1,5 @@
 -- The equations of what is tested of expressions, one for each form.
-use Rattle.std.proofs.Common.{◌≡◌, ℕ, ◌||◌, if◌then◌else◌, List, Option, None, Some, ap, sym, ◌∙◌}
+use Rattle.std.proofs.Common.{◌≡◌, ℕ, ◌||◌, if◌then◌else◌, List, Option, None, Some, ap}
 use Rattle.pg_ast.specs.declared.name.Name.{Name as Names}
 use Rattle.pg_ast.specs.declared.tree.Op.{Op}
 use Rattle.pg_ast.specs.declared.tree.Expr.{Expr}

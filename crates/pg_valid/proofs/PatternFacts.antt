@@ -1,5 +1,5 @@
 -- What validity tells of patterns: their lengths, their fields, and that no word is matched twice.
-use Rattle.std.proofs.Common.{◌≡◌, ℕ, ◌+◌, ◌-◌, ◌<◌, ◌≤◌, ◌⊎◌, inl, inr, Bool, true, false, not, ◌&&◌, ◌||◌, ◌==◌, if◌then◌else◌, List, [], ◌∷◌, length, zero, suc, Option, None, Some, slice_get, get_or, All, refl, ap, sym, ◌∙◌, arith}
+use Rattle.std.proofs.Common.{◌≡◌, ℕ, ◌+◌, ◌<◌, ◌≤◌, ◌⊎◌, inl, inr, Bool, true, false, not, ◌&&◌, ◌||◌, ◌==◌, if◌then◌else◌, List, [], ◌∷◌, length, zero, suc, Option, None, Some, slice_get, get_or, All, refl, ap, sym, ◌∙◌, arith}
 use Rattle.std.proofs.lemmas.Bool.{eqb-true}
 use Rattle.std.proofs.lemmas.Option.{slice_get-get_or}
 use Rattle.pg_ast.specs.declared.tree.Instr.{Instr}
@@ -8,7 +8,7 @@ use Rattle.pg_meaning.specs.Patterns.{byte_0, byte_1, bit_of_word, takes_bit, ma
 use Rattle.pg_meaning.proofs.PatternLemmas.{field_of-within}
 use Rattle.pg_valid.proofs.CheckLemmas.{and_both}
 use Rattle.pg_valid.specs.Overlaps.{has_split_letter, is_well_formed, pattern_broken, bytes_clash, clash, overlap_with, paired, overlap}
-use Rattle.pg_valid.specs.Valid.{as_pattern, as_overlap, IsValid}
+use Rattle.pg_valid.specs.Valid.{as_overlap, IsValid}
 use Rattle.pg_valid.proofs.ValidFacts.{as_pattern_none, IsWidth-word}
 
 either_true : (x y : Bool) → (x || y) ≡ true → (x ≡ true) ⊎ (y ≡ true)

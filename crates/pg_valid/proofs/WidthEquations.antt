@@ -1,5 +1,5 @@
 -- The equations of widths, one for each form of expression.
-use Rattle.std.proofs.Common.{◌≡◌, ℕ, ◌+◌, Some, ◌==◌, nat_le, ap, sym, ◌∙◌}
+use Rattle.std.proofs.Common.{◌≡◌, ℕ, ◌+◌, Some, ◌==◌, nat_le, ap}
 use Rattle.pg_ast.specs.declared.name.Name.{Name as Names}
 use Rattle.pg_ast.specs.declared.tree.Op.{Op}
 use Rattle.pg_ast.specs.declared.tree.Expr.{Expr}

@@ -2,8 +2,7 @@
 //!
 //! The fifth class of validity, after which at most one instruction is meant by a word. Two patterns of one length
 //! match no word both exactly where they clash: where some place has 0 in one and 1 in the other; the class before has
-//! seen that all patterns are as long as a word. Each pair is looked at once. Nothing here
-//! takes memory.
+//! seen that all patterns are as long as a word. Each pair is looked at once. Nothing here takes memory.
 
 ghost use Rattle.std.specs.Prelude.{◌≡◌, ◌≤◌, length, drop};
 ghost use Rattle.pg_valid.specs.Overlaps.{bytes_clash, clash, overlap_with, overlap};

@@ -1,0 +1,104 @@
+//! What a machine is asked for: its numbers, instructions by name and by word, fields; and whether it is plain.
+
+use crate::texts::{M0, machine};
+use pg_meaning::{field_of, matches};
+use pg_type::laws::accepted_means_hybrid_accepted;
+use pg_type::{Accepted, HybridAccepted, plain};
+use std::test::Fail;
+
+const TWO: &str = "machine{word 16;address 5;size 8;}
+    instr ADD \"0000000.aaaabbbb\" {}
+    instr SUB \"0000001....ccccc\" {}";
+
+#[test]
+fn finds_instructions(rt: HostRuntime) -> Result<(), Fail> {
+    let two = machine(rt.alloc(), TWO)?;
+    assert_eq!(rt; (two.shape().w, two.shape().a, two.shape().q), (16, 5, 8));
+    assert_eq!(rt; two.count(), 2);
+    for (name, number) in [
+        ("ADD", Some(0)),
+        ("SUB", Some(1)),
+        ("add", None),
+        ("", None),
+    ] {
+        assert_eq!(rt; two.find(name), number, "at {name}");
+    }
+    for (word, number) in [
+        (0b0000_0001_1111_0101, Some(0)),
+        (0b0000_0011_1111_0101, Some(1)),
+        (0b0100_0011_1111_0101, None),
+    ] {
+        assert_eq!(rt; two.decode(word), number, "at {word}");
+    }
+    Ok(())
+}
+
+#[test]
+fn names_instructions_and_fields(rt: HostRuntime) -> Result<(), Fail> {
+    let two = machine(rt.alloc(), TWO)?;
+    if two.count() != 2 {
+        return Err("two instructions".into());
+    }
+    assert_eq!(rt; two.name(1), b"SUB".as_slice());
+    let pattern = two.desc.instrs.as_slice()[0].pattern.as_bytes();
+    let found = field_of(pattern, b"a").ok_or("a field")?;
+    assert_eq!(rt; (found.width, found.low), (4, 4));
+    for name in ["c", "aa"] {
+        assert!(rt; field_of(pattern, name.as_bytes()).is_none(), "at {name}");
+    }
+    Ok(())
+}
+
+#[test]
+fn reads_patterns(rt: HostRuntime) -> Result<(), Fail> {
+    assert!(rt; matches(b"01..aab1", 0b0110_1011));
+    assert!(rt; !matches(b"01..aab1", 0b0110_1010));
+    let field = field_of(b"01..aab1", b"a").ok_or("a field")?;
+    assert_eq!(rt; (field.width, field.low), (2, 2));
+    Ok(())
+}
+
+/// M0 with an instruction more, and the number of the first that is not plain.
+#[test]
+fn tells_plain_machines(rt: HostRuntime) -> Result<(), Fail> {
+    let alloc = rt.alloc();
+    for (more, breach) in [
+        ("", None),
+        (
+            "instr sm \"00000101_................_aaaaaaaa\" { mem[a] = ext(mode, 32); }",
+            Some(4),
+        ),
+        (
+            "instr to \"00000110_................_aaaaaaaa\" { mode = 1:1; pc = a; }",
+            Some(4),
+        ),
+        (
+            "instr ok \"00000110_................_aaaaaaaa\" { if mode { trap; } mode = 1:1; }",
+            None,
+        ),
+        (
+            "instr el \"00000110_................_aaaaaaaa\" { if mode { trap; } else { mode = 1:1; } }",
+            Some(4),
+        ),
+    ] {
+        let mut text = M0.to_string(alloc)?;
+        text.push_str(more)?;
+        assert_eq!(rt; plain(&machine(alloc, &text)?), breach, "at {more}");
+    }
+    Ok(())
+}
+
+/// What no plain rule is broken in may be lent to either monitor.
+#[test]
+fn lends_a_plain_machine(rt: HostRuntime) -> Result<(), Fail> {
+    let m = machine(rt.alloc(), M0)?;
+    match plain(&m) {
+        None => {
+            assert_eq!(rt; Accepted::of(&m).machine().count(), 4);
+            accepted_means_hybrid_accepted(&m.desc);
+            assert_eq!(rt; HybridAccepted::of(&m).machine().count(), 4);
+            Ok(())
+        }
+        Some(_) => Err("a plain machine".into()),
+    }
+}
