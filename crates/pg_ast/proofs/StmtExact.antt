@@ -131,7 +131,3 @@ pub read_block-exact : (x : List Tok → Option (Expr × List Tok)) → IsExactE
 unfolding read_block
 read_block-exact x exact zero ts = tt
 read_block-exact x exact (suc k) ts = first-exact x (read_block x k) exact (read_block-exact x exact k) ts (past_close ts) refl
-
--- what was read as a statement are its tokens
-pub read_stmt-exact : (x : List Tok → Option (Expr × List Tok)) → IsExactExpr x → (k : ℕ) → IsExactStmt (read_stmt x (read_block x k))
-read_stmt-exact x exact k = stmt-exact x (read_block x k) exact (read_block-exact x exact k)

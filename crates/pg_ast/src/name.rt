@@ -10,11 +10,11 @@ ghost use Rattle.pg_token.specs.Words.{is_name, is_pattern_byte};
 use pg_token::{is_name, is_pattern};
 use sqlite_items::Items;
 
-/// A name: a letter, then letters, digits and `_`, at most 32 bytes in all, and no word that the
-/// language keeps for itself.
+/// A name: a letter, then letters, digits and `_`, at most `NAME_BYTES` bytes in all, and no word that
+/// the language keeps for itself.
 #[derive(Debug, Drop)]
 pub struct Name {
-    /// Its bytes, from 1 to 32 of them, the first a letter.
+    /// Its bytes, from 1 to `NAME_BYTES` of them, the first a letter.
     pub bytes: Items<u8>,
     pub ghost is_name: { IsTrue (is_name bytes) },
 }
@@ -49,7 +49,7 @@ impl Name {
         }
     }
 
-    /// The bytes, from 1 to 32 of them.
+    /// The bytes, from 1 to `NAME_BYTES` of them.
     pub fn as_bytes(&self) -> &[u8]
         ensures { result.now ≡ self.now.bytes }
     {

@@ -100,8 +100,8 @@ pub enum Stmt {
 /// The instructions of a description, in order.
 pub type InstrList = Items<Instr>;
 
-/// An instruction, `instr NAME PATTERN { .. }`. Its body keeps the limits: blocks of at most 16
-/// levels, its own being the first, and expressions of at most 32.
+/// An instruction, `instr NAME PATTERN { .. }`. Its body keeps the limits: blocks of at most
+/// `BLOCK_LEVELS` levels, its own being the first, and expressions of at most `EXPR_LEVELS`.
 #[derive(Debug, Drop)]
 pub struct Instr {
     /// Its name, which no other instruction of a valid description has.
@@ -129,7 +129,7 @@ impl Instr {
     }
 
     /// The instruction of these parts. `None` where the body goes past a limit: it has blocks below
-    /// level 16, its own being the first, or an expression of more than 32 levels.
+    /// level `BLOCK_LEVELS`, its own being the first, or an expression of more levels than `EXPR_LEVELS`.
     pub fn try_new(name: Name, pattern: PatternText, body: StmtList) -> Option<Instr>
         ensures some { IsSome result ↔ IsShallow body }
         ensures name { IfSome result (λ instr. instr.name ≡ name) }

@@ -6,9 +6,8 @@ use Rattle.std.specs.Char.{is_ascii_digit, is_ascii_hexdigit}
 use Rattle.std.specs.Str.Parse.{digits_value}
 use Rattle.std.proofs.Math.Nat.{pow-le-pow_right}
 use Rattle.std.proofs.lemmas.Bool.{and_parts, leb-true}
-use Rattle.std.proofs.lemmas.Bool.Decides.{nat_tests}
 use Rattle.std.proofs.lemmas.Int.Digits.{digits_value-lt}
-use Rattle.pg_text.specs.Cutting.{limited, dec_number}
+use Rattle.pg_text.specs.Cutting.{dec_number}
 use Rattle.pg_text.specs.Printing.{hex_word_of}
 use Rattle.pg_text.proofs.Digits.{dec_digits, limited_is}
 use Rattle.pg_image.specs.Images.{most_address_digits, is_address, address_digits, is_word}

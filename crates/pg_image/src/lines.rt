@@ -1,10 +1,10 @@
 //! The lines of a state text.
 //!
-//! A state is shown as lines of ASCII: its size, its program status word, and its cells, `LINE_CELLS` on a line. Each function
-//! here writes one line, into a vector that lies in the value itself, so that it takes no memory and refuses nothing. Which
-//! lines of cells are shown, and in what order the lines stand, is for the caller, `pg_report`; `state_text` of the
-//! definitions says it. The longest line is one of eight cells of 64 bits: 12 bytes and 17 for each, 148 of `LINE_BYTES`. Lines of
-//! other texts are pushed into the same buffer (`pg_report`).
+//! A state is shown as lines of ASCII: its size, its program status word, and its cells, `LINE_CELLS` on a line. Each
+//! function here writes one line, into a vector that lies in the value itself, so that it takes no memory and refuses
+//! nothing. Which lines of cells are shown, and in what order the lines stand, is for the caller, `pg_report`; `state_text`
+//! of the definitions says it. The longest line is one of eight cells of 64 bits: 12 bytes and 17 for each, 148 of
+//! `LINE_BYTES`. Lines of other texts are pushed into the same buffer (`pg_report`).
 
 ghost use Rattle.std.specs.Prelude.{◌≡◌, ◌+◌, ◌*◌, ◌/◌, ◌%◌, ◌^◌, ◌<◌, ◌≤◌, ◌++◌, ◌∷◌, length, All};
 ghost use Rattle.std.specs.Fmt.{decimal};

@@ -45,7 +45,9 @@ fn is_address(part: &[u8]) -> bool
     ensures { result ≡ is_address part.now }
 {
     match part {
-        [digits @ .., b':'] => !digits.is_empty() && digits.len() <= ADDRESS_DIGITS && are_digits(digits),
+        [digits @ .., b':'] => !digits.is_empty()
+            && digits.len() <= ADDRESS_DIGITS
+            && are_digits(digits),
         _ => false,
     }
 }

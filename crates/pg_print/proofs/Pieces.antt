@@ -18,7 +18,7 @@ use Rattle.pg_token.specs.declared.tok.Sign.TheVariants.{OpenBrace, CloseBrace, 
 use Rattle.pg_text.specs.declared.place.TextFault.{TextFault}
 use Rattle.pg_text.specs.declared.place.TextFault.TheVariants.{BadNumber}
 use Rattle.pg_text.specs.declared.piece.Piece.{Piece}
-use Rattle.pg_text.specs.Cutting.{is_blank, is_inner, limited, number_of, hex_number, hex_digits, made, word_at, number_at, pattern_at, sign_at, front}
+use Rattle.pg_text.specs.Cutting.{is_blank, is_inner, limited, number_of, made, word_at, number_at, pattern_at, sign_at, front}
 use Rattle.pg_text.specs.Formed.{IsFormed}
 use Rattle.pg_text.proofs.Digits.{limited_is}
 use Rattle.pg_print.specs.Layout.{sign_text, token_text}

@@ -30,10 +30,6 @@ pub record StmtsSoFar (stmt : List Tok → Option (Stmt × List Tok)) (all left 
   pub few : length left + length ss ≤ length all
   pub same : stmts_at stmt (suc (length all)) all ≡ behind_stmts ss (stmts_at stmt (suc (length all - length ss)) left)
 
-behind-none : (x : Option (List Stmt × List Tok)) → x ≡ behind_stmts [] x
-behind-none None = refl
-behind-none (Some p) = refl
-
 behind-next : (ss : List Stmt) (s : Stmt) (x : Option (List Stmt × List Tok)) → behind_stmts ss (then_read x (λ more rest. Some (s ∷ more, rest))) ≡ behind_stmts (ss ++ s ∷ []) x
 behind-next ss s None = refl
 behind-next ss s (Some p) = ap (λ z. Some (z, p.1)) (sym (append_assoc ss (s ∷ []) p.0))
@@ -51,9 +47,6 @@ module _ (stmt : List Tok → Option (Stmt × List Tok)) where
   stmts_at-end : (k : ℕ) (ts rest : List Tok) → past_close ts ≡ Some rest → stmts_at stmt (suc k) ts ≡ Some ([], rest)
   unfolding stmts_at
   stmts_at-end k ts rest closed = rw closed refl
-
-  pub StmtsSoFar-none : (all : List Tok) → StmtsSoFar stmt all all []
-  StmtsSoFar-none all = record { few = omega arith; same = let e : length all - 0 ≡ length all = omega arith in rw e (behind-none (stmts_at stmt (suc (length all)) all)) }
 
   pub StmtsSoFar-next : (all left us : List Tok) (ss : List Stmt) (s : Stmt) → StmtsSoFar stmt all left ss → past_close left ≡ None → stmt left ≡ Some (s, us) → length us < length left →
       StmtsSoFar stmt all us (ss ++ s ∷ [])

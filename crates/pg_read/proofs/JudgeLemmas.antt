@@ -11,7 +11,7 @@ use Rattle.pg_read.specs.declared.fault.DescFault.{DescFault}
 use Rattle.pg_read.specs.declared.fault.DescFault.TheVariants.{Long, Token, Grammar, Deep, Memory}
 use Rattle.pg_read.specs.Marks.{Mark, is_deep, has_deep}
 use Rattle.pg_read.specs.Fronts.{IsMarkedFront, IsAllowed, EndsEarly}
-use Rattle.pg_read.specs.Goals.{Fails, Sinks, Leaves, outcome, taken, desc_goals, judged_by, judged}
+use Rattle.pg_read.specs.Goals.{Sinks, Leaves, outcome, taken, desc_goals, judged_by, judged}
 use Rattle.pg_read.specs.Answer.{toks, place_of, IsWrongThere, IsDeepThere}
 use Rattle.pg_read.proofs.Traces.{trace}
 use Rattle.pg_read.proofs.StmtTraces.{with_marks-some}

@@ -23,8 +23,8 @@ pub enum DescFault {
     /// ends too early, this is the length of the text.
     #[error("wrong at {0}")]
     Grammar(usize),
-    /// The token that stands here, which a description could go on with, begins an expression of more than 32 levels, or
-    /// opens a block of more than 16.
+    /// The token that stands here, which a description could go on with, begins an expression of more levels than
+    /// `EXPR_LEVELS`, or opens a block of more than `BLOCK_LEVELS`.
     #[error("too deep at {0}")]
     Deep(usize),
     /// Memory ran out. It says nothing of the text.

@@ -1,11 +1,12 @@
 //! Statements and blocks.
 //!
-//! `instrs` calls `block` for the body of an instruction. `block` and `body` are given how many levels a block may have, 16
-//! at first, and read nothing where that is none, so they recurse no deeper. The others are given how many a block inside
-//! may have: one less. The expressions of each statement have all of their own levels left. The statements of a block are
-//! read by a loop, so a long block takes no stack.
+//! `instrs` calls `block` for the body of an instruction. `block` and `body` are given how many levels a block may have,
+//! `BLOCK_LEVELS` at first, and read nothing where that is none, so they recurse no deeper. The others are given how many a
+//! block inside may have: one less. The expressions of each statement have all of their own levels left. The statements of
+//! a block are read by a loop, so a long block takes no stack.
 
 ghost use Rattle.std.specs.Prelude.{suc, length};
+ghost use Rattle.pg_ast.specs.Levels.{most_expr_levels};
 ghost use Rattle.pg_ast.specs.Reading.{read_expr, read_stmt, read_stmt_word, past_sign, past_else};
 ghost use Rattle.pg_token.specs.declared.tok.Sign.TheVariants.{OpenBrace};
 ghost use Rattle.pg_read.specs.Steps.{IsStepDue};
@@ -24,7 +25,7 @@ use std::alloc::Global;
 /// What is assigned: `=`, an expression and `;`.
 #[tactic(auto, unfolding(crate::specs::Forms::value_at))]
 fn value(alloc: Global, cursor: &mut Cursor<'_>) -> Result<Expr, Stop>
-    ensures { IsStepDue result (value_at (read_expr 32) cursor.old) cursor.new }
+    ensures { IsStepDue result (value_at (read_expr most_expr_levels) cursor.old) cursor.new }
 {
     let e = expr_behind(alloc, cursor, Sign::Equals, EXPR_LEVELS)?;
     cursor.sign(Sign::Semicolon)?;
@@ -34,7 +35,7 @@ fn value(alloc: Global, cursor: &mut Cursor<'_>) -> Result<Expr, Stop>
 /// A let, behind its first word.
 #[tactic(auto, unfolding(crate::specs::Forms::let_at))]
 fn binding(alloc: Global, cursor: &mut Cursor<'_>) -> Result<Stmt, Stop>
-    ensures { IsStepDue result (let_at (read_expr 32) cursor.old) cursor.new }
+    ensures { IsStepDue result (let_at (read_expr most_expr_levels) cursor.old) cursor.new }
 {
     let name = cursor.name(alloc)?;
     let e = value(alloc, cursor)?;
@@ -44,7 +45,7 @@ fn binding(alloc: Global, cursor: &mut Cursor<'_>) -> Result<Stmt, Stop>
 /// A store, behind its first word.
 #[tactic(auto, unfolding(crate::specs::Forms::store_at))]
 fn store(alloc: Global, cursor: &mut Cursor<'_>) -> Result<Stmt, Stop>
-    ensures { IsStepDue result (store_at (read_expr 32) cursor.old) cursor.new }
+    ensures { IsStepDue result (store_at (read_expr most_expr_levels) cursor.old) cursor.new }
 {
     let address = expr_behind(alloc, cursor, Sign::OpenBracket, EXPR_LEVELS)?;
     cursor.sign(Sign::CloseBracket)?;
@@ -65,7 +66,7 @@ fn trap(cursor: &mut Cursor<'_>) -> Result<Stmt, Stop>
 #[cycle(stmts)]
 #[tactic(auto, unfolding(pg_ast::specs::Reading::read_stmt))]
 fn stmt(alloc: Global, cursor: &mut Cursor<'_>, inner: u32) -> Result<Stmt, Stop>
-    ensures { IsStepDue result (read_stmt (read_expr 32) (body_at inner) cursor.old) cursor.new }
+    ensures { IsStepDue result (read_stmt (read_expr most_expr_levels) (body_at inner) cursor.old) cursor.new }
 {
     match cursor.next() {
         Some(Tok::Word(bytes)) => word(alloc, cursor, bytes.as_slice(), inner),
@@ -77,7 +78,7 @@ fn stmt(alloc: Global, cursor: &mut Cursor<'_>, inner: u32) -> Result<Stmt, Stop
 #[cycle(stmts)]
 #[tactic(auto, using(crate::proofs::FormLemmas::stmt_rules))]
 fn word(alloc: Global, cursor: &mut Cursor<'_>, bytes: &[u8], inner: u32) -> Result<Stmt, Stop>
-    ensures { IsStepDue result (read_stmt_word (read_expr 32) (body_at inner) bytes.now cursor.old) cursor.new }
+    ensures { IsStepDue result (read_stmt_word (read_expr most_expr_levels) (body_at inner) bytes.now cursor.old) cursor.new }
 {
     keyword(alloc, cursor, StmtWord::of(bytes), inner)
 }
@@ -91,7 +92,7 @@ fn keyword(
     word: Option<StmtWord>,
     inner: u32,
 ) -> Result<Stmt, Stop>
-    ensures { IsStepDue result (stmt_word_at (read_expr 32) (body_at inner) word cursor.old) cursor.new }
+    ensures { IsStepDue result (stmt_word_at (read_expr most_expr_levels) (body_at inner) word cursor.old) cursor.new }
 {
     match word {
         None => Err(Stop::Unread),
@@ -110,7 +111,7 @@ fn keyword(
 #[cycle(stmts)]
 #[tactic(auto, unfolding(crate::specs::Forms::if_at))]
 fn choice(alloc: Global, cursor: &mut Cursor<'_>, inner: u32) -> Result<Stmt, Stop>
-    ensures { IsStepDue result (if_at (read_expr 32) (body_at inner) cursor.old) cursor.new }
+    ensures { IsStepDue result (if_at (read_expr most_expr_levels) (body_at inner) cursor.old) cursor.new }
 {
     let c = expr(alloc, cursor, EXPR_LEVELS)?;
     let held = block(alloc, cursor, inner)?;
@@ -154,7 +155,7 @@ fn body(alloc: Global, cursor: &mut Cursor<'_>, levels: u32) -> Result<StmtList,
 /// The statements up to a closing brace, and past it. Blocks inside have at most so many levels.
 #[cycle(stmts)]
 fn stmts(alloc: Global, cursor: &mut Cursor<'_>, inner: u32) -> Result<StmtList, Stop>
-    ensures { IsStepDue result (stmts_at (read_stmt (read_expr 32) (body_at inner)) (suc (length cursor.old)) cursor.old) cursor.new }
+    ensures { IsStepDue result (stmts_at (read_stmt (read_expr most_expr_levels) (body_at inner)) (suc (length cursor.old)) cursor.old) cursor.new }
 {
     let mut stmts = Items::new(alloc);
     while !cursor.close() {

@@ -107,7 +107,13 @@ fn texts_that_are_not_read(rt: HostRuntime) -> Result<(), Fail> {
         ("pc=", "~", 33, "!", "no token at 81"),
         ("pc=;pc=", "~", 33, "0:1;}", "wrong at 48"),
         ("", "if 1:1 {", 15, "if 1:1 ;", "wrong at 172"),
-        ("", "if 1:1 {", 14, "if 1:1 { } else { if 1:1 { ", "too deep at 182"),
+        (
+            "",
+            "if 1:1 {",
+            14,
+            "if 1:1 { } else { if 1:1 { ",
+            "too deep at 182",
+        ),
     ];
     for (first, part, times, last, wanted) in table {
         let mut text = String::from_str(rt.alloc(), OPEN)?;
@@ -116,7 +122,11 @@ fn texts_that_are_not_read(rt: HostRuntime) -> Result<(), Fail> {
             text.push_str(part)?;
         }
         text.push_str(last)?;
-        assert_eq!(rt; shown(rt.alloc(), text.as_bytes())?.as_str(), wanted, "{first}{part}{last}");
+        assert_eq!(rt;
+            shown(rt.alloc(), text.as_bytes())?.as_str(),
+            wanted,
+            "{first}{part}{last}"
+        );
     }
     Ok(())
 }

@@ -24,7 +24,10 @@ fn numbers_as_decimal_digits(rt: HostRuntime) {
 fn words_as_hexadecimal_digits(rt: HostRuntime) {
     assert_eq!(rt; hex_word(16, 0xab).as_slice(), b"00ab".as_slice());
     assert_eq!(rt; hex_word(24, 0x01_02ff).as_slice(), b"0102ff".as_slice());
-    assert_eq!(rt; hex_word(64, u64::MAX).as_slice(), b"ffffffffffffffff".as_slice());
+    assert_eq!(rt;
+        hex_word(64, u64::MAX).as_slice(),
+        b"ffffffffffffffff".as_slice()
+    );
     assert_eq!(rt; hex_word_of(16, b"00aB"), Some(0xab));
     assert_eq!(rt; hex_word_of(40, b"0102030405"), Some(0x01_0203_0405));
     assert_eq!(rt; hex_word_of(64, b"ffffFFFFffffFFFF"), Some(u64::MAX));

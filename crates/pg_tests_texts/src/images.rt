@@ -32,7 +32,10 @@ fn texts_and_their_images(rt: HostRuntime) -> Result<(), Fail> {
         ),
         (b"# \xc8\n2: 0000000_1", "bad byte at 14"),
         (b"2: 00\nx", "bad byte at 6"),
-        (b"7: 00000000 00000000\n2:00000001", "line 2 is not an address and words"),
+        (
+            b"7: 00000000 00000000\n2:00000001",
+            "line 2 is not an address and words",
+        ),
         (b"\n2", "line 2 is not an address and words"),
         (b"1a: 00000000", "line 1 is not an address and words"),
         (b"2:", "line 1 is not an address and words"),

@@ -25,9 +25,18 @@ fn bytes_that_are_words_and_names(rt: HostRuntime) {
 
 #[test]
 fn bytes_that_are_patterns(rt: HostRuntime) {
-    let table: [(&[u8], bool); 4] = [(b"01.az", true), (b"", true), (b"01A", false), (b"0_1", false)];
+    let table: [(&[u8], bool); 4] = [
+        (b"01.az", true),
+        (b"", true),
+        (b"01A", false),
+        (b"0_1", false),
+    ];
     for (bytes, pattern) in table {
         assert_eq!(rt; is_pattern(bytes), pattern, "pattern {bytes:?}");
-        assert_eq!(rt; bytes.iter().all(|byte| is_pattern_byte(*byte)), pattern, "bytes {bytes:?}");
+        assert_eq!(rt;
+            bytes.iter().all(|byte| is_pattern_byte(*byte)),
+            pattern,
+            "bytes {bytes:?}"
+        );
     }
 }

@@ -40,9 +40,6 @@ pub record CutSoFar (text : List ℕ) (list : List (Tok × Span)) (at : ℕ) : T
   pub within : at ≤ length text
   pub whole : before list (cut_from 0 at (drop at text)) ≡ cut_from 0 0 text
 
-pub CutSoFar-none : (text : List ℕ) → CutSoFar text [] 0
-CutSoFar-none text = record { within = omega arith; whole = before-none (cut_from 0 0 text) }
-
 -- a piece in the text takes at least one byte, and ends within it
 pub piece_within : (text : List ℕ) (at : ℕ) (p : Piece) → at < length text → front at (drop at text) ≡ Ok p → (0 < p.len) × (at + p.len ≤ length text)
 piece_within text at p lt h =

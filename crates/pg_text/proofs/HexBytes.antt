@@ -161,7 +161,7 @@ pub word_is : (w n : ℕ) (digits room : List ℕ) (r : Result (Unit {0}) FromHe
     → MatchResult r (λ _. hex_word_of w digits ≡ Some (bytes_value room)) (λ _. hex_word_of w digits ≡ None)
 word_is w n digits room r bytes count h =
     elim ((length digits == w / 4) && list_all is_ascii_hexdigit digits) as (λ b. (length digits == w / 4) && list_all is_ascii_hexdigit digits ≡ b
-        → MatchResult r (λ _. cond b (Some (digits_value 16 digits)) None ≡ Some (bytes_value room)) (λ _. cond b (Some (digits_value 16 digits)) None ≡ None)) [
+    → MatchResult r (λ _. cond b (Some (digits_value 16 digits)) None ≡ Some (bytes_value room)) (λ _. cond b (Some (digits_value 16 digits)) None ≡ None)) [
       | true ↦ λ e.
           let parts = and_parts (length digits == w / 4) (list_all is_ascii_hexdigit digits) e in
           let len : length digits ≡ w / 4 = eqb-true (length digits) (w / 4) parts.0 in

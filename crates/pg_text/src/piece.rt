@@ -9,9 +9,7 @@ ghost use Rattle.std.specs.Prelude.{◌≡◌, ◌<◌, length, slice_index, fil
 ghost use Rattle.pg_token.specs.Words.{is_pattern_byte};
 ghost use Rattle.pg_text.specs.Cutting.{IsCutDue, word_at, number_at, pattern_at, sign_at, sign_of_two, front};
 
-use crate::classes::{
-    inner_len, is_blank, len_before, sign_of_one, sign_of_two, word_len,
-};
+use crate::classes::{inner_len, is_blank, len_before, sign_of_one, sign_of_two, word_len};
 use crate::number::number_of;
 use crate::place::TextFault;
 use pg_token::{NAME_BYTES, Sign, Tok, is_letter, is_pattern_byte};

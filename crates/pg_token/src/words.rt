@@ -42,7 +42,9 @@ pub fn is_word(bytes: &[u8]) -> bool
 {
     match bytes.split_first() {
         None => false,
-        Some((first, rest)) => is_letter(*first) && are_word_bytes(rest) && bytes.len() <= NAME_BYTES,
+        Some((first, rest)) => is_letter(*first)
+            && are_word_bytes(rest)
+            && bytes.len() <= NAME_BYTES,
     }
 }
 

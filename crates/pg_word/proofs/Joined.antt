@@ -1,10 +1,10 @@
 -- Bytes of numbers: those of 64 bits as std reads and writes them.
-use Rattle.std.proofs.Common.{◌≡◌, ℕ, zero, suc, ◌+◌, ◌-◌, ◌*◌, ◌/◌, ◌%◌, ◌^◌, ◌≤◌, ◌<◌, List, [], ◌∷◌, ◌++◌, length, drop, replicate, refl, sym, ap, ◌∙◌, arith}
+use Rattle.std.proofs.Common.{◌≡◌, ℕ, zero, suc, ◌+◌, ◌-◌, ◌/◌, ◌%◌, ◌^◌, ◌≤◌, List, [], ◌∷◌, ◌++◌, length, drop, replicate, refl, sym, ap, ◌∙◌, arith}
 use Rattle.std.proofs.Math.Nat.{pow-suc, div-div-eq-div-mul, mul_comm}
 use Rattle.std.proofs.lemmas.List.{take-replicate, drop_all, length-drop, append-nil, length-append, length-replicate}
 use borrow.Rule.Slice.PartMut.{put_mid}
 use Rattle.std.specs.Int.{w64, byte_at, bytes_high_first, from_be_bytes}
-use Rattle.pg_word.specs.Bytes.{bytes_value_after, bytes_value, low_bytes}
+use Rattle.pg_word.specs.Bytes.{bytes_value, low_bytes}
 
 -- zeros in front say nothing
 zeros_first : (k : ℕ) (bytes : List ℕ) → bytes_value (replicate k 0 ++ bytes) ≡ bytes_value bytes
