@@ -1,8 +1,7 @@
-pub mod ImageLemmas
-pub mod DueLemmas
 pub mod StepLemmas
-pub mod RunLemmas
-pub mod GuestLemmas
-pub mod LeaveLemmas
+pub mod CarryLemmas
+pub mod FileLemmas
+pub mod OnlySteps
 pub mod OnlyOne
-pub mod ExactLemmas
+pub mod BareLemmas
+pub mod RunLemmas

@@ -1,5 +1,5 @@
--- What the steps of a command answer, and what they leave of the files.
-use Rattle.std.specs.Prelude.{◌≡◌, ℕ, ◌≤◌, Result, Ok, Err, Option}
+-- What the functions for the steps of a command answer, and what they leave of the files.
+use Rattle.std.specs.Prelude.{◌≡◌, ℕ, ◌≤◌, Result, Ok, Err, Option, List}
 use Rattle.pg_edge.specs.Count.{Rose}
 use Rattle.pg_edge.specs.Shelf.{Files}
 use Rattle.pg_edge.specs.declared.shelf.LoadFault.{LoadFault}
@@ -7,32 +7,56 @@ use Rattle.pg_edge.specs.declared.shelf.LoadFault.TheVariants as load
 use Rattle.pg_command.specs.declared.ask.Fault.{Fault}
 use Rattle.pg_command.specs.declared.ask.Fault.TheVariants as words
 use Rattle.pg_report.specs.declared.line.RefusalLine.{RefusalLine}
+use Rattle.pg_tool.specs.declared.refusal.Refusal.{Refusal}
 use Rattle.pg_tool.specs.declared.refusal.Refusal.TheVariants as refusal
 use Rattle.pg_tool.specs.declared.refusal.Stop.{Stop}
-use Rattle.pg_tool.specs.declared.refusal.Stop.TheVariants.{Refused, ReadFault, Memory}
-use Rattle.pg_tool.specs.Steps.{Step}
+use Rattle.pg_tool.specs.declared.refusal.Stop.TheVariants as stop
+use Rattle.pg_tool.specs.declared.status.Status.{Status}
+use Rattle.pg_tool.specs.declared.status.Status.TheVariants as status
+use Rattle.pg_tool.specs.Classes.{Class, Ended, Unwritten, Unread, Starved, class_of}
+use Rattle.pg_tool.specs.Refusals.{refusal_status, refusal_told}
+use Rattle.pg_tool.specs.Steps.{Step, Came, Refused, Misread}
+use Rattle.pg_tool.specs.World.{Output, Tells, TellsFront}
 
 -- why a command goes no further whose file was not loaded: a file that is too long is told in this line
 abbrev pub stop_as : LoadFault → RefusalLine → Stop
-stop_as load.Missing long = Refused refusal.Missing
-stop_as load.Long long = Refused (refusal.Line long)
-stop_as load.Failed long = ReadFault
-stop_as load.Memory long = Memory
+stop_as load.Missing long = stop.Refused refusal.Missing
+stop_as load.Long long = stop.Refused (refusal.Line long)
+stop_as load.Failed long = stop.ReadFault
+stop_as load.Memory long = stop.Memory
 
 -- why a command goes no further of whose words nothing was made
 abbrev pub stop_of_words : Fault → Stop
-stop_of_words words.Refused = Refused refusal.Words
-stop_of_words words.Memory = Memory
+stop_of_words words.Refused = stop.Refused refusal.Words
+stop_of_words words.Memory = stop.Memory
 
--- an answer is what the step comes to, unless a read failed or memory ran out
-abbrev pub Comes : {T X : Type 0} → (T → X) → Step X → (before after : ℕ) → Result T Stop → Type 0
-Comes view step before after (Ok x) = step (Ok (view x))
-Comes view step before after (Err (Refused why)) = step (Err why)
-Comes view step before after (Err ReadFault) = Rose before after
-Comes view step before after (Err Memory) = Unit {0}
+-- an answer is one of the outcomes of the step, or memory ran out; and a read that failed was counted
+abbrev pub Comes : {T X : Type 0} → (T → X) → Step Refusal X → (before after : ℕ) → Result T Stop → Type 0
+Comes view step before after (Ok x) = step (Came (view x))
+Comes view step before after (Err (stop.Refused why)) = step (Refused why)
+Comes view step before after (Err stop.ReadFault) = step Misread × Rose before after
+Comes view step before after (Err stop.Memory) = Unit {0}
 
 -- a shelf from which was read at most
 pub record OnlyReads (files_were files : Option Files) (saves_were saves reads_were reads : ℕ) : Type 0 where
   pub same_files : files ≡ files_were
   pub same_saves : saves ≡ saves_were
   pub later : reads_were ≤ reads
+
+-- a refusal that was told whole
+pub record ToldWhole (why : Refusal) (old new : Output) (given : Status) : Type 0 where
+  pub status : given ≡ refusal_status why
+  pub told : Tells (refusal_told why) old new
+
+-- what is put of a refusal, by the class of the status
+abbrev pub TellsRefusal : Refusal → Output → Output → Status → Class → Type 0
+TellsRefusal why old new given Ended = ToldWhole why old new given
+TellsRefusal why old new given Unwritten = TellsFront (refusal_told why) old new
+TellsRefusal why old new given Unread = ⊥
+TellsRefusal why old new given Starved = ⊥
+
+-- how a command stops before its work, by why it does
+abbrev pub Stops : Stop → Output → Output → Status → Type 0
+Stops (stop.Refused why) old new given = TellsRefusal why old new given (class_of given)
+Stops stop.ReadFault old new given = (given ≡ status.ReadFault) × (new ≡ old)
+Stops stop.Memory old new given = (given ≡ status.Memory) × (new ≡ old)

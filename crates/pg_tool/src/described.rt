@@ -5,7 +5,7 @@
 //! to keep the reader's limit, so its `Long` never comes. Want of memory is no fault of the text, and has no line.
 
 ghost use Rattle.std.specs.Prelude.{◌≡◌, ◌≤◌, length, IfOk, IfErr, IfSome, Ok, Err};
-ghost use Rattle.pg_tool.specs.Reads.{TextDue, told_of_reading, told_of_type};
+ghost use Rattle.pg_tool.specs.Descriptions.{TextDue, told_of_reading, told_of_type};
 
 use pg_read::{DescFault, read_desc};
 use pg_report::DescriptionLine;

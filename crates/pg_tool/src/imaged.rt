@@ -5,7 +5,7 @@
 
 ghost use Rattle.std.specs.Prelude.{◌≡◌, ◌≤◌, ◌<◌, ◌^◌, length, All, IfOk, IfErr, IfSome, Ok, Err};
 ghost use Rattle.pg_word.specs.Shape.{IsShape};
-ghost use Rattle.pg_tool.specs.Reads.{BytesDue, told_of_image};
+ghost use Rattle.pg_tool.specs.Images.{BytesDue, told_of_image};
 
 use pg_image::{Image, ImageFault, read_image};
 use pg_report::ImageLine;

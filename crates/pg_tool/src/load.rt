@@ -1,23 +1,24 @@
 //! Files to machines and images.
 //!
-//! `prepare` calls `load_machine` and `load_image` for the files that the words name. The whole of a file is loaded, within
-//! the limit of its kind, and `described` or `imaged` read the bytes, which are given back here: machines and images own
-//! what they hold. That a file is too long is found by the shelf, and told like a fault of its text; one that is not there,
-//! or could not be read, has a status of its own.
+//! The whole of a file is loaded, within the limit of its kind, and `described` or `imaged` read the bytes, which are given
+//! back here: machines and images own what they hold. That a file is too long is found by the shelf, and told like a fault of
+//! its text; one that is not there, or could not be read, has a status of its own.
 
 ghost use Rattle.std.specs.Prelude.{◌≡◌, ◌≤◌, ◌<◌, ◌^◌, length, All, IfOk, IsErrOf};
 ghost use Rattle.pg_word.specs.Shape.{IsShape};
 ghost use Rattle.pg_edge.specs.Shelf.{LacksFile, HoldsLonger};
 ghost use Rattle.pg_edge.specs.Count.{Rose};
 ghost use Rattle.pg_edge.specs.declared.shelf.LoadFault.TheVariants.{Missing, Long, Failed};
-ghost use Rattle.pg_tool.specs.Due.{Loaded, DescDue, ImageDue};
+ghost use Rattle.pg_tool.specs.FileSteps.{HoldsWithin};
+ghost use Rattle.pg_tool.specs.Descriptions.{DescDue};
+ghost use Rattle.pg_tool.specs.Images.{ImageDue};
 ghost use Rattle.pg_tool.specs.Loads.{Comes, OnlyReads, stop_as};
 
 use crate::described::machine_of;
 use crate::imaged::image_of;
 use crate::refusal::{Refusal, Stop};
 use pg_edge::{LoadFault, Shelf};
-use pg_image::Image;
+use pg_image::{IMAGE_BYTES, Image};
 use pg_report::{DescriptionLine, ImageLine, RefusalLine};
 use pg_valid::Machine;
 use pg_word::Shape;
@@ -25,9 +26,6 @@ use std::alloc::Global;
 
 /// The most bytes of a description.
 const MOST_DESCRIPTION: u64 = 1_048_576;
-
-/// The most bytes of an image.
-const MOST_IMAGE: u64 = 33_554_432;
 
 /// The machine that a file describes, or why there is none.
 pub(crate) fn load_machine<F: Shelf>(
@@ -55,8 +53,8 @@ pub(crate) fn load_machine<F: Shelf>(
 /// why.
 pub(crate) fn load_image<F: Shelf>(
     alloc: Global,
-    name: &str,
     number: usize,
+    name: &str,
     shape: &Shape,
     size: u32,
     shelf: &mut F,
@@ -64,12 +62,12 @@ pub(crate) fn load_image<F: Shelf>(
     requires shape { IsShape shape.now }
     requires least { 2 ≤ size }
     requires most { size ≤ shape.now.q }
-    ensures comes { Comes (λ image. image) (ImageDue (F.files shelf.old) name.now number shape.now.w size) (F.reads shelf.old) (F.reads shelf.new) result }
+    ensures comes { Comes (λ image. image) (ImageDue (F.files shelf.old) number name.now shape.now.w size) (F.reads shelf.old) (F.reads shelf.new) result }
     ensures size { IfOk result (λ image. length image ≡ size) }
     ensures words { IfOk result (λ image. All (λ word. word < 2 ^ shape.now.w) image) }
     ensures reads { OnlyReads (F.files shelf.old) (F.files shelf.new) (F.saves shelf.old) (F.saves shelf.new) (F.reads shelf.old) (F.reads shelf.new) }
 {
-    let bytes = match load_file(alloc, name, MOST_IMAGE, shelf) {
+    let bytes = match load_file(alloc, name, IMAGE_BYTES as u64, shelf) {
         Ok(bytes) => bytes,
         Err(fault) => {
             return Err(stop_of(fault, RefusalLine::Image(number, ImageLine::Long)));
@@ -89,7 +87,7 @@ fn load_file<F: Shelf>(
     limit: u64,
     shelf: &mut F,
 ) -> Result<Vec<u8>, LoadFault>
-    ensures ok { IfOk result (λ bytes. Loaded (F.files shelf.old) name.now limit bytes.items) }
+    ensures ok { IfOk result (λ bytes. HoldsWithin (F.files shelf.old) name.now limit bytes.items) }
     ensures missing { IsErrOf result Missing → LacksFile (F.files shelf.old) name.now }
     ensures long { IsErrOf result Long → HoldsLonger (F.files shelf.old) name.now limit }
     ensures failed { IsErrOf result Failed → Rose (F.reads shelf.old) (F.reads shelf.new) }

@@ -1,62 +1,43 @@
-use Rattle.std.proofs.Common.{map, Err, refl, subst}
+use Rattle.std.proofs.Common.{map, Some, Err, refl, ap, subst}
 use Rattle.std.specs.Prelude.{string_bytes}
-use Rattle.pg_tool.specs.Due.{Due}
-use Rattle.pg_tool.specs.Loads.{Comes}
-use Rattle.pg_tool.specs.Performs.{Refuses}
-use Rattle.pg_tool.specs.Plans.{work_as}
-use Rattle.pg_tool.proofs.ExactLemmas.{exactly-of}
-use Rattle.pg_tool.proofs.LeaveLemmas.{leaves-performed, leaves-refused}
+use Rattle.pg_command.specs.Asked.{asked_as}
+use Rattle.pg_tool.specs.Asking.{command_for}
+use Rattle.pg_tool.specs.Loads.{Stops}
+use Rattle.pg_tool.specs.World.{around, output}
+use Rattle.pg_tool.proofs.CarryLemmas.{carries-asked, saves-asked, carries-words, exactly-of}
+use Rattle.pg_tool.proofs.OnlyOne.{due_is_one}
 use Rattle.pg_tool.proofs.tool.Goals as goal
 
-pub returns-in-Ok-clause-leaves : goal.returns-in-Ok-clause-leaves
-returns-in-Ok-clause-leaves g c =
-    leaves-performed (map string_bytes c.args.words.now)
-    (record {
-      files = g.F.Shelf.files c.args.shelf.now;
-      reads = g.F.Shelf.reads c.args.shelf.now;
-      saves = g.F.Shelf.saves c.args.shelf.now;
-      written = g.S.Sink.written c.args.out.now;
-      faults = g.S.Sink.faults c.args.out.now;
-      hw = record { state = g.H.Hardware.state c.args.hw.now; tally = g.H.Hardware.tally c.args.hw.now; bottom = g.H.Hardware.bottom c.args.hw.now; room = g.H.Hardware.most_cells c.args.hw.now };
-    })
-    (record {
-      files = g.F.Shelf.files c.prepare.new.shelf;
-      reads = g.F.Shelf.reads c.prepare.new.shelf;
-      saves = g.F.Shelf.saves c.prepare.new.shelf;
-      written = g.S.Sink.written c.perform.new.out;
-      faults = g.S.Sink.faults c.perform.new.out;
-      hw = record { state = g.H.Hardware.state c.perform.new.hw; tally = g.H.Hardware.tally c.perform.new.hw; bottom = g.H.Hardware.bottom c.perform.new.hw; room = g.H.Hardware.most_cells c.perform.new.hw };
-    })
-    (work_as c.in-Ok.plan) c.perform.result c.in-Ok.ensures.comes c.perform.ensures.performs
+pub returns-in-Ok-clause-carries : goal.returns-in-Ok-clause-carries
+returns-in-Ok-clause-carries g c =
+    carries-asked (map string_bytes c.args.words.now) (asked_as c.in-Ok.request)
+    (around (g.F.Shelf.files c.args.shelf.now) (g.F.Shelf.reads c.args.shelf.now) (g.F.Shelf.saves c.args.shelf.now) (output (g.S.Sink.written c.args.out.now) (g.S.Sink.faults c.args.out.now)) (g.H.Hardware.machinery c.args.hw.now))
+    (around (g.F.Shelf.files c.carry.new.shelf) (g.F.Shelf.reads c.carry.new.shelf) (g.F.Shelf.saves c.carry.new.shelf) (output (g.S.Sink.written c.carry.new.out) (g.S.Sink.faults c.carry.new.out)) (g.H.Hardware.machinery c.carry.new.hw))
+    c.carry.result c.in-Ok.ensures.ok c.carry.ensures.carries
 
-pub returns-in-Err-Refused-clause-leaves : goal.returns-in-Err-Refused-clause-leaves
-returns-in-Err-Refused-clause-leaves g c =
-    leaves-refused (map string_bytes c.args.words.now)
-    (record {
-      files = g.F.Shelf.files c.args.shelf.now;
-      reads = g.F.Shelf.reads c.args.shelf.now;
-      saves = g.F.Shelf.saves c.args.shelf.now;
-      written = g.S.Sink.written c.args.out.now;
-      faults = g.S.Sink.faults c.args.out.now;
-      hw = record { state = g.H.Hardware.state c.args.hw.now; tally = g.H.Hardware.tally c.args.hw.now; bottom = g.H.Hardware.bottom c.args.hw.now; room = g.H.Hardware.most_cells c.args.hw.now };
-    })
-    (record {
-      files = g.F.Shelf.files c.prepare.new.shelf;
-      reads = g.F.Shelf.reads c.prepare.new.shelf;
-      saves = g.F.Shelf.saves c.prepare.new.shelf;
-      written = g.S.Sink.written c.refuse.new.out;
-      faults = g.S.Sink.faults c.refuse.new.out;
-      hw = record { state = g.H.Hardware.state c.args.hw.now; tally = g.H.Hardware.tally c.args.hw.now; bottom = g.H.Hardware.bottom c.args.hw.now; room = g.H.Hardware.most_cells c.args.hw.now };
-    })
-    c.in-Err-Refused.refusal c.refuse.result
-    (subst (λ s. Comes work_as (Due (g.F.Shelf.files c.args.shelf.now) (map string_bytes c.args.words.now)) (g.F.Shelf.reads c.args.shelf.now)
-    (g.F.Shelf.reads c.prepare.new.shelf) (Err s)) c.in-Err-Refused.field-0-is c.in-Err-Refused.ensures.comes)
-    (subst (λ why. Refuses why (g.S.Sink.written c.args.out.now) (g.S.Sink.written c.refuse.new.out) (g.S.Sink.faults c.args.out.now) (g.S.Sink.faults c.refuse.new.out) c.refuse.result)
-    c.in-Err-Refused.refusal-is c.refuse.ensures.told)
-    refl
+pub returns-in-Ok-clause-files : goal.returns-in-Ok-clause-files
+returns-in-Ok-clause-files g c = saves-asked (map string_bytes c.args.words.now) (asked_as c.in-Ok.request) _ _ c.in-Ok.ensures.ok c.carry.ensures.files
 
 pub returns-in-Ok-clause-exactly : goal.returns-in-Ok-clause-exactly
-returns-in-Ok-clause-exactly g c = exactly-of (map string_bytes c.args.words.now) _ _ c.perform.result (returns-in-Ok-clause-leaves g c)
+returns-in-Ok-clause-exactly g c = λ files told.
+    exactly-of (command_for (map string_bytes c.args.words.now)) (Some files)
+    (around (g.F.Shelf.files c.args.shelf.now) (g.F.Shelf.reads c.args.shelf.now) (g.F.Shelf.saves c.args.shelf.now) (output (g.S.Sink.written c.args.out.now) (g.S.Sink.faults c.args.out.now)) (g.H.Hardware.machinery c.args.hw.now))
+    (around (g.F.Shelf.files c.carry.new.shelf) (g.F.Shelf.reads c.carry.new.shelf) (g.F.Shelf.saves c.carry.new.shelf) (output (g.S.Sink.written c.carry.new.out) (g.S.Sink.faults c.carry.new.out)) (g.H.Hardware.machinery c.carry.new.hw))
+    c.carry.result told (due_is_one files (map string_bytes c.args.words.now)) (returns-in-Ok-clause-carries g c)
 
-pub returns-in-Err-Refused-clause-exactly : goal.returns-in-Err-Refused-clause-exactly
-returns-in-Err-Refused-clause-exactly g c = exactly-of (map string_bytes c.args.words.now) _ _ c.refuse.result (returns-in-Err-Refused-clause-leaves g c)
+pub returns-in-Err-clause-carries : goal.returns-in-Err-clause-carries
+returns-in-Err-clause-carries g c =
+    carries-words (map string_bytes c.args.words.now) c.in-Err.fault
+    (around (g.F.Shelf.files c.args.shelf.now) (g.F.Shelf.reads c.args.shelf.now) (g.F.Shelf.saves c.args.shelf.now) (output (g.S.Sink.written c.args.out.now) (g.S.Sink.faults c.args.out.now)) (g.H.Hardware.machinery c.args.hw.now))
+    (around (g.F.Shelf.files c.args.shelf.now) (g.F.Shelf.reads c.args.shelf.now) (g.F.Shelf.saves c.args.shelf.now) (output (g.S.Sink.written c.stopped.new.out) (g.S.Sink.faults c.stopped.new.out)) (g.H.Hardware.machinery c.args.hw.now))
+    c.stopped.result (λ e. c.in-Err.ensures.refused (ap Err e))
+    (subst (λ s. Stops s (output (g.S.Sink.written c.args.out.now) (g.S.Sink.faults c.args.out.now)) (output (g.S.Sink.written c.stopped.new.out) (g.S.Sink.faults c.stopped.new.out))
+    c.stopped.result) c.stop_of_words.ensures c.stopped.ensures.stops)
+    (record { files = refl; saves = refl; hw = refl })
+
+pub returns-in-Err-clause-exactly : goal.returns-in-Err-clause-exactly
+returns-in-Err-clause-exactly g c = λ files told.
+    exactly-of (command_for (map string_bytes c.args.words.now)) (Some files)
+    (around (g.F.Shelf.files c.args.shelf.now) (g.F.Shelf.reads c.args.shelf.now) (g.F.Shelf.saves c.args.shelf.now) (output (g.S.Sink.written c.args.out.now) (g.S.Sink.faults c.args.out.now)) (g.H.Hardware.machinery c.args.hw.now))
+    (around (g.F.Shelf.files c.args.shelf.now) (g.F.Shelf.reads c.args.shelf.now) (g.F.Shelf.saves c.args.shelf.now) (output (g.S.Sink.written c.stopped.new.out) (g.S.Sink.faults c.stopped.new.out)) (g.H.Hardware.machinery c.args.hw.now))
+    c.stopped.result told (due_is_one files (map string_bytes c.args.words.now)) (returns-in-Err-clause-carries g c)

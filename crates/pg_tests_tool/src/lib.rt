@@ -1,0 +1,19 @@
+//! Tests of the top call, on files and output in memory and the hardware in memory: whole commands, with the texts that were
+//! worked out by hand, each refusal with its line, calls of the outside that fail, and guests beside bare machines. There is
+//! no code here: a crate with tests is proved twice, and this one has nothing to prove.
+#![tactic(auto)]
+
+#[cfg(test)]
+mod bursts;
+#[cfg(test)]
+mod guests;
+#[cfg(test)]
+mod limits;
+#[cfg(test)]
+mod refusals;
+#[cfg(test)]
+mod rows;
+#[cfg(test)]
+mod setting;
+#[cfg(test)]
+mod stops;

@@ -1,0 +1,110 @@
+-- How a command is carried out, by what its parts answer.
+use Rattle.std.proofs.Common.{◌≡◌, ℕ, List, Option, Some, None, Result, Ok, Err, inl, inr, refl, sym, ap, subst}
+use Rattle.pg_edge.specs.Shelf.{Files}
+use Rattle.pg_edge.specs.Sink.{Adds}
+use Rattle.pg_edge.specs.Told.{BothTold}
+use Rattle.pg_command.specs.Asked.{Asked, request_of}
+use Rattle.pg_command.specs.declared.ask.Fault.{Fault}
+use Rattle.pg_command.specs.declared.ask.Fault.TheVariants as fault
+use Rattle.pg_tool.specs.declared.status.Status.{Status}
+use Rattle.pg_tool.specs.declared.status.Status.TheVariants as status
+use Rattle.pg_tool.specs.declared.refusal.Refusal.{Refusal}
+use Rattle.pg_tool.specs.declared.refusal.Stop.{Stop}
+use Rattle.pg_tool.specs.declared.refusal.Stop.TheVariants as stop
+use Rattle.pg_tool.specs.Classes.{Class, Ended, Unwritten, Unread, Starved, class_of}
+use Rattle.pg_tool.specs.Commands.{Command, EndsRefused, EndsDone, CarriesAs, Carries, RefusalCame, WorkCame, Exactly}
+use Rattle.pg_tool.specs.Asking.{no_command, command_of, command_or_none, command_for}
+use Rattle.pg_tool.specs.Loads.{Comes, TellsRefusal, Stops, stop_of_words}
+use Rattle.pg_tool.specs.Refusals.{refusal_status, refusal_told}
+use Rattle.pg_tool.specs.Steps.{Came, Refused, IsOne}
+use Rattle.pg_tool.specs.World.{World, IsUntouched, Tells, Breaks, SavesOnly}
+
+-- ---- before the work
+
+refused-as : (c : Command) (old new : World) (why : Refusal) (given : Status) (k : Class) → c.due old.files (Refused why) → IsUntouched old new →
+    TellsRefusal why old.out new.out given k → CarriesAs c old new given k
+refused-as c old new why given Ended due same h = inl (record { why = why; is_due = due; status = h.status; told = h.told; untouched = same })
+refused-as c old new why given Unwritten due same h = inl (record { why = why; is_due = due; front = h; untouched = same })
+refused-as c old new why given Unread due same h = absurd h
+refused-as c old new why given Starved due same h = absurd h
+
+-- a command that stops before its work
+pub carries-stopped : {T : Type 0} (c : Command) (view : T → c.Work) (old new : World) (why : Stop) (given : Status) →
+    Comes view (c.due old.files) old.reads new.reads (Err why) → Stops why old.out new.out given → IsUntouched old new → Carries c old new given
+carries-stopped c view old new (stop.Refused why) given h told same = record { by_class = refused-as c old new why given (class_of given) h same told }
+carries-stopped c view old new stop.ReadFault given h told same = record {
+  by_class = subst (λ s. CarriesAs c old new s (class_of s)) (sym told.0) (record { is_due = h.0; cause = h.1; silent = told.1; untouched = same });
+}
+carries-stopped c view old new stop.Memory given h told same = record {
+  by_class = subst (λ s. CarriesAs c old new s (class_of s)) (sym told.0) (inl (record { silent = told.1; untouched = same }));
+}
+
+-- ---- the work
+
+pub carries-done : (c : Command) (old new : World) (work : c.Work) (text : List ℕ) → c.due old.files (Came work) → c.ends work old new status.Done text →
+    BothTold old.out.written new.out.written (Adds text) → Carries c old new status.Done
+carries-done c old new work text due ends told = record { by_class = inr (record { work = work; is_due = due; text = text; ends = ends; told = told }) }
+
+pub carries-broken : (c : Command) (old new : World) (work : c.Work) (given : Status) (text : List ℕ) → c.due old.files (Came work) → c.ends work old new given text →
+    Breaks text old.out new.out → Carries c old new status.WriteFault
+carries-broken c old new work given text due ends front = record {
+  by_class = inr (inl (record { work = work; is_due = due; given = given; text = text; ends = ends; front = front }));
+}
+
+pub carries-starved : (c : Command) (old new : World) (work : c.Work) → c.due old.files (Came work) → c.starved work old new → Carries c old new status.Memory
+carries-starved c old new work due left = record { by_class = inr (record { work = work; is_due = due; left = left }) }
+
+-- ---- what the words ask for
+
+pub carries-asked : (words : List (List ℕ)) (asked : Asked) (old new : World) (given : Status) → request_of words ≡ Some asked → Carries (command_of asked) old new given →
+    Carries (command_for words) old new given
+unfolding command_for
+carries-asked words asked old new given is h = subst (λ o. Carries (command_or_none o) old new given) (sym is) h
+
+pub saves-asked : (words : List (List ℕ)) (asked : Asked) (was now : Option Files) → request_of words ≡ Some asked → SavesOnly (command_of asked).saved was now →
+    SavesOnly (command_for words).saved was now
+unfolding command_for
+saves-asked words asked was now is h = subst (λ o. SavesOnly (command_or_none o).saved was now) (sym is) h
+
+-- words of which nothing is made
+pub carries-words : (words : List (List ℕ)) (f : Fault) (old new : World) (given : Status) → (f ≡ fault.Refused → request_of words ≡ None) →
+    Stops (stop_of_words f) old.out new.out given → IsUntouched old new → Carries (command_for words) old new given
+unfolding command_for
+carries-words words fault.Refused old new given none told same =
+    subst (λ o. Carries (command_or_none o) old new given) (sym (none refl))
+    (carries-stopped no_command (λ (x : ⊥). x) old new (stop_of_words fault.Refused) given refl told same)
+carries-words words fault.Memory old new given none told same =
+    carries-stopped (command_for words) (λ (x : (command_for words).Work). x) old new (stop_of_words fault.Memory) given tt told same
+
+-- ---- what is due comes
+
+abbrev refusal_or : {X : Type 0} → Refusal → Result X Refusal → Refusal
+refusal_or why (Ok x) = why
+refusal_or why (Err other) = other
+
+abbrev work_or : {X : Type 0} → X → Result X Refusal → X
+work_or x (Ok y) = y
+work_or x (Err why) = x
+
+ended-refused : (c : Command) (told : Option Files) (old new : World) (given : Status) (why : Refusal) → old.files ≡ told → IsOne (c.due told) → c.due told (Refused why) →
+    CarriesAs c old new given Ended → RefusalCame why old new given
+ended-refused c told old new given why is one due (inl h) =
+    let same : h.why ≡ why = ap (refusal_or h.why) (one (Err h.why) (Err why) (subst (λ f. c.due f (Refused h.why)) is h.is_due) due) in
+    subst (λ w. RefusalCame w old new given) same (record { status = h.status; told = h.told; untouched = h.untouched })
+ended-refused c told old new given why is one due (inr h) =
+    absurd (let no : Ok h.work ≡ Err why = one (Ok h.work) (Err why) (subst (λ f. c.due f (Came h.work)) is h.is_due) due in cc)
+
+ended-done : (c : Command) (told : Option Files) (old new : World) (given : Status) (work : c.Work) → old.files ≡ told → IsOne (c.due told) → c.due told (Came work) →
+    CarriesAs c old new given Ended → WorkCame c work old new given
+ended-done c told old new given work is one due (inl h) =
+    absurd (let no : Err h.why ≡ Ok work = one (Err h.why) (Ok work) (subst (λ f. c.due f (Refused h.why)) is h.is_due) due in cc)
+ended-done c told old new given work is one due (inr h) =
+    let same : h.work ≡ work = ap (work_or h.work) (one (Ok h.work) (Ok work) (subst (λ f. c.due f (Came h.work)) is h.is_due) due) in
+    subst (λ w. WorkCame c w old new given) same (record { text = h.text; ends = h.ends; told = h.told })
+
+pub exactly-of : (c : Command) (told : Option Files) (old new : World) (given : Status) → old.files ≡ told → IsOne (c.due told) → Carries c old new given →
+    Exactly c told old new given
+exactly-of c told old new given is one h = record {
+  refusal = λ why due ended. ended-refused c told old new given why is one due (subst (λ k. CarriesAs c old new given k) ended h.by_class);
+  work = λ work due ended. ended-done c told old new given work is one due (subst (λ k. CarriesAs c old new given k) ended h.by_class);
+}

@@ -1,0 +1,40 @@
+-- The command that words ask for.
+use Rattle.std.specs.Prelude.{◌≡◌, ℕ, List, Option, None, Some}
+use Rattle.pg_command.specs.Asked.{Asked, AsksBare, AsksRun, AsksPrint, request_of}
+use Rattle.pg_tool.specs.declared.refusal.Refusal.{Refusal}
+use Rattle.pg_tool.specs.declared.refusal.Refusal.TheVariants.{Words}
+use Rattle.pg_tool.specs.Commands.{Command}
+use Rattle.pg_tool.specs.Steps.{Step, Came, Refused, Misread}
+use Rattle.pg_tool.specs.Bare.{bare_command}
+use Rattle.pg_tool.specs.Run.{run_command}
+use Rattle.pg_tool.specs.Print.{print_command}
+
+-- words that are refused come to that and nothing else
+abbrev pub WordsRefused : Step Refusal ⊥
+WordsRefused (Came x) = ⊥
+WordsRefused (Refused why) = why ≡ Words
+WordsRefused Misread = ⊥
+
+abbrev pub no_command : Command
+no_command = record {
+  Work = ⊥;
+  due = λ told. WordsRefused;
+  saved = None;
+  ends = λ w old new given text. ⊥;
+  unsaved = λ w old new. ⊥;
+  starved = λ w old new. ⊥;
+}
+
+-- a line for each command
+abbrev pub command_of : Asked → Command
+command_of (AsksBare b) = bare_command b
+command_of (AsksRun r) = run_command r
+command_of (AsksPrint p) = print_command p
+
+abbrev pub command_or_none : Option Asked → Command
+command_or_none None = no_command
+command_or_none (Some asked) = command_of asked
+
+-- the words are read first: what they ask for is carried out, or they are refused
+unfoldable pub command_for : List (List ℕ) → Command
+command_for words = command_or_none (request_of words)

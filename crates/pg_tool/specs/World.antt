@@ -1,0 +1,59 @@
+-- What surrounds a command, and what is left of it as it was.
+use Rattle.std.specs.Prelude.{◌≡◌, ℕ, ◌<◌, ◌≤◌, ◌^◌, List, Option, None, Some}
+use Rattle.pg_edge.specs.Count.{Rose}
+use Rattle.pg_edge.specs.Shelf.{Files, SameBut}
+use Rattle.pg_edge.specs.Sink.{Adds, AddsFront}
+use Rattle.pg_edge.specs.Told.{BothTold}
+use Rattle.pg_hw.specs.declared.counts.Counts.{Counts}
+use Rattle.pg_hw.specs.Machinery.{Machinery}
+
+-- a sink: its bytes, where it tells them, and its count of faults
+pub record Output : Type 0 where
+  pub written : Option (List ℕ)
+  pub faults : ℕ
+
+abbrev pub output : Option (List ℕ) → ℕ → Output
+output written faults = record { written = written; faults = faults }
+
+-- the files, where they are told, the counts of failed reads and saves, the sink, and the hardware
+pub record World : Type 0 where
+  pub files : Option Files
+  pub reads : ℕ
+  pub saves : ℕ
+  pub out : Output
+  pub hw : Machinery
+
+abbrev pub around : Option Files → ℕ → ℕ → Output → Machinery → World
+around files reads saves out hw = record { files = files; reads = reads; saves = saves; out = out; hw = hw }
+
+-- no file was saved, and the hardware is as it was
+pub record IsUntouched (old new : World) : Type 0 where
+  pub files : new.files ≡ old.files
+  pub saves : new.saves ≡ old.saves
+  pub hw : new.hw ≡ old.hw
+
+-- what is told was put whole: a text, or nothing at all
+abbrev pub Tells : Option (List ℕ) → Output → Output → Type 0
+Tells None old new = new ≡ old
+Tells (Some text) old new = BothTold old.written new.written (Adds text)
+
+-- a put failed in what is told: a front of it is there
+pub record Breaks (text : List ℕ) (old new : Output) : Type 0 where
+  pub cause : Rose old.faults new.faults
+  pub front : BothTold old.written new.written (AddsFront text)
+
+abbrev pub TellsFront : Option (List ℕ) → Output → Output → Type 0
+TellsFront None old new = ⊥
+TellsFront (Some text) old new = Breaks text old new
+
+-- each file is as it was, but the one of the name under which is saved, if there is one
+abbrev pub SavesOnly : Option (List ℕ) → Option Files → Option Files → Type 0
+SavesOnly None was now = now ≡ was
+SavesOnly (Some name) was now = BothTold was now (SameBut name)
+
+-- counts that have room for the steps and pokes of any command
+pub record CanCount (c : Counts) : Type 0 where
+  pub steps : c.steps < 2 ^ 62
+  pub untrapped : c.untrapped < 2 ^ 62
+  pub pokes : c.pokes < 2 ^ 62
+  pub loads : c.loads < 2 ^ 62
