@@ -4,8 +4,6 @@
 #![tactic(auto)]
 
 #[cfg(test)]
-mod bursts;
-#[cfg(test)]
 mod guests;
 #[cfg(test)]
 mod limits;

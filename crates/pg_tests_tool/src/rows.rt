@@ -168,3 +168,21 @@ instr h \"0000............\" {
     );
     Ok(())
 }
+
+#[test]
+fn a_burst_ends_with_the_step_that_traps(rt: HostRuntime) -> Result<(), Fail> {
+    // The third step fetches a word of zeros, which no pattern matches.
+    let image = "2: 04000408\n7: 01000707\n11: 00000005\n";
+    let ran = bare(rt.alloc(), M0, image, "16", "3")?;
+    assert_eq!(rt;
+        ran.text.as_str(),
+        "size 16
+psw s 0 0 0
+0: 00040408 00000000 04000408 00000000 0000000a 00000000 00000000 01000707
+8: 00000000 00000000 00000000 00000005 00000000 00000000 00000000 00000000
+"
+    );
+    let counts = ran.hw.counts();
+    assert_eq!(rt; (counts.steps, counts.untrapped), (3, 0));
+    Ok(())
+}
