@@ -4,9 +4,10 @@
 //! runs, the routines that emulate a guest, the monitor and the texts of states are written for any `Hardware`, and
 //! know no more of it than these clauses.
 //!
-//! Each call says of the whole machinery what becomes of it, so that a fact on a part of it lasts over all calls that do not
-//! name that part. A count rises at the calls whose documentation says so, and at no other: what was done to a hardware can be read
-//! off it afterwards. A count stands still at `2^64 - 1`. Only `install` takes memory, so no other call can be refused.
+//! Each call says of the whole machinery what becomes of it, so that a fact on a part of it lasts over all calls that do
+//! not name that part. A count rises at the calls whose documentation says so, and at no other: what was done to a hardware
+//! can be read off it afterwards. A count stands still at `2^64 - 1`. Only `install` takes memory, so no other call can be
+//! refused.
 
 use super::counts::Counts;
 use pg_valid::Machine;
