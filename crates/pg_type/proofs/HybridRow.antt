@@ -1,4 +1,4 @@
--- The machine of rtu alone: what rtu does at every state, and what follows for both monitors.
+-- M1, the machine of rtu alone: what rtu does at every state, and what follows for both monitors.
 use Rattle.std.proofs.Common.{◌≡◌, ◌≢◌, ◌⊎◌, ℕ, ◌/◌, ◌%◌, ◌^◌, List, [], ◌∷◌, slice_get, refl, sym, ◌∙◌, ap, inl, inr}
 use Rattle.std.proofs.lemmas.List.Elements.{All-head, All-from_recursion}
 use Rattle.pg_word.specs.declared.psw.Psw.{Psw}
@@ -10,7 +10,7 @@ use Rattle.pg_meaning.specs.States.{State, window}
 use Rattle.pg_type.specs.Kinds.{fetched_word, course_at, observed, observation, ChangesControl}
 use Rattle.pg_type.specs.Accepting.{IsPrivileged, IsInnocuous, IsUserInnocuous}
 use Rattle.pg_type.specs.Examples.{alone, rtu}
-use Rattle.pg_type.specs.WorkedKinds.{RtuServesHybridAlone}
+use Rattle.pg_type.specs.WorkedKinds.{M1ServesHybridAlone}
 use Rattle.pg_meaning.proofs.ValueEquations.{value_rules}
 use Rattle.pg_meaning.proofs.DeedEquations.{deed_rules}
 use Rattle.pg_type.proofs.KindRows.{rtu_shows_control, rtu_breaks_privilege}
@@ -56,8 +56,8 @@ neither : IsPrivileged (alone rtu) rtu ⊎ IsInnocuous (alone rtu) rtu → ⊥
 neither (inl p) = (privileged-exactly (alone rtu) rtu).0 p _ _ rtu_breaks_privilege
 neither (inr n) = n.control (_, _, rtu_shows_control)
 
-pub rtu_serves_hybrid_alone : RtuServesHybridAlone
-rtu_serves_hybrid_alone = (
+pub m1_serves_hybrid_alone : M1ServesHybridAlone
+m1_serves_hybrid_alone = (
   All-from_recursion (λ i. IsPrivileged (alone rtu) i ⊎ IsUserInnocuous (alone rtu) i) (rtu ∷ []) (inr rtu_user_innocuous, tt),
   λ h. neither (All-head (λ i. IsPrivileged (alone rtu) i ⊎ IsInnocuous (alone rtu) i) rtu [] h),
 )

@@ -208,6 +208,10 @@ m0_causes = record m0 { causes = true }
 abbrev pub alone : Instr → Desc
 alone i = machine (i ∷ [])
 
+-- M1: rtu alone, which is sensitive, and not privileged
+abbrev pub m1 : Desc
+m1 = alone rtu
+
 -- a state, by its cells and its PSW
 abbrev pub state : List ℕ → Modes → ℕ → ℕ → ℕ → State
 state cells mode p l b = record { cells = cells; psw = record { mode = mode; p = p; l = l; b = b } }

@@ -5,7 +5,7 @@ use Rattle.pg_word.specs.declared.psw.Mode.TheVariants.{S, U}
 use Rattle.pg_type.specs.declared.kind.Kind.TheVariants.{Privileged, Control, ModeDep, Location, Bound, UControl, ULocation, UBound}
 use Rattle.pg_type.specs.Kinds.{Shows}
 use Rattle.pg_type.specs.Accepting.{IsAccepted, IsHybridAccepted}
-use Rattle.pg_type.specs.Examples.{alone, state, rtu, lr, svc, store_mode, store_rel, store_bound, supervisor_load, user_jump, open_lr}
+use Rattle.pg_type.specs.Examples.{alone, m1, state, rtu, lr, svc, store_mode, store_rel, store_bound, supervisor_load, user_jump, open_lr}
 
 abbrev pub RtuShowsControl : Type 0
 RtuShowsControl = Shows (alone rtu) rtu Control (state (0 ∷ 0 ∷ 0x05000000 ∷ 0 ∷ []) S 2 0 4) (state (0 ∷ 0 ∷ 0x05000000 ∷ 0 ∷ []) S 2 0 4)
@@ -86,6 +86,6 @@ LrDoneInSupervisorModeDoesNot = ¬ Shows (alone lr) lr ModeDep (state (0 ∷ 0 �
 abbrev pub SvcBreaksPrivilege : Type 0
 SvcBreaksPrivilege = Shows (alone svc) svc Privileged (state (0 ∷ 0 ∷ 0x03000000 ∷ 0 ∷ []) S 2 0 4) (state (0 ∷ 0 ∷ 0x03000000 ∷ 0 ∷ []) U 2 0 4)
 
--- the machine of rtu alone serves a hybrid monitor, and not the other
-abbrev pub RtuServesHybridAlone : Type 0
-RtuServesHybridAlone = IsHybridAccepted (alone rtu) × (¬ IsAccepted (alone rtu))
+-- M1 serves a hybrid monitor, and not the other: in user mode rtu does what any jump does
+abbrev pub M1ServesHybridAlone : Type 0
+M1ServesHybridAlone = IsHybridAccepted m1 × (¬ IsAccepted m1)

@@ -5,7 +5,7 @@
 //! and the proof computes them. None of the functions does anything when it runs.
 
 ghost use Rattle.pg_type.specs.WorkedRuns.{NoPattern, NoWindow, PastStorage, LastUsable, FirstPastBound, FirstPastSize, RunsPastWindow, DoublesInALoop, WindowOfOneCell, NoPatternCause, MemoryTrapCause, TrapCause, TrapsForEver, WidensAndShifts};
-ghost use Rattle.pg_type.specs.WorkedKinds.{RtuShowsControl, RtuInUserModeDoesNot, RtuBreaksPrivilege, LrBreaksNoPrivilege, StoreModeShowsMode, StoreModeOutsideDoesNot, SupervisorLoadShowsMode, UserJumpShowsMode, UserJumpBreaksPrivilege, StoreRelShowsLocation, StoreRelUserShowsLocation, StoreRelOutsideDoesNot, StoreBoundShowsBound, StoreBoundUserShowsBound, StoreBoundOutsideDoesNot, OpenLrShowsControl, OpenLrOfTheSameDoesNot, StoreRelIsNoUserPair, StoreBoundIsNoUserPair, StoreBoundOfTwoSizesShowsBound, StoreRelOfTwoSizesDoesNot, StoreRelOfTwoBoundsDoesNot, LrDoneInSupervisorModeDoesNot, SvcBreaksPrivilege, RtuServesHybridAlone};
+ghost use Rattle.pg_type.specs.WorkedKinds.{RtuShowsControl, RtuInUserModeDoesNot, RtuBreaksPrivilege, LrBreaksNoPrivilege, StoreModeShowsMode, StoreModeOutsideDoesNot, SupervisorLoadShowsMode, UserJumpShowsMode, UserJumpBreaksPrivilege, StoreRelShowsLocation, StoreRelUserShowsLocation, StoreRelOutsideDoesNot, StoreBoundShowsBound, StoreBoundUserShowsBound, StoreBoundOutsideDoesNot, OpenLrShowsControl, OpenLrOfTheSameDoesNot, StoreRelIsNoUserPair, StoreBoundIsNoUserPair, StoreBoundOfTwoSizesShowsBound, StoreRelOfTwoSizesDoesNot, StoreRelOfTwoBoundsDoesNot, LrDoneInSupervisorModeDoesNot, SvcBreaksPrivilege, M1ServesHybridAlone};
 
 /// Runs of bare machines, each with the state that it ends in.
 pub fn worked_runs()
@@ -53,8 +53,8 @@ pub fn worked_kinds()
     ensures svc_breaks_privilege { SvcBreaksPrivilege }
 {}
 
-/// A machine that a hybrid monitor may run and the other may not: its one instruction enters user mode, and in user mode
-/// does what any jump does.
+/// M1, a machine that a hybrid monitor may run and the other may not: its one instruction enters user mode, and in user
+/// mode does what any jump does.
 pub fn hybrid_alone()
-    ensures { RtuServesHybridAlone }
+    ensures { M1ServesHybridAlone }
 {}
