@@ -13,7 +13,7 @@ use Rattle.pg_monitor.specs.Guests.{kept_cells}
 use Rattle.pg_command.specs.Asked.{Asked, AsksBare, AsksRun, AsksPrint, AskedRun, AskedPrint, request_of}
 use Rattle.pg_read.specs.declared.fault.DescFault.{DescFault}
 use Rattle.pg_read.specs.declared.fault.DescFault.TheVariants as read_fault
-use Rattle.pg_read.specs.Answer.{IsAnswer}
+use Rattle.pg_read.specs.Answer.{most_desc_bytes, IsAnswer}
 use Rattle.pg_read.proofs.OneAnswer.{answer_due, answer_is_due}
 use Rattle.pg_image.specs.declared.fault.ImageFault.{ImageFault}
 use Rattle.pg_image.specs.Images.{most_image_bytes, image_due}
@@ -27,7 +27,7 @@ use Rattle.pg_tool.specs.declared.refusal.Refusal.TheVariants.{Words, Line}
 use Rattle.pg_tool.specs.Steps.{Settles, Gives, IsOne}
 use Rattle.pg_tool.specs.FileSteps.{FromFile}
 use Rattle.pg_tool.specs.Refusals.{of_file}
-use Rattle.pg_tool.specs.Descriptions.{most_description, ReadsAs, IsInvalid, TextDue, told_of_reading, told_of_type, DescDue}
+use Rattle.pg_tool.specs.Descriptions.{ReadsAs, IsInvalid, TextDue, told_of_reading, told_of_type, DescDue}
 use Rattle.pg_tool.specs.Images.{told_of_image, BytesDue, ImageDue}
 use Rattle.pg_tool.specs.Rooms.{TooMany, RoomFor, of_room, RoomDue}
 use Rattle.pg_tool.specs.Verdicts.{KeepsRule, of_breach, RuleDue}
@@ -60,16 +60,16 @@ abbrev read_answer : Result Desc DescFault → Result Desc DescriptionLine
 read_answer (Ok d) = check_answer d (fault_of d)
 read_answer (Err fault) = fault_answer (told_of_reading fault)
 
-text-reads : (text : List ℕ) (d : Desc) → length text ≤ 1048576 → ReadsAs text d → answer_due text ≡ Ok d
+text-reads : (text : List ℕ) (d : Desc) → length text ≤ most_desc_bytes → ReadsAs text d → answer_due text ≡ Ok d
 text-reads text d within h = sym (answer_is_due text (Ok d) (λ e. cc) (within, h.tokens))
 
 text-fault : (text : List ℕ) (fault : DescFault) → fault ≢ read_fault.Memory → IsAnswer text (Err fault) → answer_due text ≡ Err fault
 text-fault text fault known h = sym (answer_is_due text (Err fault) (λ e. known (ap (fault_in fault) e)) h)
 
-text-invalid : (text : List ℕ) (line : DescriptionLine) → length text ≤ 1048576 → IsInvalid text line → read_answer (answer_due text) ≡ Err line
+text-invalid : (text : List ℕ) (line : DescriptionLine) → length text ≤ most_desc_bytes → IsInvalid text line → read_answer (answer_due text) ≡ Err line
 text-invalid text line within h = ap read_answer (text-reads text h.desc within h.reads) ∙ ap (check_answer h.desc) h.first ∙ ap fault_answer h.told
 
-text-only : (text : List ℕ) → length text ≤ 1048576 → (due : Result Desc DescriptionLine) → TextDue text due → read_answer (answer_due text) ≡ due
+text-only : (text : List ℕ) → length text ≤ most_desc_bytes → (due : Result Desc DescriptionLine) → TextDue text due → read_answer (answer_due text) ≡ due
 text-only text within (Ok d) h = ap read_answer (text-reads text d within h.0) ∙ ap (check_answer d) (no_fault d h.1)
 text-only text within (Err told_line.Long) h = absurd h
 text-only text within (Err (told_line.Token place)) h = ap read_answer (text-fault text (read_fault.Token place) (λ e. cc) (within, h))
@@ -84,14 +84,14 @@ text-only text within (Err (told_line.Name instr name)) h = text-invalid text (t
 text-only text within (Err (told_line.Width instr place)) h = text-invalid text (told_line.Width instr place) within h
 
 abbrev desc_answer : Files → List ℕ → Result Desc Refusal
-desc_answer files name = lifted (of_file Description) (file_answer most_description told_line.Long (λ text. read_answer (answer_due text)) (files name))
+desc_answer files name = lifted (of_file Description) (file_answer most_desc_bytes told_line.Long (λ text. read_answer (answer_due text)) (files name))
 
 only-desc : (files : Files) (name : List ℕ) → Only (DescDue (Some files) name) (desc_answer files name)
 unfolding DescDue
 only-desc files name =
-    only-as (of_file Description) (FromFile (Some files) name most_description told_line.Long TextDue)
-    (file_answer most_description told_line.Long (λ text. read_answer (answer_due text)) (files name))
-    (only-file files name most_description told_line.Long TextDue (λ text. read_answer (answer_due text)) text-only)
+    only-as (of_file Description) (FromFile (Some files) name most_desc_bytes told_line.Long TextDue)
+    (file_answer most_desc_bytes told_line.Long (λ text. read_answer (answer_due text)) (files name))
+    (only-file files name most_desc_bytes told_line.Long TextDue (λ text. read_answer (answer_due text)) text-only)
 
 -- ---- the room
 
@@ -118,7 +118,7 @@ abbrev bytes_answer : Result (List ℕ) ImageFault → Result (List ℕ) ImageLi
 bytes_answer (Ok cells) = Ok cells
 bytes_answer (Err fault) = line_answer (told_of_image fault)
 
-bytes-only : (w size : ℕ) (text : List ℕ) → length text ≤ 33554432 → (due : Result (List ℕ) ImageLine) → BytesDue w size text due → bytes_answer (image_due w size text) ≡ due
+bytes-only : (w size : ℕ) (text : List ℕ) → length text ≤ most_image_bytes → (due : Result (List ℕ) ImageLine) → BytesDue w size text due → bytes_answer (image_due w size text) ≡ due
 bytes-only w size text within (Ok cells) h = ap bytes_answer h
 bytes-only w size text within (Err line) h = ap bytes_answer h.first ∙ ap line_answer h.told
 

@@ -9,7 +9,7 @@ use Rattle.pg_valid.specs.declared.fault.TypeFault.TheVariants as type_fault
 use Rattle.pg_valid.specs.Valid.{IsValid, fault_of}
 use Rattle.pg_read.specs.declared.fault.DescFault.{DescFault}
 use Rattle.pg_read.specs.declared.fault.DescFault.TheVariants as read_fault
-use Rattle.pg_read.specs.Answer.{IsFaultAt, IsGrammarAt, IsTooDeepAt}
+use Rattle.pg_read.specs.Answer.{most_desc_bytes, IsFaultAt, IsGrammarAt, IsTooDeepAt}
 use Rattle.pg_report.specs.declared.line.RefusalLine.TheVariants.{Description}
 use Rattle.pg_report.specs.declared.line.DescriptionLine.{DescriptionLine}
 use Rattle.pg_report.specs.declared.line.DescriptionLine.TheVariants as told_line
@@ -17,10 +17,6 @@ use Rattle.pg_tool.specs.declared.refusal.Refusal.{Refusal}
 use Rattle.pg_tool.specs.Steps.{Step, As}
 use Rattle.pg_tool.specs.FileSteps.{FromFile}
 use Rattle.pg_tool.specs.Refusals.{of_file}
-
--- the most bytes of a description
-abbrev pub most_description : ℕ
-most_description = 1048576
 
 -- bytes read as a description: their tokens are its tokens
 pub record ReadsAs (text : List ℕ) (d : Desc) : Type 0 where
@@ -64,4 +60,4 @@ TextDue text (Err line) = IsInvalid text line
 
 -- the description is loaded, and then read
 unfoldable pub DescDue : Option Files → List ℕ → Step Refusal Desc
-DescDue told name = As (of_file Description) (FromFile told name most_description told_line.Long TextDue)
+DescDue told name = As (of_file Description) (FromFile told name most_desc_bytes told_line.Long TextDue)

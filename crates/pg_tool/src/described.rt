@@ -5,6 +5,7 @@
 //! to keep the reader's limit, so its `Long` never comes. Want of memory is no fault of the text, and has no line.
 
 ghost use Rattle.std.specs.Prelude.{◌≡◌, ◌≤◌, length, IfOk, IfErr, IfSome, Ok, Err};
+ghost use Rattle.pg_read.specs.Answer.{most_desc_bytes};
 ghost use Rattle.pg_tool.specs.Descriptions.{TextDue, told_of_reading, told_of_type};
 
 use pg_read::{DescFault, read_desc};
@@ -14,7 +15,7 @@ use std::alloc::Global;
 
 /// The machine that the bytes describe, or why they describe none; `None` where memory was refused.
 pub(crate) fn machine_of(alloc: Global, bytes: &[u8]) -> Result<Machine, Option<DescriptionLine>>
-    requires { length bytes.now ≤ 1048576 }
+    requires { length bytes.now ≤ most_desc_bytes }
     ensures ok { IfOk result (λ m. TextDue bytes.now (Ok m.desc)) }
     ensures refused { IfErr result (λ told. IfSome told (λ line. TextDue bytes.now (Err line))) }
 {

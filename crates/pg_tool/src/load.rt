@@ -19,13 +19,11 @@ use crate::imaged::image_of;
 use crate::refusal::{Refusal, Stop};
 use pg_edge::{LoadFault, Shelf};
 use pg_image::{IMAGE_BYTES, Image};
+use pg_read::DESC_BYTES;
 use pg_report::{DescriptionLine, ImageLine, RefusalLine};
 use pg_valid::Machine;
 use pg_word::Shape;
 use std::alloc::Global;
-
-/// The most bytes of a description.
-const MOST_DESCRIPTION: u64 = 1_048_576;
 
 /// The machine that a file describes, or why there is none.
 pub(crate) fn load_machine<F: Shelf>(
@@ -36,7 +34,7 @@ pub(crate) fn load_machine<F: Shelf>(
     ensures comes { Comes (λ m. m.desc) (DescDue (F.files shelf.old) name.now) (F.reads shelf.old) (F.reads shelf.new) result }
     ensures reads { OnlyReads (F.files shelf.old) (F.files shelf.new) (F.saves shelf.old) (F.saves shelf.new) (F.reads shelf.old) (F.reads shelf.new) }
 {
-    let bytes = match load_file(alloc, name, MOST_DESCRIPTION, shelf) {
+    let bytes = match load_file(alloc, name, DESC_BYTES as u64, shelf) {
         Ok(bytes) => bytes,
         Err(fault) => {
             return Err(stop_of(fault, RefusalLine::Description(DescriptionLine::Long)));
