@@ -1,5 +1,5 @@
 -- Runs of a bare machine: how many cells they leave, what they count, and the text of the state that they reach.
-use Rattle.std.proofs.Common.{◌≡◌, ℕ, zero, suc, ◌-◌, ◌<◌, ◌≤◌, ◌^◌, Bool, true, false, List, length, take, drop, replicate, All, Option, Result, Ok, Err, inl, inr, refl, sym, ◌∙◌, ap, subst, arith}
+use Rattle.std.proofs.Common.{◌≡◌, ℕ, zero, suc, ◌-◌, ◌<◌, ◌≤◌, ◌^◌, Bool, true, false, List, length, take, drop, replicate, All, Option, Result, Err, inl, inr, refl, sym, ◌∙◌, ap, subst, arith}
 use Rattle.std.proofs.lemmas.List.{length-append, length-replicate, take_all}
 use Rattle.std.proofs.lemmas.List.Elements.{All-take, All-drop}
 use Rattle.pg_word.specs.declared.psw.Psw.{Psw}
@@ -24,7 +24,7 @@ use Rattle.pg_tool.specs.Bare.{BareRun, BareDue, reached, RanBare}
 use Rattle.pg_tool.specs.CanRuns.{CanRun}
 use Rattle.pg_tool.specs.Descriptions.{DescDue}
 use Rattle.pg_tool.specs.Images.{ImageDue}
-use Rattle.pg_tool.specs.Loads.{Comes}
+use Rattle.pg_tool.specs.Answering.{Comes}
 use Rattle.pg_tool.specs.Rooms.{of_room, RoomDue}
 use Rattle.pg_tool.specs.Steps.{Step, Came, Refused, Then, Gives}
 use Rattle.pg_tool.proofs.StepLemmas.{comes-stopped, comes-behind, room-came, room-refused}

@@ -11,26 +11,25 @@ use Rattle.pg_tool.specs.declared.status.Status.TheVariants as status
 use Rattle.pg_tool.specs.declared.refusal.Refusal.{Refusal}
 use Rattle.pg_tool.specs.declared.refusal.Stop.{Stop}
 use Rattle.pg_tool.specs.declared.refusal.Stop.TheVariants as stop
-use Rattle.pg_tool.specs.Classes.{Class, Ended, Unwritten, Unread, Starved, class_of}
-use Rattle.pg_tool.specs.Commands.{Command, EndsRefused, EndsDone, CarriesAs, Carries, RefusalCame, WorkCame, Exactly}
+use Rattle.pg_tool.specs.Classes.{Class, Ended, Unwritten, Unread, OutOfMemory, class_of}
+use Rattle.pg_tool.specs.Commands.{Command, CarriesAs, Carries, RefusalCame, WorkCame, Exactly}
 use Rattle.pg_tool.specs.Asking.{no_command, command_of, command_or_none, command_for}
-use Rattle.pg_tool.specs.Loads.{Comes, TellsRefusal, Stops, stop_of_words}
-use Rattle.pg_tool.specs.Refusals.{refusal_status, refusal_told}
+use Rattle.pg_tool.specs.Answering.{Comes, SaysRefusal, Stops, stop_of_words}
 use Rattle.pg_tool.specs.Steps.{Came, Refused, IsOne}
-use Rattle.pg_tool.specs.World.{World, IsUntouched, Tells, Breaks, SavesOnly}
+use Rattle.pg_tool.specs.World.{World, IsUntouched, Breaks, SavesOnly}
 
 -- ---- before the work
 
 refused-as : (c : Command) (old new : World) (why : Refusal) (given : Status) (k : Class) → c.due old.files (Refused why) → IsUntouched old new →
-    TellsRefusal why old.out new.out given k → CarriesAs c old new given k
-refused-as c old new why given Ended due same h = inl (record { why = why; is_due = due; status = h.status; told = h.told; untouched = same })
+    SaysRefusal why old.out new.out given k → CarriesAs c old new given k
+refused-as c old new why given Ended due same h = inl (record { why = why; is_due = due; came = record { status = h.status; said = h.said; untouched = same } })
 refused-as c old new why given Unwritten due same h = inl (record { why = why; is_due = due; front = h; untouched = same })
 refused-as c old new why given Unread due same h = absurd h
-refused-as c old new why given Starved due same h = absurd h
+refused-as c old new why given OutOfMemory due same h = absurd h
 
 -- a command that stops before its work
 pub carries-stopped : {T : Type 0} (c : Command) (view : T → c.Work) (old new : World) (why : Stop) (given : Status) →
-    Comes view (c.due old.files) old.reads new.reads (Err why) → Stops why old.out new.out given → IsUntouched old new → Carries c old new given
+    Comes view (c.due old.files) old.read_faults new.read_faults (Err why) → Stops why old.out new.out given → IsUntouched old new → Carries c old new given
 carries-stopped c view old new (stop.Refused why) given h told same = record { by_class = refused-as c old new why given (class_of given) h same told }
 carries-stopped c view old new stop.ReadFault given h told same = record {
   by_class = subst (λ s. CarriesAs c old new s (class_of s)) (sym told.0) (record { is_due = h.0; cause = h.1; silent = told.1; untouched = same });
@@ -43,7 +42,7 @@ carries-stopped c view old new stop.Memory given h told same = record {
 
 pub carries-done : (c : Command) (old new : World) (work : c.Work) (text : List ℕ) → c.due old.files (Came work) → c.ends work old new status.Done text →
     BothTold old.out.written new.out.written (Adds text) → Carries c old new status.Done
-carries-done c old new work text due ends told = record { by_class = inr (record { work = work; is_due = due; text = text; ends = ends; told = told }) }
+carries-done c old new work text due ends told = record { by_class = inr (record { work = work; is_due = due; came = record { text = text; ends = ends; written = told } }) }
 
 pub carries-broken : (c : Command) (old new : World) (work : c.Work) (given : Status) (text : List ℕ) → c.due old.files (Came work) → c.ends work old new given text →
     Breaks text old.out new.out → Carries c old new status.WriteFault
@@ -86,25 +85,23 @@ abbrev work_or : {X : Type 0} → X → Result X Refusal → X
 work_or x (Ok y) = y
 work_or x (Err why) = x
 
-ended-refused : (c : Command) (told : Option Files) (old new : World) (given : Status) (why : Refusal) → old.files ≡ told → IsOne (c.due told) → c.due told (Refused why) →
+ended-refused : (c : Command) (old new : World) (given : Status) (why : Refusal) → IsOne (c.due old.files) → c.due old.files (Refused why) →
     CarriesAs c old new given Ended → RefusalCame why old new given
-ended-refused c told old new given why is one due (inl h) =
-    let same : h.why ≡ why = ap (refusal_or h.why) (one (Err h.why) (Err why) (subst (λ f. c.due f (Refused h.why)) is h.is_due) due) in
-    subst (λ w. RefusalCame w old new given) same (record { status = h.status; told = h.told; untouched = h.untouched })
-ended-refused c told old new given why is one due (inr h) =
-    absurd (let no : Ok h.work ≡ Err why = one (Ok h.work) (Err why) (subst (λ f. c.due f (Came h.work)) is h.is_due) due in cc)
+ended-refused c old new given why one due (inl h) =
+    subst (λ w. RefusalCame w old new given) (ap (refusal_or h.why) (one (Err h.why) (Err why) h.is_due due)) h.came
+ended-refused c old new given why one due (inr h) = absurd (let no : Ok h.work ≡ Err why = one (Ok h.work) (Err why) h.is_due due in cc)
 
-ended-done : (c : Command) (told : Option Files) (old new : World) (given : Status) (work : c.Work) → old.files ≡ told → IsOne (c.due told) → c.due told (Came work) →
+ended-done : (c : Command) (old new : World) (given : Status) (work : c.Work) → IsOne (c.due old.files) → c.due old.files (Came work) →
     CarriesAs c old new given Ended → WorkCame c work old new given
-ended-done c told old new given work is one due (inl h) =
-    absurd (let no : Err h.why ≡ Ok work = one (Err h.why) (Ok work) (subst (λ f. c.due f (Refused h.why)) is h.is_due) due in cc)
-ended-done c told old new given work is one due (inr h) =
-    let same : h.work ≡ work = ap (work_or h.work) (one (Ok h.work) (Ok work) (subst (λ f. c.due f (Came h.work)) is h.is_due) due) in
-    subst (λ w. WorkCame c w old new given) same (record { text = h.text; ends = h.ends; told = h.told })
+ended-done c old new given work one due (inl h) = absurd (let no : Err h.why ≡ Ok work = one (Err h.why) (Ok work) h.is_due due in cc)
+ended-done c old new given work one due (inr h) =
+    subst (λ w. WorkCame c w old new given) (ap (work_or h.work) (one (Ok h.work) (Ok work) h.is_due due)) h.came
 
-pub exactly-of : (c : Command) (told : Option Files) (old new : World) (given : Status) → old.files ≡ told → IsOne (c.due told) → Carries c old new given →
-    Exactly c told old new given
-exactly-of c told old new given is one h = record {
-  refusal = λ why due ended. ended-refused c told old new given why is one due (subst (λ k. CarriesAs c old new given k) ended h.by_class);
-  work = λ work due ended. ended-done c told old new given work is one due (subst (λ k. CarriesAs c old new given k) ended h.by_class);
-}
+pub exactly-of : (c : Command) (files : Files) (old new : World) (given : Status) → old.files ≡ Some files → IsOne (c.due (Some files)) → Carries c old new given →
+    Exactly c old new given
+exactly-of c files old new given is known h =
+    let one = subst (λ f. IsOne (c.due f)) (sym is) known in
+    record {
+      refusal = λ why due ended. ended-refused c old new given why one due (subst (λ k. CarriesAs c old new given k) ended h.by_class);
+      work = λ work due ended. ended-done c old new given work one due (subst (λ k. CarriesAs c old new given k) ended h.by_class);
+    }

@@ -7,9 +7,9 @@ use Rattle.pg_edge.specs.declared.shelf.LoadFault.TheVariants as load
 use Rattle.pg_report.specs.declared.line.RefusalLine.{RefusalLine}
 use Rattle.pg_tool.specs.declared.refusal.Refusal.TheVariants.{Line}
 use Rattle.pg_tool.specs.FileSteps.{Absent, Faulty, HoldsWithin, FromFile}
-use Rattle.pg_tool.specs.Loads.{Comes, stop_as}
+use Rattle.pg_tool.specs.Answering.{Comes, stop_as}
 use Rattle.pg_tool.specs.Refusals.{of_file}
-use Rattle.pg_tool.specs.Steps.{Step, As, Came, Refused}
+use Rattle.pg_tool.specs.Steps.{As, Came, Refused}
 
 -- a file that was not loaded
 pub file-stops : {E T X : Type 0} (view : T → X) (line : E → RefusalLine) (told : Option Files) (name : List ℕ) (limit : ℕ) (long : E) (reads : List ℕ → Result X E → Type 0)

@@ -1,6 +1,6 @@
 -- A command comes to one thing, for told files.
 use Rattle.std.specs.Prelude.{option_and_then, slice_get}
-use Rattle.std.proofs.Common.{◌≡◌, ◌≢◌, ℕ, ◌-◌, ◌<◌, ◌≤◌, cond, nat_lt, List, [], ◌∷◌, length, Option, Some, None, Result, Ok, Err, sym, ◌∙◌, ap}
+use Rattle.std.proofs.Common.{◌≡◌, ◌≢◌, ℕ, ◌-◌, ◌≤◌, cond, nat_lt, List, length, Option, Some, None, Result, Ok, Err, sym, ◌∙◌, ap}
 use Rattle.std.proofs.lemmas.Bool.{lt-ltb, le-ltb}
 use Rattle.pg_ast.specs.declared.tree.Desc.{Desc}
 use Rattle.pg_valid.specs.declared.fault.TypeFault.{TypeFault}
@@ -17,20 +17,19 @@ use Rattle.pg_read.specs.Answer.{most_desc_bytes, IsAnswer}
 use Rattle.pg_read.proofs.OneAnswer.{answer_due, answer_is_due}
 use Rattle.pg_image.specs.declared.fault.ImageFault.{ImageFault}
 use Rattle.pg_image.specs.Images.{most_image_bytes, image_due}
-use Rattle.pg_report.specs.declared.line.RefusalLine.TheVariants.{Description, Image, Open}
+use Rattle.pg_report.specs.declared.line.RefusalLine.TheVariants.{Description, Image}
 use Rattle.pg_report.specs.declared.line.DescriptionLine.{DescriptionLine}
 use Rattle.pg_report.specs.declared.line.DescriptionLine.TheVariants as told_line
 use Rattle.pg_report.specs.declared.line.ImageLine.{ImageLine}
 use Rattle.pg_report.specs.declared.line.ImageLine.TheVariants as told_image
 use Rattle.pg_tool.specs.declared.refusal.Refusal.{Refusal}
-use Rattle.pg_tool.specs.declared.refusal.Refusal.TheVariants.{Words, Line}
-use Rattle.pg_tool.specs.Steps.{Settles, Gives, IsOne}
+use Rattle.pg_tool.specs.Steps.{Settles, IsOne}
 use Rattle.pg_tool.specs.FileSteps.{FromFile}
 use Rattle.pg_tool.specs.Refusals.{of_file}
 use Rattle.pg_tool.specs.Descriptions.{ReadsAs, IsInvalid, TextDue, told_of_reading, told_of_type, DescDue}
 use Rattle.pg_tool.specs.Images.{told_of_image, BytesDue, ImageDue}
 use Rattle.pg_tool.specs.Rooms.{TooMany, RoomFor, of_room, RoomDue}
-use Rattle.pg_tool.specs.Verdicts.{KeepsRule, of_breach, RuleDue}
+use Rattle.pg_tool.specs.Rule.{KeepsRule, of_breach, RuleDue}
 use Rattle.pg_tool.specs.Bare.{BareRun, BareDue}
 use Rattle.pg_tool.specs.Run.{GuestRun, RunDue}
 use Rattle.pg_tool.specs.Print.{PrintDue}
@@ -199,7 +198,7 @@ abbrev rule_behind : AskedRun → Desc → List ℕ → Result GuestRun Refusal
 rule_behind r d image = bind (rule_answer d) (run_answer r d image)
 
 abbrev image_behind : Files → AskedRun → Desc → ℕ → Result GuestRun Refusal
-image_behind files r d cells = bind (image_answer files 0 r.image d.word cells) (rule_behind r d)
+image_behind files r d cells = bind (image_answer files 0 r.image d.word r.grant) (rule_behind r d)
 
 abbrev room_behind : Files → AskedRun → Desc → Result GuestRun Refusal
 room_behind files r d = bind (lifted of_room (room_answer r.grant (d.size - kept_cells))) (image_behind files r d)
@@ -210,8 +209,8 @@ only-rule_behind r d image =
 
 only-image_behind : (files : Files) (r : AskedRun) (d : Desc) (cells : ℕ) → Only (run.behind_room (Some files) r d cells) (image_behind files r d cells)
 only-image_behind files r d cells =
-    only-then (ImageDue (Some files) 0 r.image d.word cells) (run.behind_image r d) (image_answer files 0 r.image d.word cells) (rule_behind r d)
-    (only-image files 0 r.image d.word cells) (only-rule_behind r d)
+    only-then (ImageDue (Some files) 0 r.image d.word r.grant) (run.behind_image r d) (image_answer files 0 r.image d.word r.grant) (rule_behind r d)
+    (only-image files 0 r.image d.word r.grant) (only-rule_behind r d)
 
 only-room_behind : (files : Files) (r : AskedRun) (d : Desc) → Only (run.behind_desc (Some files) r d) (room_behind files r d)
 only-room_behind files r d =

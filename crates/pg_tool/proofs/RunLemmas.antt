@@ -1,5 +1,5 @@
 -- Runs of guests: what a monitor is made on, what its turns leave, and the text of the states that are reached.
-use Rattle.std.proofs.Common.{◌≡◌, ◌≢◌, ℕ, zero, suc, ◌+◌, ◌-◌, ◌*◌, ◌≤◌, ◌<◌, ◌^◌, ◌⊎◌, inl, inr, pow_mono, not, List, [], ◌∷◌, ◌++◌, length, map, take, drop, replicate, All, Option, Some, None, IsSomeAnd, Result, Ok, Err, slice_index, slice_get, slice_set, get_or, refl, sym, ◌∙◌, ap, subst, arith, add-zero}
+use Rattle.std.proofs.Common.{◌≡◌, ◌≢◌, ℕ, zero, suc, ◌+◌, ◌-◌, ◌≤◌, ◌<◌, ◌^◌, ◌⊎◌, inl, inr, pow_mono, not, List, [], ◌∷◌, ◌++◌, length, map, take, drop, replicate, Option, Some, None, IsSomeAnd, Result, Ok, Err, slice_index, slice_get, slice_set, refl, sym, ◌∙◌, ap, subst, arith, add-zero}
 use Rattle.std.proofs.lemmas.List.{append-nil, append_assoc, length-set, length-replicate, get_or-replicate, get_or-set_other}
 use Rattle.std.proofs.lemmas.List.Elements.{All-nil, All-head}
 use Rattle.std.proofs.lemmas.List.Quantifiers.{position-Some}
@@ -8,24 +8,21 @@ use Rattle.pg_ast.specs.declared.tree.Instr.{Instr}
 use Rattle.pg_ast.specs.declared.tree.Desc.{Desc}
 use Rattle.pg_edge.proofs.PutsLaws.{Puts-then, Puts-stopped}
 use Rattle.pg_edge.specs.Sink.{Puts}
-use Rattle.pg_hw.specs.Machinery.{Machinery, poked_at}
-use Rattle.pg_hw.specs.Running.{after_pokes}
+use Rattle.pg_hw.specs.Machinery.{Machinery}
 use Rattle.pg_hw.specs.Serving.{blank}
-use Rattle.pg_hw.specs.Tallies.{after_poke}
 use Rattle.pg_image.specs.Lines.{state_text}
 use Rattle.pg_meaning.specs.States.{State, IsState}
-use Rattle.pg_meaning.specs.Steps.{steps, power_on, bare}
+use Rattle.pg_meaning.specs.Steps.{power_on, bare}
 use Rattle.pg_monitor.proofs.CellLemmas.{with_grant-before}
 use Rattle.pg_monitor.proofs.LoadLemmas.{base-first, known-base}
 use Rattle.pg_monitor.proofs.PlanLemmas.{granted-outside}
 use Rattle.pg_monitor.proofs.WentLemmas.{direct_among-most}
 use Rattle.pg_monitor.specs.declared.guest.Guest.{Guest}
-use Rattle.pg_monitor.specs.Direct.{direct_among}
 use Rattle.pg_monitor.specs.Guests.{virtual, virtuals, kept_cells}
 use Rattle.pg_monitor.specs.Loading.{free_base, with_words}
-use Rattle.pg_monitor.specs.Plans.{after_plan, turns_of, turns_for, direct_of, cell_behind, psw_behind, changes_of, IsOutside, Followed}
+use Rattle.pg_monitor.specs.Plans.{after_plan, turns_of, direct_of, cell_behind, psw_behind, changes_of, IsOutside, Followed}
 use Rattle.pg_monitor.specs.Standing.{Stands}
-use Rattle.pg_monitor.specs.Turns.{grants_of, changes_in, CountsTurns, BottomTurns}
+use Rattle.pg_monitor.specs.Turns.{grants_of, CountsTurns, BottomTurns}
 use Rattle.pg_report.specs.Runs.{guest_line, steps_line, run_text}
 use Rattle.pg_report.specs.Spans.{span}
 use Rattle.pg_type.specs.Accepting.{IsAccepted}
@@ -42,14 +39,14 @@ use Rattle.pg_tool.specs.declared.refusal.Refusal.{Refusal}
 use Rattle.pg_tool.specs.declared.refusal.Stop.{Stop}
 use Rattle.pg_tool.specs.Descriptions.{DescDue}
 use Rattle.pg_tool.specs.Images.{ImageDue}
-use Rattle.pg_tool.specs.Loads.{Comes}
+use Rattle.pg_tool.specs.Answering.{Comes}
 use Rattle.pg_tool.specs.Rooms.{of_room, RoomDue}
 use Rattle.pg_tool.specs.Steps.{Step, Came, Refused, Then, Gives}
-use Rattle.pg_tool.specs.Verdicts.{breach_name, of_breach, RuleDue}
+use Rattle.pg_tool.specs.Rule.{breach_name, of_breach, RuleDue}
 use Rattle.pg_tool.specs.CanRuns.{CanRun}
 use Rattle.pg_tool.proofs.BareLemmas.{reached-state}
 use Rattle.pg_tool.proofs.StepLemmas.{comes-stopped, comes-behind, room-came, room-refused}
-use Rattle.pg_tool.specs.Run.{GuestRun, RunDue, guests_of, begun, reached_by, direct_turns, RanGuests, IsUnstepped}
+use Rattle.pg_tool.specs.Run.{GuestRun, RunDue, reached_by, direct_turns_of, RanGuests, taken_for}
 use Rattle.pg_tool.specs.World.{CanCount}
 
 -- ---- the verdict
@@ -103,7 +100,7 @@ states-first old new image gs hs none who states =
 
 -- a hardware that was installed for a machine, of which a monitor took the storage, with an image loaded
 abbrev pub made_ready : Desc → List ℕ → Machinery → Machinery
-made_ready d image h = with_words kept_cells image (poked_at 1 (packed d.address (power_on_psw d.size)) (record h { state = blank d.size }))
+made_ready d image h = with_words kept_cells image (taken_for d h)
 
 -- ---- cells outside the grants
 
@@ -137,15 +134,6 @@ zero-first d image h room =
     let w = packed d.address (power_on_psw d.size) in
     with_grant-before (slice_set (blank d.size).cells 1 w) image 2 0 (omega (arith, room, blank-set-length d.size w)) (omega arith)
     ∙ get_or-set_other (replicate d.size 0) 1 0 w 0 (λ e. omega (arith, e)) ∙ get_or-replicate d.size 0 0 0 (omega (arith, room))
-
--- a hardware that was made ready did no step
-pub unstepped-ready : (image : List ℕ) (w : ℕ) (old new : Machinery) → new ≡ with_words kept_cells image (poked_at 1 w old) → IsUnstepped old new
-unstepped-ready image w old new is = record {
-  steps = ap (λ (m : Machinery). m.tally.steps) is;
-  untrapped = ap (λ (m : Machinery). m.tally.untrapped) is;
-  bottom = ap (λ (m : Machinery). m.bottom) is;
-  room = ap (λ (m : Machinery). m.room) is;
-}
 
 -- ---- one guest
 
@@ -183,7 +171,7 @@ lone-state d g n image v can =
     subst (λ k. IsState d (bare d image k n)) (sym can.whole) (reached-state (record { desc = d; image = image; grant = g; steps = n }) v can)
 
 -- of its turns at most all are direct
-pub direct-most : (d : Desc) (image : List ℕ) (n : ℕ) → direct_turns (lone_run d image n) ≤ n
+pub direct-most : (d : Desc) (image : List ℕ) (n : ℕ) → direct_turns_of (lone_run d image n) ≤ n
 direct-most d image n = omega (arith, direct_among-most d 2 n (power_on image (length image)))
 
 changes-most : (n : ℕ) → changes_of ((0, n) ∷ []) None ≤ 1
@@ -192,15 +180,15 @@ changes-most (suc n) = omega arith
 
 -- ---- what is left
 
--- what the guest's turns leave, begun where it was switched on
+-- what the guest's turns leave, first_states where it was switched on
 pub record LoneTurns (d : Desc) (image : List ℕ) (n : ℕ) (old new : Machinery) (gs : List Guest) : Type 0 where
   pub states : virtuals new.state.cells gs ≡ lone_state d image n ∷ []
   pub grants : grants_of gs ≡ (kept_cells, length image) ∷ []
   pub cell_0 : slice_index new.state.cells 0 ≡ cell_behind d (first_guest (length image) ∷ []) ((0, n) ∷ []) (power_on image (length image) ∷ []) (slice_index old.state.cells 0)
   pub outside : (at : ℕ) → 1 ≤ at → IsOutside (first_guest (length image) ∷ []) at → slice_get new.state.cells at ≡ slice_get old.state.cells at
   pub psw : new.state.psw ≡ psw_behind d (first_guest (length image) ∷ []) ((0, n) ∷ []) (power_on image (length image) ∷ []) old.state.psw
-  pub tally : CountsTurns (turns_of ((0, n) ∷ [])) (direct_turns (lone_run d image n)) (changes_of ((0, n) ∷ []) None) old.tally new.tally
-  pub bottom : BottomTurns (turns_of ((0, n) ∷ [])) (direct_turns (lone_run d image n)) old.bottom new.bottom
+  pub tally : CountsTurns (turns_of ((0, n) ∷ [])) (direct_turns_of (lone_run d image n)) (changes_of ((0, n) ∷ []) None) old.tally new.tally
+  pub bottom : BottomTurns (turns_of ((0, n) ∷ [])) (direct_turns_of (lone_run d image n)) old.bottom new.bottom
   pub room : new.room ≡ old.room
 
 pub lone-turns : (d : Desc) (image : List ℕ) (n : ℕ) (old new : Machinery) (gs : List Guest) (current : Option ℕ) →
@@ -209,7 +197,7 @@ pub lone-turns : (d : Desc) (image : List ℕ) (n : ℕ) (old new : Machinery) (
 unfolding bare
 lone-turns d image n old new gs current began h =
     let plan : List (ℕ × ℕ) = (0, n) ∷ [] in
-    let direct : direct_of d (first_guest (length image) ∷ []) plan (virtuals old.state.cells (first_guest (length image) ∷ [])) ≡ direct_turns (lone_run d image n) =
+    let direct : direct_of d (first_guest (length image) ∷ []) plan (virtuals old.state.cells (first_guest (length image) ∷ [])) ≡ direct_turns_of (lone_run d image n) =
     ap (direct_of d (first_guest (length image) ∷ []) plan) began in
     record {
       states = h.states ∙ ap (λ ss. after_moved d n ss) began;
@@ -245,7 +233,7 @@ RanGuests-of d image n old on new gs g current accepted room is turns stands hel
     let most = direct-most d image n in
     let changes = changes-most n in
     let own = only-guest new.state.cells gs g (kept_cells, length image) (lone_state d image n) turns.states turns.grants held in
-    let counted = subst (λ (m : Machinery). CountsTurns (turns_of ((0, n) ∷ [])) (direct_turns (lone_run d image n)) (changes_of ((0, n) ∷ []) None) m.tally new.tally) is turns.tally in
+    let counted = subst (λ (m : Machinery). CountsTurns (turns_of ((0, n) ∷ [])) (direct_turns_of (lone_run d image n)) (changes_of ((0, n) ∷ []) None) m.tally new.tally) is turns.tally in
     record {
       accepted = accepted;
       size = stands.stands.size;
@@ -261,7 +249,7 @@ RanGuests-of d image n old on new gs g current accepted room is turns stands hel
       pokes_least = omega (arith, can.pokes, small, counted.pokes.at_least);
       pokes_most = omega (arith, can.pokes, small, few, most, counted.pokes.at_most);
       loads = counted.loads ∙ omega (arith, can.loads, few, most, changes);
-      bottom = subst (λ (m : Machinery). BottomTurns (turns_of ((0, n) ∷ [])) (direct_turns (lone_run d image n)) m.bottom new.bottom) is turns.bottom;
+      bottom = subst (λ (m : Machinery). BottomTurns (turns_of ((0, n) ∷ [])) (direct_turns_of (lone_run d image n)) m.bottom new.bottom) is turns.bottom;
       room = turns.room ∙ ap (λ (m : Machinery). m.room) is;
     }
 
@@ -269,13 +257,13 @@ RanGuests-of d image n old on new gs g current accepted room is turns stands hel
 
 -- one guest's text, in the pieces that are put
 pub told-text : (d : Desc) (image : List ℕ) (n w : ℕ) (cells : List ℕ) (psw : Psw) (direct : ℕ) → w ≡ d.word → cells ≡ (lone_state d image n).cells → psw ≡ (lone_state d image n).psw →
-    direct ≡ direct_turns (lone_run d image n) →
+    direct ≡ direct_turns_of (lone_run d image n) →
     guest_line 0 ++ (state_text w cells psw ++ steps_line n direct)
-    ≡ run_text d.word (reached_by (lone_run d image n)) (turns_of ((0, n) ∷ [])) (direct_turns (lone_run d image n))
+    ≡ run_text d.word (reached_by (lone_run d image n)) (turns_of ((0, n) ∷ [])) (direct_turns_of (lone_run d image n))
 unfolding run_text
 told-text d image n w cells psw direct width held loaded counted =
     let s = lone_state d image n in
-    let count = direct_turns (lone_run d image n) in
+    let count = direct_turns_of (lone_run d image n) in
     let whole = append-nil (guest_line 0 ++ state_text d.word s.cells s.psw) in
     let one : guest_line 0 ++ (state_text w cells psw ++ steps_line n direct) ≡ run_text d.word (s ∷ []) n count =
     rw (width, held, loaded, counted)
@@ -304,7 +292,7 @@ abbrev pub behind_image : AskedRun → Desc → List ℕ → Step Refusal GuestR
 behind_image r d image = Then (RuleDue d) (behind_rule r d image)
 
 abbrev pub behind_room : Option Files → AskedRun → Desc → ℕ → Step Refusal GuestRun
-behind_room told r d cells = Then (ImageDue told 0 r.image d.word cells) (behind_image r d)
+behind_room told r d cells = Then (ImageDue told 0 r.image d.word r.grant) (behind_image r d)
 
 abbrev pub behind_desc : Option Files → AskedRun → Desc → Step Refusal GuestRun
 behind_desc told r d = Then (RoomDue r.grant (d.size - kept_cells)) (behind_room told r d)

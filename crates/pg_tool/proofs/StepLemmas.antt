@@ -4,9 +4,9 @@ use Rattle.pg_edge.specs.Count.{Rose}
 use Rattle.pg_tool.specs.declared.refusal.Refusal.{Refusal}
 use Rattle.pg_tool.specs.declared.refusal.Stop.{Stop}
 use Rattle.pg_tool.specs.declared.refusal.Stop.TheVariants as stop
-use Rattle.pg_tool.specs.Rooms.{TooMany, of_room, RoomDue}
+use Rattle.pg_tool.specs.Rooms.{of_room, RoomDue}
 use Rattle.pg_tool.specs.Steps.{Step, Came, Refused, Then}
-use Rattle.pg_tool.specs.Loads.{Comes}
+use Rattle.pg_tool.specs.Answering.{Comes}
 
 -- a count that rose in a part of a call rose in the call
 pub rose-within : (before first last after : ℕ) → before ≤ first → last ≤ after → Rose first last → Rose before after

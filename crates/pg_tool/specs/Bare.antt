@@ -16,7 +16,7 @@ use Rattle.pg_tool.specs.Images.{ImageDue}
 use Rattle.pg_tool.specs.Rooms.{RoomDue}
 use Rattle.pg_tool.specs.Steps.{Step, Then, Gives}
 use Rattle.pg_hw.specs.Machinery.{Machinery}
-use Rattle.pg_tool.specs.World.{World, IsUntouched}
+use Rattle.pg_tool.specs.World.{World}
 
 -- a bare machine of so many cells that is switched on with an image and runs so many steps
 pub record BareRun : Type 0 where
@@ -51,13 +51,9 @@ pub record BareEnds (r : BareRun) (old new : World) (given : Status) (text : Lis
   pub wording : text ≡ state_text r.desc.word (reached r).cells (reached r).psw
   pub ran : RanBare r old.hw new.hw
   pub files : new.files ≡ old.files
-  pub saves : new.saves ≡ old.saves
+  pub saves : new.save_faults ≡ old.save_faults
 
--- without memory for its cells nothing is done
-pub record BareStarves (old new : World) : Type 0 where
-  pub silent : new.out ≡ old.out
-  pub untouched : IsUntouched old new
-
+-- memory is refused before its first step, and then nothing was done
 abbrev pub bare_command : AskedRun → Command
 bare_command b = record {
   Work = BareRun;
@@ -65,5 +61,5 @@ bare_command b = record {
   saved = None;
   ends = BareEnds;
   unsaved = λ r old new. ⊥;
-  starved = λ r old new. BareStarves old new;
+  starved = λ r old new. ⊥;
 }

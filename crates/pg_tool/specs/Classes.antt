@@ -10,7 +10,7 @@ pub data Class : Type 0 where
   -- something could not be read
   Unread : Class
   -- memory was refused
-  Starved : Class
+  OutOfMemory : Class
 
 abbrev pub class_of : Status → Class
 class_of Done = Ended
@@ -21,5 +21,5 @@ class_of Image = Ended
 class_of Room = Ended
 class_of ReadFault = Unread
 class_of WriteFault = Unwritten
-class_of Memory = Starved
+class_of Memory = OutOfMemory
 class_of Missing = Ended

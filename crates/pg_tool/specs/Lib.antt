@@ -6,13 +6,13 @@ pub mod Refusals
 pub mod Descriptions
 pub mod Images
 pub mod Rooms
-pub mod Verdicts
+pub mod Rule
 pub mod World
 pub mod Commands
 pub mod Bare
 pub mod Run
 pub mod Print
 pub mod Asking
-pub mod Loads
+pub mod Answering
 pub mod CanRuns
 pub mod Plans

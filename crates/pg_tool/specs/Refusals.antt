@@ -28,7 +28,7 @@ refusal_status Missing = status.Missing
 refusal_status (Line line) = line_status line
 
 -- its text; nothing at all is put for a file that is missing
-abbrev pub refusal_told : Refusal → Option (List ℕ)
-refusal_told Words = Some usage_text
-refusal_told Missing = None
-refusal_told (Line line) = Some (refusal_text line)
+abbrev pub refusal_said : Refusal → Option (List ℕ)
+refusal_said Words = Some usage_text
+refusal_said Missing = None
+refusal_said (Line line) = Some (refusal_text line)

@@ -1,5 +1,5 @@
 -- What surrounds a command, and what is left of it as it was.
-use Rattle.std.specs.Prelude.{◌≡◌, ℕ, ◌<◌, ◌≤◌, ◌^◌, List, Option, None, Some}
+use Rattle.std.specs.Prelude.{◌≡◌, ℕ, ◌<◌, ◌^◌, List, Option, None, Some}
 use Rattle.pg_edge.specs.Count.{Rose}
 use Rattle.pg_edge.specs.Shelf.{Files, SameBut}
 use Rattle.pg_edge.specs.Sink.{Adds, AddsFront}
@@ -15,36 +15,36 @@ pub record Output : Type 0 where
 abbrev pub output : Option (List ℕ) → ℕ → Output
 output written faults = record { written = written; faults = faults }
 
--- the files, where they are told, the counts of failed reads and saves, the sink, and the hardware
+-- the files, where they are told, how many reads and saves failed, the sink, and the hardware
 pub record World : Type 0 where
   pub files : Option Files
-  pub reads : ℕ
-  pub saves : ℕ
+  pub read_faults : ℕ
+  pub save_faults : ℕ
   pub out : Output
   pub hw : Machinery
 
 abbrev pub around : Option Files → ℕ → ℕ → Output → Machinery → World
-around files reads saves out hw = record { files = files; reads = reads; saves = saves; out = out; hw = hw }
+around files reads saves out hw = record { files = files; read_faults = reads; save_faults = saves; out = out; hw = hw }
 
 -- no file was saved, and the hardware is as it was
 pub record IsUntouched (old new : World) : Type 0 where
   pub files : new.files ≡ old.files
-  pub saves : new.saves ≡ old.saves
+  pub saves : new.save_faults ≡ old.save_faults
   pub hw : new.hw ≡ old.hw
 
--- what is told was put whole: a text, or nothing at all
-abbrev pub Tells : Option (List ℕ) → Output → Output → Type 0
-Tells None old new = new ≡ old
-Tells (Some text) old new = BothTold old.written new.written (Adds text)
+-- a text was put whole, or nothing at all
+abbrev pub Says : Option (List ℕ) → Output → Output → Type 0
+Says None old new = new ≡ old
+Says (Some text) old new = BothTold old.written new.written (Adds text)
 
--- a put failed in what is told: a front of it is there
+-- a put failed in a text: a front of it is there
 pub record Breaks (text : List ℕ) (old new : Output) : Type 0 where
   pub cause : Rose old.faults new.faults
   pub front : BothTold old.written new.written (AddsFront text)
 
-abbrev pub TellsFront : Option (List ℕ) → Output → Output → Type 0
-TellsFront None old new = ⊥
-TellsFront (Some text) old new = Breaks text old new
+abbrev pub SaysFront : Option (List ℕ) → Output → Output → Type 0
+SaysFront None old new = ⊥
+SaysFront (Some text) old new = Breaks text old new
 
 -- each file is as it was, but the one of the name under which is saved, if there is one
 abbrev pub SavesOnly : Option (List ℕ) → Option Files → Option Files → Type 0

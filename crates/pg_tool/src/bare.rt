@@ -13,7 +13,7 @@ ghost use Rattle.pg_hw.specs.Serving.{SameServed};
 ghost use Rattle.pg_image.specs.Lines.{state_text};
 ghost use Rattle.pg_tool.specs.Bare.{BareDue, RanBare, bare_command, reached};
 ghost use Rattle.pg_tool.specs.Commands.{Carries};
-ghost use Rattle.pg_tool.specs.Loads.{Comes, OnlyReads};
+ghost use Rattle.pg_tool.specs.Answering.{Comes, OnlyReads};
 ghost use Rattle.pg_tool.specs.Plans.{bare_run};
 ghost use Rattle.pg_tool.specs.World.{CanCount, around, output};
 
@@ -26,9 +26,8 @@ use crate::status::Status;
 use crate::stop::stopped;
 use pg_command::RunWords;
 use pg_edge::{Failed, Shelf, Sink};
-use pg_hw::Hardware;
+use pg_hw::{Hardware, bare, power_on};
 use pg_report::put_state;
-use pg_rig::{bare, power_on};
 pub(crate) use plan::BarePlan;
 use std::alloc::{AllocError, Global};
 

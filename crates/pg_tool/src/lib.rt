@@ -22,7 +22,7 @@ ghost use Rattle.pg_edge.specs.Shelf.{Files};
 ghost use Rattle.pg_hw.specs.Serving.{SameServed};
 ghost use Rattle.pg_tool.specs.Asking.{command_for, command_of};
 ghost use Rattle.pg_tool.specs.Commands.{Carries, Exactly};
-ghost use Rattle.pg_tool.specs.Loads.{stop_of_words};
+ghost use Rattle.pg_tool.specs.Answering.{stop_of_words};
 ghost use Rattle.pg_tool.specs.World.{CanCount, SavesOnly, around, output};
 
 mod bare;
@@ -70,7 +70,7 @@ pub fn tool<F: Shelf, S: Sink, H: Hardware>(
         (around (F.files shelf.new) (F.reads shelf.new) (F.saves shelf.new) (output (S.written out.new) (S.faults out.new)) (H.machinery hw.new)) result }
 
     // Where the files are told: a refusal that is due comes, and where work is due none does, but for faults and memory.
-    ensures exactly { (files : Files) → F.files shelf.old ≡ Some files → Exactly (command_for (map string_bytes words.now)) (Some files)
+    ensures exactly { (files : Files) → F.files shelf.old ≡ Some files → Exactly (command_for (map string_bytes words.now))
         (around (F.files shelf.old) (F.reads shelf.old) (F.saves shelf.old) (output (S.written out.old) (S.faults out.old)) (H.machinery hw.old))
         (around (F.files shelf.new) (F.reads shelf.new) (F.saves shelf.new) (output (S.written out.new) (S.faults out.new)) (H.machinery hw.new)) result }
 

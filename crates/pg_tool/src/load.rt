@@ -12,7 +12,7 @@ ghost use Rattle.pg_edge.specs.declared.shelf.LoadFault.TheVariants.{Missing, Lo
 ghost use Rattle.pg_tool.specs.FileSteps.{HoldsWithin};
 ghost use Rattle.pg_tool.specs.Descriptions.{DescDue};
 ghost use Rattle.pg_tool.specs.Images.{ImageDue};
-ghost use Rattle.pg_tool.specs.Loads.{Comes, OnlyReads, stop_as};
+ghost use Rattle.pg_tool.specs.Answering.{Comes, OnlyReads, stop_as};
 
 use crate::described::machine_of;
 use crate::imaged::image_of;

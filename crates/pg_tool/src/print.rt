@@ -6,7 +6,7 @@
 ghost use Rattle.std.specs.Prelude.{◌≡◌, ◌≤◌};
 ghost use Rattle.pg_command.specs.Asked.{print_as};
 ghost use Rattle.pg_tool.specs.Commands.{Carries};
-ghost use Rattle.pg_tool.specs.Loads.{Comes, OnlyReads};
+ghost use Rattle.pg_tool.specs.Answering.{Comes, OnlyReads};
 ghost use Rattle.pg_tool.specs.Print.{PrintDue, print_command};
 ghost use Rattle.pg_hw.specs.Machinery.{Machinery};
 ghost use Rattle.pg_tool.specs.World.{around, output};

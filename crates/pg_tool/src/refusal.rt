@@ -1,6 +1,6 @@
 //! Why a command is refused, or stops.
 //!
-//! A `Refusal` is due for the words and the files (`specs/Due.antt`), and has a text and a status (`specs/Work.antt`). A
+//! A `Refusal` is due for the words and the files (`specs/Asking.antt`), and has a text and a status (`specs/Refusals.antt`). A
 //! `Stop` may also come of a read that failed or of memory, of which nothing is told.
 
 use pg_report::RefusalLine;

@@ -5,9 +5,9 @@
 //! machine's whole size, makes a monitor on it, loads the image as its guest and lets it follow the plan of turns. The monitor
 //! borrows the plan's machine and is gone when `run_guests` answers; then the guest's cells are read from the hardware, where
 //! its grant lies, and the rest of its state is in `Told`. Memory is taken for the storage, the monitor and the guest, all
-//! before the first turn. Where it is refused no step was done (`IsUnstepped`), but the storage may be there, with cells poked.
+//! before the first turn. Where it is refused no step was done, but the storage may be there, and cell 1 poked (`SetUp`).
 
-ghost use Rattle.std.specs.Prelude.{◌≡◌, ◌≢◌, ◌∷◌, [], ℕ, None, ◌<◌, ◌≤◌, length, slice_get, IfOk, OnOk, OnErr, Some};
+ghost use Rattle.std.specs.Prelude.{◌≡◌, ◌⊎◌, ◌∷◌, [], ℕ, None, ◌≤◌, length, IfOk, OnOk, OnErr};
 ghost use Rattle.pg_ast.specs.declared.tree.Desc.{Desc};
 ghost use Rattle.pg_command.specs.Asked.{IsBoundedRun, run_as};
 ghost use Rattle.pg_edge.specs.Sink.{Puts};
@@ -23,10 +23,10 @@ ghost use Rattle.pg_report.specs.Spans.{span};
 ghost use Rattle.pg_type.specs.Plain.{first_breach};
 ghost use Rattle.pg_meaning.specs.Steps.{power_on};
 ghost use Rattle.pg_tool.specs.Commands.{Carries};
-ghost use Rattle.pg_tool.specs.Loads.{Comes, OnlyReads};
+ghost use Rattle.pg_tool.specs.Answering.{Comes, OnlyReads};
 ghost use Rattle.pg_tool.specs.Plans.{first_guest, guest_run, guest_state};
-ghost use Rattle.pg_tool.specs.Run.{IsUnstepped, RanGuests, RunDue, direct_turns, reached_by, run_command};
-ghost use Rattle.pg_tool.specs.Verdicts.{RuleDue};
+ghost use Rattle.pg_tool.specs.Run.{RanGuests, SetUp, RunDue, direct_turns_of, reached_by, run_command};
+ghost use Rattle.pg_tool.specs.Rule.{RuleDue};
 ghost use Rattle.pg_tool.specs.World.{CanCount, around, output};
 
 mod plan;
@@ -143,9 +143,9 @@ fn run_guests<H: Hardware>(alloc: Global, plan: &GuestPlan, hw: &mut H) -> Resul
     requires room { 1048575 ≤ (H.machinery hw.old).room }
     requires counts { CanCount (H.machinery hw.old).tally }
     ensures psw { IfOk result (λ told. told.psw ≡ (guest_state plan.now.bare).psw) }
-    ensures direct { IfOk result (λ told. told.direct ≡ direct_turns (guest_run plan.now.bare)) }
+    ensures direct { IfOk result (λ told. told.direct ≡ direct_turns_of (guest_run plan.now.bare)) }
     ensures ran { OnOk result (RanGuests (guest_run plan.now.bare) (H.machinery hw.old) (H.machinery hw.new)) }
-    ensures unstepped { OnErr result (IsUnstepped (H.machinery hw.old) (H.machinery hw.new)) }
+    ensures set_up { OnErr result (SetUp plan.now.bare.machine.desc (H.machinery hw.old) (H.machinery hw.new)) }
     ensures served { SameServed (H.serves hw.old) (H.serves hw.new) }
 {
     match hw.install(plan.bare.machine.shape().q) {
@@ -180,7 +180,8 @@ fn start<'m, H: Hardware>(
         ≡ power_on plan.now.bare.image (length plan.now.bare.image) ∷ []) }
     ensures made { let d = plan.now.bare.machine.desc in
         OnOk result ((H.machinery hw.new) ≡ with_words kept_cells plan.now.bare.image (poked_at 1 (packed d.address (power_on_psw d.size)) (H.machinery hw.old))) }
-    ensures unstepped { IsUnstepped (H.machinery hw.old) (H.machinery hw.new) }
+    ensures refused { let d = plan.now.bare.machine.desc in
+        OnErr result ((H.machinery hw.new ≡ H.machinery hw.old) ⊎ (H.machinery hw.new ≡ poked_at 1 (packed d.address (power_on_psw d.size)) (H.machinery hw.old))) }
     ensures served { SameServed (H.serves hw.old) (H.serves hw.new) }
 {
     let mut monitor = match Monitor::new(alloc, Accepted::of(&plan.bare.machine), hw) {
@@ -202,12 +203,12 @@ fn put_run<S: Sink, H: Hardware>(
     out: &mut S,
 ) -> Result<(), Failed>
     requires psw { told.psw ≡ (guest_state plan.now.bare).psw }
-    requires direct { told.direct ≡ direct_turns (guest_run plan.now.bare) }
+    requires direct { told.direct ≡ direct_turns_of (guest_run plan.now.bare) }
     requires cells { span kept_cells plan.now.bare.grant (H.machinery hw.now).state.cells ≡ (guest_state plan.now.bare).cells }
     requires size { length (H.machinery hw.now).state.cells ≡ plan.now.bare.machine.desc.size }
     ensures { let r = guest_run plan.now.bare in
         Puts (S.written out.old) (S.written out.new) (S.faults out.old) (S.faults out.new)
-        (run_text r.desc.word (reached_by r) (turns_of r.plan) (direct_turns r)) result }
+        (run_text r.desc.word (reached_by r) (turns_of r.plan) (direct_turns_of r)) result }
 {
     put_guest(out, 0)?;
     put_state(

@@ -1,8 +1,8 @@
 //! How a command ends.
 //!
 //! `tool` answers a status, and the program ends with its number. What each leaves of the sink, the files and the hardware
-//! is `Leaves` in `specs/Leaves.antt`: nothing was put on `ReadFault`, `Memory` and `Missing`, a front of the text on
-//! `WriteFault`, and the whole text that is due on each other.
+//! is `Carries` in `specs/Commands.antt`, by the class of the status: nothing was put on `ReadFault`, `Memory` and `Missing`, a
+//! front of the text on `WriteFault`, and the whole text that is due on each other.
 
 ghost use Rattle.std.specs.Prelude.{◌≡◌};
 ghost use Rattle.pg_tool.specs.Codes.{code_of};

@@ -6,7 +6,7 @@
 
 ghost use Rattle.std.specs.Prelude.{◌≡◌, ◌≤◌};
 ghost use Rattle.pg_tool.specs.Classes.{class_of};
-ghost use Rattle.pg_tool.specs.Loads.{Stops, TellsRefusal};
+ghost use Rattle.pg_tool.specs.Answering.{Stops, SaysRefusal};
 ghost use Rattle.pg_tool.specs.Refusals.{line_status};
 ghost use Rattle.pg_tool.specs.World.{output};
 
@@ -15,7 +15,7 @@ use crate::status::Status;
 use pg_edge::Sink;
 use pg_report::{RefusalLine, put_refusal, put_usage};
 
-/// Tells why a command stops, where that is told, and answers with which status.
+/// Says why a command stops, where that is told, and answers with which status.
 pub(crate) fn stopped<S: Sink>(stop: &Stop, out: &mut S) -> Status
     ensures stops { Stops stop.now (output (S.written out.old) (S.faults out.old)) (output (S.written out.new) (S.faults out.new)) result }
     ensures later { S.faults out.old ≤ S.faults out.new }
@@ -29,7 +29,7 @@ pub(crate) fn stopped<S: Sink>(stop: &Stop, out: &mut S) -> Status
 
 /// Puts the text of a refusal; of a file that is missing nothing is put.
 fn refuse<S: Sink>(why: &Refusal, out: &mut S) -> Status
-    ensures told { TellsRefusal why.now (output (S.written out.old) (S.faults out.old)) (output (S.written out.new) (S.faults out.new))
+    ensures told { SaysRefusal why.now (output (S.written out.old) (S.faults out.old)) (output (S.written out.new) (S.faults out.new))
         result (class_of result) }
     ensures later { S.faults out.old ≤ S.faults out.new }
 {

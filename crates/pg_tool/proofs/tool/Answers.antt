@@ -1,8 +1,8 @@
-use Rattle.std.proofs.Common.{map, Some, Err, refl, ap, subst}
+use Rattle.std.proofs.Common.{map, Err, refl, ap, subst}
 use Rattle.std.specs.Prelude.{string_bytes}
 use Rattle.pg_command.specs.Asked.{asked_as}
 use Rattle.pg_tool.specs.Asking.{command_for}
-use Rattle.pg_tool.specs.Loads.{Stops}
+use Rattle.pg_tool.specs.Answering.{Stops}
 use Rattle.pg_tool.specs.World.{around, output}
 use Rattle.pg_tool.proofs.CarryLemmas.{carries-asked, saves-asked, carries-words, exactly-of}
 use Rattle.pg_tool.proofs.OnlyOne.{due_is_one}
@@ -20,7 +20,7 @@ returns-in-Ok-clause-files g c = saves-asked (map string_bytes c.args.words.now)
 
 pub returns-in-Ok-clause-exactly : goal.returns-in-Ok-clause-exactly
 returns-in-Ok-clause-exactly g c = λ files told.
-    exactly-of (command_for (map string_bytes c.args.words.now)) (Some files)
+    exactly-of (command_for (map string_bytes c.args.words.now)) files
     (around (g.F.Shelf.files c.args.shelf.now) (g.F.Shelf.reads c.args.shelf.now) (g.F.Shelf.saves c.args.shelf.now) (output (g.S.Sink.written c.args.out.now) (g.S.Sink.faults c.args.out.now)) (g.H.Hardware.machinery c.args.hw.now))
     (around (g.F.Shelf.files c.carry.new.shelf) (g.F.Shelf.reads c.carry.new.shelf) (g.F.Shelf.saves c.carry.new.shelf) (output (g.S.Sink.written c.carry.new.out) (g.S.Sink.faults c.carry.new.out)) (g.H.Hardware.machinery c.carry.new.hw))
     c.carry.result told (due_is_one files (map string_bytes c.args.words.now)) (returns-in-Ok-clause-carries g c)
@@ -37,7 +37,7 @@ returns-in-Err-clause-carries g c =
 
 pub returns-in-Err-clause-exactly : goal.returns-in-Err-clause-exactly
 returns-in-Err-clause-exactly g c = λ files told.
-    exactly-of (command_for (map string_bytes c.args.words.now)) (Some files)
+    exactly-of (command_for (map string_bytes c.args.words.now)) files
     (around (g.F.Shelf.files c.args.shelf.now) (g.F.Shelf.reads c.args.shelf.now) (g.F.Shelf.saves c.args.shelf.now) (output (g.S.Sink.written c.args.out.now) (g.S.Sink.faults c.args.out.now)) (g.H.Hardware.machinery c.args.hw.now))
     (around (g.F.Shelf.files c.args.shelf.now) (g.F.Shelf.reads c.args.shelf.now) (g.F.Shelf.saves c.args.shelf.now) (output (g.S.Sink.written c.stopped.new.out) (g.S.Sink.faults c.stopped.new.out)) (g.H.Hardware.machinery c.args.hw.now))
     c.stopped.result told (due_is_one files (map string_bytes c.args.words.now)) (returns-in-Err-clause-carries g c)

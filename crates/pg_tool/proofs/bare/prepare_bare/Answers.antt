@@ -4,7 +4,7 @@ use Rattle.pg_command.specs.Asked.{run_as}
 use Rattle.pg_tool.specs.Bare.{BareDue}
 use Rattle.pg_tool.specs.Descriptions.{DescDue}
 use Rattle.pg_tool.specs.Images.{ImageDue}
-use Rattle.pg_tool.specs.Loads.{Comes}
+use Rattle.pg_tool.specs.Answering.{Comes}
 use Rattle.pg_tool.specs.Plans.{bare_run}
 use Rattle.pg_tool.specs.Rooms.{of_room}
 use Rattle.pg_tool.specs.Steps.{Came, Refused}

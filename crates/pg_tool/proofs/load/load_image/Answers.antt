@@ -3,7 +3,7 @@ use Rattle.pg_image.specs.Images.{most_image_bytes}
 use Rattle.pg_report.specs.declared.line.ImageLine.TheVariants as told_image
 use Rattle.pg_report.specs.declared.line.RefusalLine.TheVariants.{Image}
 use Rattle.pg_tool.specs.Images.{BytesDue, ImageDue}
-use Rattle.pg_tool.specs.Loads.{Comes}
+use Rattle.pg_tool.specs.Answering.{Comes}
 use Rattle.pg_tool.proofs.FileLemmas.{file-stops, file-refused, file-came}
 use Rattle.pg_tool.proofs.load.load_image.Goals as goal
 

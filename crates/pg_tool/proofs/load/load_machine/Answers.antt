@@ -4,7 +4,7 @@ use Rattle.pg_report.specs.declared.line.DescriptionLine.TheVariants as told_lin
 use Rattle.pg_report.specs.declared.line.RefusalLine.TheVariants.{Description}
 use Rattle.pg_read.specs.Answer.{most_desc_bytes}
 use Rattle.pg_tool.specs.Descriptions.{TextDue, DescDue}
-use Rattle.pg_tool.specs.Loads.{Comes}
+use Rattle.pg_tool.specs.Answering.{Comes}
 use Rattle.pg_tool.proofs.FileLemmas.{file-stops, file-refused, file-came}
 use Rattle.pg_tool.proofs.load.load_machine.Goals as goal
 

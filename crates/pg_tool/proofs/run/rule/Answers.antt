@@ -1,5 +1,5 @@
 use Rattle.std.proofs.Common.{◌≡◌, Some, sym, ◌∙◌, rules}
-use Rattle.pg_tool.specs.Verdicts.{breach_name}
+use Rattle.pg_tool.specs.Rule.{breach_name}
 use Rattle.pg_tool.proofs.RunLemmas.{breach-within, rule-kept, rule-broken}
 use Rattle.pg_tool.proofs.run.rule.Goals as goal
 

@@ -1,4 +1,4 @@
-use Rattle.std.proofs.Common.{◌≡◌, ℕ, ◌+◌, ◌≤◌, length, refl, sym, ◌∙◌, ap, subst, arith}
+use Rattle.std.proofs.Common.{◌≡◌, ℕ, length, refl, ◌∙◌, ap, subst, arith}
 use Rattle.pg_hw.specs.Machinery.{Machinery, poked_at}
 use Rattle.pg_hw.specs.Serving.{blank}
 use Rattle.pg_monitor.specs.Guests.{kept_cells}
@@ -32,7 +32,8 @@ returns-clause-direct g c =
     let after = ap (λ t. t.untrapped) c.counts.ensures in
     let before = ap (λ t. t.untrapped) c.counts-before.ensures in
     let same = ap (λ (m : Machinery). m.tally.untrapped) c.in-Ok.ensures.installed in
-    omega (arith, after, before, same, c.in-Ok-start.ensures.unstepped.untrapped, turns.tally.untrapped, c.requires.counts.untrapped, direct-most p.machine.desc p.image p.steps, p.can_run.counted)
+    let ready = ap (λ (m : Machinery). m.tally.untrapped) c.in-Ok-start.ensures.made in
+    omega (arith, after, before, same, ready, turns.tally.untrapped, c.requires.counts.untrapped, direct-most p.machine.desc p.image p.steps, p.can_run.counted)
 
 pub returns-clause-ran : goal.returns-clause-ran
 returns-clause-ran g c =

@@ -1,6 +1,5 @@
-use Rattle.std.proofs.Common.{◌≡◌, ◌+◌, ◌≤◌, ◌∷◌, [], length, sym, ◌∙◌, ap, subst, arith}
+use Rattle.std.proofs.Common.{◌≡◌, ◌∷◌, [], length, sym, ◌∙◌, ap, subst, arith}
 use Rattle.pg_hw.specs.Machinery.{Machinery, poked_at}
-use Rattle.pg_hw.specs.Serving.{blank}
 use Rattle.pg_meaning.specs.States.{IsState}
 use Rattle.pg_monitor.specs.Guests.{kept_cells}
 use Rattle.pg_monitor.specs.Loading.{with_words}
@@ -11,7 +10,7 @@ use Rattle.pg_valid.specs.declared.machine.Machine.{Machine}
 use Rattle.pg_word.specs.Psw.{packed, power_on_psw}
 use Rattle.pg_tool.specs.Plans.{first_guest}
 use Rattle.pg_tool.proofs.BareLemmas.{blank-length}
-use Rattle.pg_tool.proofs.RunLemmas.{blank-state, guest-first, words-first, room-first, states-first, unstepped-ready}
+use Rattle.pg_tool.proofs.RunLemmas.{blank-state, guest-first, words-first, room-first, states-first}
 use Rattle.pg_tool.proofs.run.start.Goals as goal
 
 pub of-requires : goal.of-requires
@@ -60,12 +59,6 @@ returns-in-Ok-load-clause-made g c =
     words-first (desc_of c.in-Ok.monitor).size c.in-Ok.monitor.guests p.image (g.H.Hardware.machinery c.new.new.hw) (g.H.Hardware.machinery c.load.new.hw) c.in-Ok.ensures.guests
     (omega (arith, p.can_run.least, p.can_run.whole, c.args.plan.now.room, wide)) c.in-Ok-load.ensures.loaded
     ∙ ap (λ (m : Machinery). with_words kept_cells p.image m) taken
-
-pub returns-in-Ok-load-clause-unstepped : goal.returns-in-Ok-load-clause-unstepped
-returns-in-Ok-load-clause-unstepped g c =
-    let d = c.args.plan.now.bare.machine.desc in
-    unstepped-ready c.args.plan.now.bare.image (packed d.address (power_on_psw d.size)) (g.H.Hardware.machinery c.args.hw.now) (g.H.Hardware.machinery c.load.new.hw)
-    (returns-in-Ok-load-clause-made g c)
 
 pub unreachable-requires : goal.unreachable-requires
 unreachable-requires g c =

@@ -1,4 +1,4 @@
--- The verdict on a description, by the plain rule.
+-- The plain rule on a description, by which `run` goes.
 use Rattle.std.specs.Prelude.{◌≡◌, ℕ, List, slice_get, option_and_then, Option, None, Some, Result, Ok, Err}
 use Rattle.pg_ast.specs.declared.tree.Desc.{Desc}
 use Rattle.pg_valid.specs.Twice.{instr_names}

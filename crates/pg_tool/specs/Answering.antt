@@ -1,5 +1,5 @@
--- What the functions for the steps of a command answer, and what they leave of the files.
-use Rattle.std.specs.Prelude.{◌≡◌, ℕ, ◌≤◌, Result, Ok, Err, Option, List}
+-- What the functions of a command answer: a step of it, and what stops it.
+use Rattle.std.specs.Prelude.{◌≡◌, ℕ, ◌≤◌, Result, Ok, Err, Option}
 use Rattle.pg_edge.specs.Count.{Rose}
 use Rattle.pg_edge.specs.Shelf.{Files}
 use Rattle.pg_edge.specs.declared.shelf.LoadFault.{LoadFault}
@@ -13,10 +13,10 @@ use Rattle.pg_tool.specs.declared.refusal.Stop.{Stop}
 use Rattle.pg_tool.specs.declared.refusal.Stop.TheVariants as stop
 use Rattle.pg_tool.specs.declared.status.Status.{Status}
 use Rattle.pg_tool.specs.declared.status.Status.TheVariants as status
-use Rattle.pg_tool.specs.Classes.{Class, Ended, Unwritten, Unread, Starved, class_of}
-use Rattle.pg_tool.specs.Refusals.{refusal_status, refusal_told}
+use Rattle.pg_tool.specs.Classes.{Class, Ended, Unwritten, Unread, OutOfMemory, class_of}
+use Rattle.pg_tool.specs.Refusals.{refusal_status, refusal_said}
 use Rattle.pg_tool.specs.Steps.{Step, Came, Refused, Misread}
-use Rattle.pg_tool.specs.World.{Output, Tells, TellsFront}
+use Rattle.pg_tool.specs.World.{Output, Says, SaysFront}
 
 -- why a command goes no further whose file was not loaded: a file that is too long is told in this line
 abbrev pub stop_as : LoadFault → RefusalLine → Stop
@@ -43,20 +43,20 @@ pub record OnlyReads (files_were files : Option Files) (saves_were saves reads_w
   pub same_saves : saves ≡ saves_were
   pub later : reads_were ≤ reads
 
--- a refusal that was told whole
-pub record ToldWhole (why : Refusal) (old new : Output) (given : Status) : Type 0 where
+-- a refusal whose text was put whole
+pub record SaidWhole (why : Refusal) (old new : Output) (given : Status) : Type 0 where
   pub status : given ≡ refusal_status why
-  pub told : Tells (refusal_told why) old new
+  pub said : Says (refusal_said why) old new
 
 -- what is put of a refusal, by the class of the status
-abbrev pub TellsRefusal : Refusal → Output → Output → Status → Class → Type 0
-TellsRefusal why old new given Ended = ToldWhole why old new given
-TellsRefusal why old new given Unwritten = TellsFront (refusal_told why) old new
-TellsRefusal why old new given Unread = ⊥
-TellsRefusal why old new given Starved = ⊥
+abbrev pub SaysRefusal : Refusal → Output → Output → Status → Class → Type 0
+SaysRefusal why old new given Ended = SaidWhole why old new given
+SaysRefusal why old new given Unwritten = SaysFront (refusal_said why) old new
+SaysRefusal why old new given Unread = ⊥
+SaysRefusal why old new given OutOfMemory = ⊥
 
 -- how a command stops before its work, by why it does
 abbrev pub Stops : Stop → Output → Output → Status → Type 0
-Stops (stop.Refused why) old new given = TellsRefusal why old new given (class_of given)
+Stops (stop.Refused why) old new given = SaysRefusal why old new given (class_of given)
 Stops stop.ReadFault old new given = (given ≡ status.ReadFault) × (new ≡ old)
 Stops stop.Memory old new given = (given ≡ status.Memory) × (new ≡ old)
