@@ -6,7 +6,7 @@ ghost use Rattle.pg_valid.specs.Limits.{all_of, stmt_tally};
 ghost use Rattle.pg_valid.specs.Widths.{fare_of};
 ghost use Rattle.pg_valid.specs.Typed.{setting_at};
 ghost use Rattle.pg_interp.specs.EntryView.{entry_as};
-ghost use Rattle.pg_interp.specs.Runs.{run_as, Does, MayDo, MayDoAll};
+ghost use Rattle.pg_interp.specs.Runs.{run_shown, Does, MayDo, MayDoAll};
 
 use crate::cells::Cells;
 use crate::entry::Entry;
@@ -17,7 +17,7 @@ use pg_ast::Stmt;
 #[cycle(deeds)]
 fn deed<'m, C: Cells>(at: &Entry<'_>, cells: &C, stmt: &'m Stmt, run: &mut Run<'m>) -> Course
     requires { MayDo (entry_as at.now) (C.window cells.now) run.old (stmt_tally stmt.now) (fare_of (setting_at (entry_as at.now)) stmt.now) }
-    ensures { Does at.now.w (C.window cells.now) run.old run.new result (deed_of stmt.now (entry_as at.now) (run_as (C.window cells.now) run.old)) (stmt_tally stmt.now) }
+    ensures { Does at.now.w (C.window cells.now) run.old run.new result (deed_of stmt.now (entry_as at.now) (run_shown (C.window cells.now) run.old)) (stmt_tally stmt.now) }
 {
     match stmt {
         Stmt::Let(name, e) => {
@@ -66,7 +66,7 @@ fn deed<'m, C: Cells>(at: &Entry<'_>, cells: &C, stmt: &'m Stmt, run: &mut Run<'
 #[cycle(deeds)]
 fn block<'m, C: Cells>(at: &Entry<'_>, cells: &C, stmts: &'m [Stmt], run: &mut Run<'m>) -> Course
     requires { MayDoAll (entry_as at.now) (C.window cells.now) run.old stmts.now }
-    ensures { Does at.now.w (C.window cells.now) run.old run.new result (block_deed (map deed_of stmts.now) (entry_as at.now) (run_as (C.window cells.now) run.old)) (all_of (map stmt_tally stmts.now)) }
+    ensures { Does at.now.w (C.window cells.now) run.old run.new result (block_deed (map deed_of stmts.now) (entry_as at.now) (run_shown (C.window cells.now) run.old)) (all_of (map stmt_tally stmts.now)) }
 {
     let outer = run.lets.len();
     match in_order(at, cells, stmts, run) {
@@ -88,7 +88,7 @@ pub fn in_order<'m, C: Cells>(
     run: &mut Run<'m>,
 ) -> Course
     requires { MayDoAll (entry_as at.now) (C.window cells.now) run.old stmts.now }
-    ensures { Does at.now.w (C.window cells.now) run.old run.new result (in_order (map deed_of stmts.now) (entry_as at.now) (run_as (C.window cells.now) run.old)) (all_of (map stmt_tally stmts.now)) }
+    ensures { Does at.now.w (C.window cells.now) run.old run.new result (in_order (map deed_of stmts.now) (entry_as at.now) (run_shown (C.window cells.now) run.old)) (all_of (map stmt_tally stmts.now)) }
 {
     for stmt in stmts {
         match deed(at, cells, stmt, run) {

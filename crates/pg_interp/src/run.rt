@@ -9,7 +9,7 @@ ghost use Rattle.pg_interp.specs.declared.numbers.Number.{Number as Numbers};
 ghost use Rattle.pg_interp.specs.Writes.{written, AreWrites};
 ghost use Rattle.pg_interp.specs.Numbers.{numbers_as, IsReady, IsTyped, OnNumber};
 ghost use Rattle.pg_interp.specs.EntryView.{entry_as};
-ghost use Rattle.pg_interp.specs.Runs.{run_as, course_as, Grows, Assigns};
+ghost use Rattle.pg_interp.specs.Runs.{run_shown, course_as, Grows, Assigns};
 
 use crate::cells::Cells;
 use crate::effect::Write;
@@ -57,7 +57,7 @@ pub fn number<C: Cells>(at: &Entry<'_>, cells: &C, run: &Run<'_>, expr: &Expr) -
 /// A let, visible from the next statement on.
 pub fn bind<'m>(run: &mut Run<'m>, name: &'m [u8], number: Option<Number>) -> Course
     requires { length run.old.lets < most_lets }
-    ensures is { (window : List ℕ) → course_as result (run_as window run.new) ≡ let_deed (run_as window run.old) name.now (numbers_as number) }
+    ensures is { (window : List ℕ) → course_as result (run_shown window run.new) ≡ let_deed (run_shown window run.old) name.now (numbers_as number) }
     ensures writes { run.new.writes ≡ run.old.writes }
     ensures kept { Grows run.old.lets run.new.lets }
     ensures lets { length run.new.lets ≤ length run.old.lets + 1 }
@@ -74,7 +74,7 @@ pub fn bind<'m>(run: &mut Run<'m>, name: &'m [u8], number: Option<Number>) -> Co
 /// A store of a cell at an address; a memory trap where the window ends before it.
 fn keep<C: Cells>(cells: &C, run: &mut Run<'_>, at: u32, cell: u64) -> Course
     requires { length run.old.writes.items < most_accesses }
-    ensures is { course_as result (run_as (C.window cells.now) run.new) ≡ store_deed (run_as (C.window cells.now) run.old) at cell }
+    ensures is { course_as result (run_shown (C.window cells.now) run.new) ≡ store_deed (run_shown (C.window cells.now) run.old) at cell }
     ensures lets { run.new.lets ≡ run.old.lets }
     ensures writes { length run.new.writes.items ≤ length run.old.writes.items + 1 }
     ensures sound { (bits : ℕ) → cell < 2 ^ bits → AreWrites bits (length (C.window cells.now)) run.old.writes.items → AreWrites bits (length (C.window cells.now)) run.new.writes.items }
@@ -97,7 +97,7 @@ pub fn store<C: Cells>(
 ) -> Course
     requires room { length run.old.writes.items < most_accesses }
     requires address { (p : Numbers) → address ≡ Some p → p.value < 2 ^ 32 }
-    ensures is { course_as result (run_as (C.window cells.now) run.new) ≡ with_bits (numbers_as address) (λ address. with_bits (numbers_as cell) (λ cell. store_deed (run_as (C.window cells.now) run.old) address cell)) }
+    ensures is { course_as result (run_shown (C.window cells.now) run.new) ≡ with_bits (numbers_as address) (λ address. with_bits (numbers_as cell) (λ cell. store_deed (run_shown (C.window cells.now) run.old) address cell)) }
     ensures lets { run.new.lets ≡ run.old.lets }
     ensures writes { length run.new.writes.items ≤ length run.old.writes.items + 1 }
     ensures sound { (bits : ℕ) → ((p : Numbers) → cell ≡ Some p → p.value < 2 ^ bits) → AreWrites bits (length (C.window cells.now)) run.old.writes.items → AreWrites bits (length (C.window cells.now)) run.new.writes.items }
