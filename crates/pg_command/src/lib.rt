@@ -11,10 +11,11 @@
 //! rules and not tested again, so the only other answer is that there was no memory.
 //!
 //! A command is a module of its own, as [`print`](PrintWords): what it adds to the line, and what its arguments ask for. A
-//! command more is such a module in the code, in the definitions and among the laws, a variant of [`Request`] and of
-//! `Asked`, and a line in each place where commands are told apart: `line.rt`; `commands` (`specs/Line.antt`), `asked_of`
-//! (`specs/Asked.antt`), `HoldsOne` (`specs/Reads.antt`); `all_hold` (`proofs/LineLaws.antt`) and `holds_request`
-//! (`proofs/AnswerLaws.antt`).
+//! command more is such a module in the code, in the definitions and among the laws, each named in its `Lib.antt`; a variant
+//! of [`Request`] and of `Asked`; and a line in each place where commands are told apart: `command_line` and `asked`
+//! (`line.rt`); `commands` (`specs/Line.antt`), `asked_as`, `IsBounded` and `asked_of` (`specs/Asked.antt`), `HoldsOne`
+//! (`specs/Reads.antt`); `all_hold` (`proofs/LineLaws.antt`) and `holds_request` (`proofs/AnswerLaws.antt`). Where they are
+//! joined as a chain, the row that was the last one changes too.
 #![tactic(auto)]
 
 ghost use Rattle.std.specs.Prelude.{◌≡◌, ◌≢◌, ◌↔◌, IfOk, IsErrOf, Some, None, [], map, string_bytes};

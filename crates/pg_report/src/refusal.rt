@@ -12,6 +12,7 @@ ghost use Rattle.pg_report.specs.Texts.{limit_number, description_text, image_te
 
 use crate::line::{DescriptionLine, ImageLine, RefusalLine};
 use crate::push::{push_at, push_name, push_pair};
+use crate::text::put_text;
 use pg_edge::{Failed, Sink};
 use pg_image::{Line, push};
 use pg_valid::Limit;
@@ -31,13 +32,15 @@ pub fn put_refusal<S: Sink>(out: &mut S, line: &RefusalLine) -> Result<(), Faile
 ///
 /// # Errors
 /// `Failed` where not all of them went through. A front of them may have.
+#[tactic(auto, unfolding(crate::specs::Texts::usage_text))]
 pub fn put_usage<S: Sink>(out: &mut S) -> Result<(), Failed>
     ensures { Puts (S.written out.old) (S.written out.new) (S.faults out.old) (S.faults out.new)
         usage_text result }
 {
-    out.put(b"pgv bare DESC IMAGE --grant G --steps N\n")?;
-    out.put(b"pgv run DESC IMAGE --grant G --steps N\n")?;
-    out.put(b"pgv print DESC\n")
+    put_text(
+        out,
+        b"pgv bare DESC IMAGE --grant G --steps N\npgv run DESC IMAGE --grant G --steps N\npgv print DESC\n",
+    )
 }
 
 /// The line of a refusal, with its LF.

@@ -110,7 +110,7 @@ fn carry<F: Shelf, S: Sink, H: Hardware>(
     match request {
         Request::Bare(words) => carry_bare(alloc, words, shelf, out, hw),
         Request::Run(words) => carry_run(alloc, words, shelf, out, hw),
-        Request::Print(words) => carry_print(alloc, words, shelf, out),
+        Request::Print(words) => carry_print(alloc, words, shelf, out, hw),
     }
 }
 

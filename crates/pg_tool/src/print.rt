@@ -8,7 +8,6 @@ ghost use Rattle.pg_command.specs.Asked.{print_as};
 ghost use Rattle.pg_tool.specs.Commands.{Carries};
 ghost use Rattle.pg_tool.specs.Answering.{Comes, OnlyReads};
 ghost use Rattle.pg_tool.specs.Print.{PrintDue, print_command};
-ghost use Rattle.pg_hw.specs.Machinery.{Machinery};
 ghost use Rattle.pg_tool.specs.World.{around, output};
 
 mod plan;
@@ -19,21 +18,23 @@ use crate::status::Status;
 use crate::stop::stopped;
 use pg_command::PrintWords;
 use pg_edge::{Shelf, Sink};
+use pg_hw::Hardware;
 use pg_print::print;
 use pg_report::put_text;
 use plan::PrintPlan;
 use std::alloc::Global;
 
-/// Carries out `print`. The hardware is not used.
-pub(crate) fn carry_print<F: Shelf, S: Sink>(
+/// Carries out `print`. The hardware is lent, and stays as it is.
+pub(crate) fn carry_print<F: Shelf, S: Sink, H: Hardware>(
     alloc: Global,
     words: &PrintWords,
     shelf: &mut F,
     out: &mut S,
+    hw: &H,
 ) -> Status
-    ensures carries { (hw : Machinery) → Carries (print_command (print_as words.now))
-        (around (F.files shelf.old) (F.reads shelf.old) (F.saves shelf.old) (output (S.written out.old) (S.faults out.old)) hw)
-        (around (F.files shelf.new) (F.reads shelf.new) (F.saves shelf.new) (output (S.written out.new) (S.faults out.new)) hw) result }
+    ensures carries { Carries (print_command (print_as words.now))
+        (around (F.files shelf.old) (F.reads shelf.old) (F.saves shelf.old) (output (S.written out.old) (S.faults out.old)) (H.machinery hw.now))
+        (around (F.files shelf.new) (F.reads shelf.new) (F.saves shelf.new) (output (S.written out.new) (S.faults out.new)) (H.machinery hw.now)) result }
     ensures files { F.files shelf.new ≡ F.files shelf.old }
     ensures reads { F.reads shelf.old ≤ F.reads shelf.new }
     ensures saves { F.saves shelf.new ≡ F.saves shelf.old }
