@@ -1,19 +1,20 @@
 -- What the words ask for, by whether the line has a fault at them.
-use Rattle.std.proofs.Common.{◌≡◌, ◌≢◌, ◌∙◌, ◌⊎◌, ap, sym, subst, refl, Bool, true, false, true≢false, List, [], ◌∷◌, Option, None, inl, inr}
-use Rattle.std.specs.Prelude.{◌↔◌, Err, IsErrOf, Ok, Result, Some, option_and_then}
+use Rattle.std.proofs.Common.{◌≡◌, ◌≢◌, ◌∙◌, ◌⊎◌, ap, sym, subst, refl, Bool, true, false, true≢false, List, [], ◌∷◌, Option, None, cond, inl, inr}
+use Rattle.std.specs.Prelude.{◌↔◌, Err, IsErrOf, Ok, Result}
 use Rattle.std.specs.Option.{is_some}
+use Rattle.std.specs.Str.{bytes_eq}
 use Rattle.clap.specs.Walk.{Row, Text}
 use Rattle.clap.specs.Simple.{subcommand_of}
 use Rattle.clap.specs.Kinds.{IsAmong, Kinds}
 use Rattle.clap.specs.Faults.{fault_of}
 use Rattle.clap.specs.declared.error.kind.ErrorKind.{ErrorKind}
 use Rattle.clap.specs.declared.error.kind.ErrorKind.TheVariants.{OutOfMemory}
-use Rattle.pg_command.specs.Asked.{Asked, AsksBare, AsksPrint, AsksRun, asked_of, named_as, print_of, request_of, run_of, unless_fault}
-use Rattle.pg_command.specs.Reads.{HoldsCommand, HoldsOne}
+use Rattle.pg_command.specs.Asked.{asked_of, named_as, request_of, unless_fault}
+use Rattle.pg_command.specs.Entries.{Entry}
+use Rattle.pg_command.specs.Reads.{HoldsCommand, HoldsOne, WhereTrue}
+use Rattle.pg_command.proofs.CommandLaws.{AllAsk, all_ask}
 use Rattle.pg_command.proofs.LineLaws.{line_holds}
-use Rattle.pg_command.proofs.PrintLaws.{print_asks}
-use Rattle.pg_command.proofs.RunningLaws.{run_asks}
-use Rattle.pg_command.specs.Line.{line}
+use Rattle.pg_command.specs.Line.{commands, line}
 use Rattle.pg_command.specs.declared.ask.Request.{Request}
 use Rattle.pg_command.specs.declared.ask.Fault.{Fault}
 use Rattle.pg_command.specs.declared.ask.Fault.TheVariants.{Memory, Refused}
@@ -32,20 +33,19 @@ pub asks_nothing : (words : List Text) → fault_of line words ≢ [] → reques
 unfolding request_of
 asks_nothing words some = hidden (fault_of line words) (named_as (subcommand_of line words)) some
 
--- a request made of what the arguments of a command give
-request_made : {X : Type 0} (make : X → Asked) (given : Option X) → is_some given ≡ true → is_some (option_and_then (λ x. Some (make x)) given) ≡ true
-request_made make None e = e
-request_made make (Some x) e = refl
+one_asks : (es : List Entry) (name : Text) (rows : List Row) → AllAsk es → HoldsOne es name rows → is_some (asked_of es name rows) ≡ true
+one_asks [] name rows each holds = absurd holds
+one_asks (e ∷ more) name rows each holds = go (bytes_eq name e.shape.name) holds (one_asks more name rows each.1)
+  where
+    go : (b : Bool) → WhereTrue b (e.Holds rows) (HoldsOne more name rows) → (HoldsOne more name rows → is_some (asked_of more name rows) ≡ true)
+        → is_some (cond b (e.asks rows) (asked_of more name rows)) ≡ true
+    go true h rest = each.0 rows h
+    go false h rest = rest h
 
 -- what a command that was named holds is something to ask for
 holds_request : (named : Option (Text × List Row)) → HoldsCommand named → is_some (named_as named) ≡ true
 holds_request named held =
-    ap (λ (o : Option (Text × List Row)). is_some (named_as o)) held.is_named ∙ one held.name held.rows held.holds
-  where
-    one : (name : Text) (rows : List Row) → HoldsOne name rows → is_some (asked_of name rows) ≡ true
-    one name rows (inl h) = ap (λ (word : Text). is_some (asked_of word rows)) h.0 ∙ request_made AsksBare (run_of rows) (run_asks rows h.1)
-    one name rows (inr (inl h)) = ap (λ (word : Text). is_some (asked_of word rows)) h.0 ∙ request_made AsksRun (run_of rows) (run_asks rows h.1)
-    one name rows (inr (inr h)) = ap (λ (word : Text). is_some (asked_of word rows)) h.0 ∙ request_made AsksPrint (print_of rows) (print_asks rows h.1)
+    ap (λ (o : Option (Text × List Row)). is_some (named_as o)) held.is_named ∙ one_asks commands held.name held.rows all_ask held.holds
 
 -- nothing is asked for exactly where the line has a fault
 pub nothing_at_fault : (words : List Text) → (request_of words ≡ None) ↔ (fault_of line words ≢ [])

@@ -6,3 +6,4 @@ mod PrintLaws
 mod RowLaws
 mod RunningLaws
 mod WalkLaws
+mod CommandLaws

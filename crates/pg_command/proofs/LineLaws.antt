@@ -1,5 +1,5 @@
 -- What a command of the line holds where its words have no fault.
-use Rattle.std.proofs.Common.{◌≡◌, ◌∷◌, sym, refl, cond, Bool, true, false, true≢false, List, [], Option, Some, None, codes, inl, inr}
+use Rattle.std.proofs.Common.{◌≡◌, ◌∷◌, sym, refl, cond, Bool, true, false, true≢false, List, [], Option, Some, None}
 use Rattle.std.specs.Prelude.{find, option_map}
 use Rattle.std.specs.Option.{is_some, option_map_or}
 use Rattle.clap.specs.Walk.{Text, answers_to, nothing_held, rows_after, stop_after}
@@ -7,10 +7,9 @@ use Rattle.clap.specs.Simple.{App, Shape, argument_words, built, entered, is_sim
 use Rattle.clap.specs.Faults.{entered_fault, fault_of, is_simple_and_free, level_fault}
 use Rattle.clap.proofs.OnLiterals.{clap_on_literals}
 use Rattle.pg_command.specs.Line.{line}
-use Rattle.pg_command.specs.Reads.{HoldsCommand, HoldsOne}
+use Rattle.pg_command.specs.Reads.{HoldsCommand}
 use Rattle.pg_command.proofs.LeafLaws.{command_met}
-use Rattle.pg_command.proofs.PrintLaws.{print_holds}
-use Rattle.pg_command.proofs.RunningLaws.{running_holds}
+use Rattle.pg_command.proofs.CommandLaws.{EachHolds, all_hold}
 
 -- the line is one of which clap's model gives the matches and the faults
 pub line_simple : is_simple_and_free line ≡ true
@@ -22,18 +21,6 @@ unfolding clap_on_literals
 line_plain = refl
 
 -- ---- the whole line
-
--- each of the commands holds what it wants where a level of the parse has no fault
-abbrev EachHolds : List Shape → Type 0
-EachHolds [] = Unit {0}
-EachHolds (s ∷ more) =
-    ((words : List Text) → level_fault s [] nothing_held words false [] ≡ [] → HoldsOne s.name (rows_after s.rules [] words)) × EachHolds more
-
-all_hold : EachHolds (built line).subs
-all_hold = (
-  (λ words none. inl (refl, running_holds (codes "bare") words none)),
-  ((λ words none. inr (inl (refl, running_holds (codes "run") words none))), ((λ words none. inr (inr (refl, print_holds words none))), tt)),
-)
 
 -- the command that a test finds
 found_holds : (subs : List Shape) (test : Shape → Bool) (words : List Text) → EachHolds subs

@@ -8,7 +8,8 @@ use Rattle.clap.specs.Faults.{level_fault}
 use Rattle.pg_command.specs.Arguments.{place}
 use Rattle.pg_command.specs.Line.{program}
 use Rattle.pg_command.specs.Print as spec
-use Rattle.pg_command.specs.Print.{AskedPrint, HoldsPrint, print_of}
+use Rattle.pg_command.specs.Print.{HoldsPrint, print_of}
+use Rattle.pg_command.specs.declared.print.PrintWords.{PrintWords}
 use Rattle.pg_command.proofs.RowLaws.{AreSingle}
 use Rattle.pg_command.proofs.LeafLaws.{has_text, leaf_given}
 
@@ -16,7 +17,7 @@ abbrev desc : Rule
 desc = with_index 1 (filled (place (codes "DESC")))
 
 abbrev built_print : Shape
-built_print = built_leaf (inherited program spec.print)
+built_print = built_leaf (inherited program spec.print.shape)
 
 print_single : AreSingle built_print.rules built_print.rules
 print_single = (record { own = refl; action = refl; range = refl; defaults = refl }, tt)
@@ -29,6 +30,6 @@ print_holds words none =
 pub print_asks : (rows : List Row) → HoldsPrint rows → is_some (print_of rows) ≡ true
 print_asks rows h = go (first_of (codes "DESC") rows) h.desc
   where
-    go : (desc : Option Text) → is_some desc ≡ true → is_some {T = AskedPrint} (option_and_then (λ (d : Text). Some (record { desc = d })) desc) ≡ true
+    go : (desc : Option Text) → is_some desc ≡ true → is_some {T = PrintWords} (option_and_then (λ (d : Text). Some (record { desc = d })) desc) ≡ true
     go None d = d
     go (Some x) d = refl

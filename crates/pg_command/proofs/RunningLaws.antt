@@ -10,7 +10,8 @@ use Rattle.clap.specs.declared.builder.value_parser.ValueParser.TheVariants as p
 use Rattle.pg_command.specs.Arguments.{place, with_number}
 use Rattle.pg_command.specs.Line.{program}
 use Rattle.pg_command.specs.Running as spec
-use Rattle.pg_command.specs.Running.{AskedRun, HoldsRun, run_of}
+use Rattle.pg_command.specs.Running.{HoldsRun, run_of}
+use Rattle.pg_command.specs.declared.running.RunWords.{RunWords}
 use Rattle.pg_command.proofs.RowLaws.{AreSingle}
 use Rattle.pg_command.proofs.LeafLaws.{has_text, leaf_given}
 use Rattle.pg_command.proofs.NumberLaws.{signed_number, unsigned_number}
@@ -62,7 +63,7 @@ pub run_asks : (rows : List Row) → HoldsRun rows → is_some (run_of rows) ≡
 run_asks rows h = go (first_of (codes "DESC") rows) (first_of (codes "IMAGE") rows) h.desc h.image
   where
     go : (desc image : Option Text) → is_some desc ≡ true → is_some image ≡ true
-        → is_some {T = AskedRun} (option_and_then (λ (d : Text). option_and_then (λ (i : Text). with_number (codes "grant") rows (λ g. with_number (codes "steps") rows (λ n.
+        → is_some {T = RunWords} (option_and_then (λ (d : Text). option_and_then (λ (i : Text). with_number (codes "grant") rows (λ g. with_number (codes "steps") rows (λ n.
         Some (record { desc = d; image = i; grant = g; steps = n })))) image) desc) ≡ true
     go None image d i = d
     go (Some x) None d i = i

@@ -1,6 +1,9 @@
 pub mod Arguments
 pub mod Asked
+pub mod Bare
+pub mod Entries
 pub mod Line
 pub mod Print
 pub mod Reads
+pub mod Run
 pub mod Running

@@ -1,12 +1,18 @@
 -- The command line of the program, as plain data: its commands, and the whole line.
-use Rattle.std.specs.Prelude.{List, [], ◌∷◌, true, false, codes}
+use Rattle.std.specs.Prelude.{List, [], ◌∷◌, map, true, false, codes}
 use Rattle.clap.specs.Simple.{App, Shape, new_shape}
-use Rattle.pg_command.specs.Running.{running}
+use Rattle.pg_command.specs.Entries.{Entry}
+use Rattle.pg_command.specs.Bare.{bare}
+use Rattle.pg_command.specs.Run.{run}
 use Rattle.pg_command.specs.Print.{print}
 
--- the commands: `bare` runs on a bare machine, `run` as a guest under a monitor
-abbrev pub commands : List Shape
-commands = running (codes "bare") ∷ running (codes "run") ∷ print ∷ []
+-- the commands, a row for each
+abbrev pub commands : List Entry
+commands =
+    bare
+    ∷ run
+    ∷ print
+    ∷ []
 
 -- the program: a command has to be named, and there is no word for help or the version
 abbrev pub program : Shape
@@ -20,4 +26,4 @@ program = record (new_shape (codes "pgv")) {
 
 -- the whole command line
 abbrev pub line : App
-line = record { top = program; subs = commands }
+line = record { top = program; subs = map (λ e. e.shape) commands }

@@ -1,25 +1,23 @@
 -- The command `print DESC`.
-use Rattle.std.specs.Prelude.{List, [], ◌∷◌, Option, Some, codes, string_bytes}
-use Rattle.clap.specs.Walk.{Row, Text}
-use Rattle.clap.specs.Simple.{Shape, new_shape}
+use Rattle.std.specs.Prelude.{List, [], ◌∷◌, Option, Some, codes, option_and_then}
+use Rattle.clap.specs.Walk.{Row}
+use Rattle.clap.specs.Simple.{new_shape}
 use Rattle.pg_command.specs.Arguments.{HasText, place, with_text}
+use Rattle.pg_command.specs.Entries.{Entry}
 use Rattle.pg_command.specs.declared.print.PrintWords.{PrintWords}
-
-abbrev pub print : Shape
-print = record (new_shape (codes "print")) { rules = place (codes "DESC") ∷ [] }
-
--- a description by its file's name
-pub record AskedPrint : Type 0 where
-  pub desc : Text
-
--- what the code answers
-abbrev pub print_as : PrintWords → AskedPrint
-print_as p = record { desc = string_bytes p.desc }
+use Rattle.pg_command.specs.declared.ask.Request.TheVariants as request
 
 -- what the arguments ask for
-abbrev pub print_of : List Row → Option AskedPrint
+abbrev pub print_of : List Row → Option PrintWords
 print_of rows = with_text (codes "DESC") rows (λ desc. Some (record { desc = desc }))
 
 -- what the arguments hold once their words were taken
 pub record HoldsPrint (rows : List Row) : Type 0 where
   pub desc : HasText (codes "DESC") rows
+
+abbrev pub print : Entry
+print = record {
+  shape = record (new_shape (codes "print")) { rules = place (codes "DESC") ∷ [] };
+  Holds = HoldsPrint;
+  asks = λ rows. option_and_then (λ words. Some (request.Print words)) (print_of rows);
+}

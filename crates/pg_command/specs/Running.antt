@@ -1,5 +1,5 @@
 -- The commands that run an image: `NAME DESC IMAGE --grant G --steps N`.
-use Rattle.std.specs.Prelude.{◌≤◌, ℕ, List, [], ◌∷◌, Option, Some, codes, pos, string_bytes}
+use Rattle.std.specs.Prelude.{List, [], ◌∷◌, Option, Some, codes, pos}
 use Rattle.clap.specs.Walk.{Row, Rule, Text}
 use Rattle.clap.specs.Simple.{Shape, new_shape}
 use Rattle.clap.specs.declared.builder.value_parser.ValueParser.TheVariants as parser
@@ -20,24 +20,8 @@ running name = record (new_shape name) {
   rules = place (codes "DESC") ∷ place (codes "IMAGE") ∷ grant ∷ steps ∷ [];
 }
 
--- a description and an image by their files' names, a grant of cells, and a number of steps
-pub record AskedRun : Type 0 where
-  pub desc : Text
-  pub image : Text
-  pub grant : ℕ
-  pub steps : ℕ
-
--- what the code answers
-abbrev pub run_as : RunWords → AskedRun
-run_as r = record {
-  desc = string_bytes r.desc;
-  image = string_bytes r.image;
-  grant = r.grant;
-  steps = r.steps;
-}
-
 -- what the arguments ask for
-abbrev pub run_of : List Row → Option AskedRun
+abbrev pub run_of : List Row → Option RunWords
 run_of rows = with_text (codes "DESC") rows (λ desc. with_text (codes "IMAGE") rows (λ image.
     with_number (codes "grant") rows (λ grant. with_number (codes "steps") rows (λ steps. Some (record {
       desc = desc;
@@ -45,10 +29,6 @@ run_of rows = with_text (codes "DESC") rows (λ desc. with_text (codes "IMAGE") 
       grant = grant;
       steps = steps;
     })))))
-
--- each number is one that the line takes
-abbrev pub IsBoundedRun : AskedRun → Type 0
-IsBoundedRun r = (2 ≤ r.grant) × (r.grant ≤ 1048575) × (r.steps ≤ 1000000)
 
 -- what the arguments hold once their words were taken
 pub record HoldsRun (rows : List Row) : Type 0 where

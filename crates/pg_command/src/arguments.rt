@@ -6,6 +6,7 @@ ghost use Rattle.std.specs.Prelude.{◌≡◌, IfOk, Some, false, string_bytes};
 ghost use Rattle.clap.specs.Words.{found_of, rows_of, rule_of, first_of};
 ghost use Rattle.pg_command.specs.Arguments as spec;
 
+use crate::values::FileName;
 use clap::builder::ValueParser;
 use clap::{Arg, ArgMatches};
 use std::alloc::{AllocError, Global};
@@ -29,8 +30,20 @@ pub(crate) fn number<'a>(alloc: Global, name: &'a str, numbers: ValueParser<'a>)
         .value_parser(numbers)
 }
 
+/// The name of a file that an argument gives.
+pub(crate) fn file_name(
+    alloc: Global,
+    matches: &ArgMatches<'_>,
+    id: &str,
+) -> Result<FileName, AllocError>
+    requires { spec.HasText id.now (rows_of (found_of matches.now)) }
+    ensures { IfOk result (λ name. first_of id.now (rows_of (found_of matches.now)) ≡ Some name) }
+{
+    Ok(FileName::new(text(alloc, matches, id)?))
+}
+
 /// The text of an argument.
-pub(crate) fn text(alloc: Global, matches: &ArgMatches<'_>, id: &str) -> Result<String, AllocError>
+fn text(alloc: Global, matches: &ArgMatches<'_>, id: &str) -> Result<String, AllocError>
     requires { spec.HasText id.now (rows_of (found_of matches.now)) }
     ensures { IfOk result (λ s. first_of id.now (rows_of (found_of matches.now)) ≡ Some (string_bytes s)) }
 {

@@ -1,6 +1,6 @@
 //! What a command line asks for, and why there is nothing that it asks for.
 //!
-//! A request owns its texts, so that it outlives the words that it was read from.
+//! Contracts see a request as plain data: the names in it as their bytes, and the numbers as what they are.
 use crate::print::PrintWords;
 use crate::running::RunWords;
 

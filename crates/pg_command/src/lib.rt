@@ -12,16 +12,14 @@
 //!
 //! A command is a module of its own, as [`print`](PrintWords): what it adds to the line, and what its arguments ask for. A
 //! command more is such a module in the code, in the definitions and among the laws, each named in its `Lib.antt`; a variant
-//! of [`Request`] and of `Asked`; and a line in each place where commands are told apart: `command_line` and `asked`
-//! (`line.rt`); `commands` (`specs/Line.antt`), `asked_as`, `IsBounded` and `asked_of` (`specs/Asked.antt`), `HoldsOne`
-//! (`specs/Reads.antt`); `all_hold` (`proofs/LineLaws.antt`) and `holds_request` (`proofs/AnswerLaws.antt`). Where they are
-//! joined as a chain, the row that was the last one changes too.
+//! of [`Request`]; and a line in each place where commands are told apart: `command_line` and `asked` (`line.rt`), `commands`
+//! (`specs/Line.antt`), and the two laws of each command (`proofs/CommandLaws.antt`).
 #![tactic(auto)]
 
 ghost use Rattle.std.specs.Prelude.{◌≡◌, ◌≢◌, ◌↔◌, IfOk, IsErrOf, Some, None, [], map, string_bytes};
 ghost use Rattle.clap.specs.Faults.{fault_of};
 ghost use Rattle.clap.specs.declared.error.kind.ErrorKind.TheVariants.{OutOfMemory};
-ghost use Rattle.pg_command.specs.Asked.{IsBounded, asked_as, request_of};
+ghost use Rattle.pg_command.specs.Asked.{request_of};
 ghost use Rattle.pg_command.specs.Line.{line};
 ghost use Rattle.pg_command.specs.declared.ask.Fault.TheVariants.{Memory, Refused};
 
@@ -32,6 +30,7 @@ mod line;
 mod print;
 mod run;
 mod running;
+mod values;
 
 pub use ask::{Fault, Request};
 use clap::error::ErrorKind;
@@ -39,14 +38,14 @@ use line::{asked, command_line};
 pub use print::PrintWords;
 pub use running::RunWords;
 use std::alloc::Global;
+pub use values::{FileName, Grant, Steps};
 
 /// What the words ask for, of which the first is the program's name.
 ///
 /// # Errors
 /// `Refused` where the command line takes no such words, and `Memory` where there is no memory to read them.
 pub fn request(alloc: Global, words: &[String]) -> Result<Request, Fault>
-    ensures ok { IfOk result (λ r. request_of (map string_bytes words.now) ≡ Some (asked_as r)) }
-    ensures bounds { IfOk result (λ r. IsBounded (asked_as r)) }
+    ensures ok { IfOk result (λ r. request_of (map string_bytes words.now) ≡ Some r) }
     ensures refused { IsErrOf result Refused → request_of (map string_bytes words.now) ≡ None }
     // nothing is asked for exactly where the rules of `clap` refuse the line
     ensures faults { (request_of (map string_bytes words.now) ≡ None) ↔ (fault_of line (map string_bytes words.now) ≢ []) }

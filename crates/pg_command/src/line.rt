@@ -5,7 +5,7 @@
 ghost use Rattle.std.specs.Prelude.{◌≡◌, IfOk, Some};
 ghost use Rattle.clap.specs.Words.{app_of, subcommand_rows_of};
 ghost use Rattle.pg_command.specs.Line.{line};
-ghost use Rattle.pg_command.specs.Asked.{IsBounded, asked_as, named_as};
+ghost use Rattle.pg_command.specs.Asked.{named_as};
 ghost use Rattle.pg_command.specs.Reads.{HoldsCommand};
 
 use crate::ask::Request;
@@ -30,8 +30,7 @@ pub(crate) fn command_line<'a>(alloc: Global) -> Result<Command<'a>, AllocError>
 /// What the command that was named asks for.
 pub(crate) fn asked(alloc: Global, matches: &ArgMatches<'_>) -> Result<Request, AllocError>
     requires { HoldsCommand (subcommand_rows_of matches.now) }
-    ensures value { IfOk result (λ r. named_as (subcommand_rows_of matches.now) ≡ Some (asked_as r)) }
-    ensures bounds { IfOk result (λ r. IsBounded (asked_as r)) }
+    ensures { IfOk result (λ r. named_as (subcommand_rows_of matches.now) ≡ Some r) }
 {
     if let Some(found) = matches.subcommand_matches("bare") {
         return bare::asked(alloc, found);

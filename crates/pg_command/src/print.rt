@@ -4,10 +4,11 @@
 ghost use Rattle.std.specs.Prelude.{◌≡◌, IfOk, Some};
 ghost use Rattle.clap.specs.Words.{app_of, found_of, rows_of, with_subcommand};
 ghost use Rattle.pg_command.specs.Print as spec;
-ghost use Rattle.pg_command.specs.Asked.{IsBounded, asked_as, asks_print};
+ghost use Rattle.pg_command.specs.Print.{HoldsPrint};
 
-use crate::arguments::{place, text};
+use crate::arguments::{file_name, place};
 use crate::ask::Request;
+use crate::values::FileName;
 use clap::{ArgMatches, Command};
 use std::alloc::{AllocError, Global};
 
@@ -15,12 +16,12 @@ use std::alloc::{AllocError, Global};
 #[derive(Drop)]
 pub struct PrintWords {
     /// The name of the file with the description to print.
-    pub desc: String,
+    pub desc: FileName,
 }
 
 /// The program with this command.
 pub(crate) fn added<'a>(alloc: Global, program: Command<'a>) -> Result<Command<'a>, AllocError>
-    ensures { IfOk result (λ c. app_of c ≡ with_subcommand (app_of program.entry) spec.print) }
+    ensures { IfOk result (λ c. app_of c ≡ with_subcommand (app_of program.entry) spec.print.shape) }
 {
     let print = Command::new(alloc, "print").arg(place(alloc, "DESC"))?;
     program.subcommand(print)
@@ -28,10 +29,9 @@ pub(crate) fn added<'a>(alloc: Global, program: Command<'a>) -> Result<Command<'
 
 /// What its arguments ask for.
 pub(crate) fn asked(alloc: Global, matches: &ArgMatches<'_>) -> Result<Request, AllocError>
-    requires { spec.HoldsPrint (rows_of (found_of matches.now)) }
-    ensures value { IfOk result (λ r. asks_print (rows_of (found_of matches.now)) ≡ Some (asked_as r)) }
-    ensures bounds { IfOk result (λ r. IsBounded (asked_as r)) }
+    requires { HoldsPrint (rows_of (found_of matches.now)) }
+    ensures { IfOk result (λ r. spec.print.asks (rows_of (found_of matches.now)) ≡ Some r) }
 {
-    let desc = text(alloc, matches, "DESC")?;
+    let desc = file_name(alloc, matches, "DESC")?;
     Ok(Request::Print(PrintWords { desc }))
 }

@@ -1,10 +1,10 @@
 //! The command `run`: a run as a guest under a monitor.
 //!
 //! It takes the words that every command takes which runs an image.
-ghost use Rattle.std.specs.Prelude.{◌≡◌, IfOk, Some, codes};
+ghost use Rattle.std.specs.Prelude.{◌≡◌, IfOk, Some};
 ghost use Rattle.clap.specs.Words.{app_of, found_of, rows_of, with_subcommand};
-ghost use Rattle.pg_command.specs.Running.{HoldsRun, running};
-ghost use Rattle.pg_command.specs.Asked.{IsBounded, asked_as, asks_run};
+ghost use Rattle.pg_command.specs.Running.{HoldsRun};
+ghost use Rattle.pg_command.specs.Run as spec;
 
 use crate::ask::Request;
 use crate::running;
@@ -13,7 +13,7 @@ use std::alloc::{AllocError, Global};
 
 /// The program with this command.
 pub(crate) fn added<'a>(alloc: Global, program: Command<'a>) -> Result<Command<'a>, AllocError>
-    ensures { IfOk result (λ c. app_of c ≡ with_subcommand (app_of program.entry) (running (codes "run"))) }
+    ensures { IfOk result (λ c. app_of c ≡ with_subcommand (app_of program.entry) spec.run.shape) }
 {
     running::added(alloc, "run", program)
 }
@@ -21,8 +21,7 @@ pub(crate) fn added<'a>(alloc: Global, program: Command<'a>) -> Result<Command<'
 /// What its arguments ask for.
 pub(crate) fn asked(alloc: Global, matches: &ArgMatches<'_>) -> Result<Request, AllocError>
     requires { HoldsRun (rows_of (found_of matches.now)) }
-    ensures value { IfOk result (λ r. asks_run (rows_of (found_of matches.now)) ≡ Some (asked_as r)) }
-    ensures bounds { IfOk result (λ r. IsBounded (asked_as r)) }
+    ensures { IfOk result (λ r. spec.run.asks (rows_of (found_of matches.now)) ≡ Some r) }
 {
     Ok(Request::Run(running::words(alloc, matches)?))
 }

@@ -7,7 +7,8 @@ ghost use Rattle.clap.specs.Words.{app_of, found_of, rows_of, rule_of, one_of, w
 ghost use Rattle.pg_command.specs.Arguments.{HasNumber, number_of};
 ghost use Rattle.pg_command.specs.Running as spec;
 
-use crate::arguments::{number, place, text};
+use crate::arguments::{file_name, number, place};
+use crate::values::{FileName, Grant, Steps};
 use clap::{Arg, ArgMatches, Command, value_parser};
 use std::alloc::{AllocError, Global};
 
@@ -15,13 +16,13 @@ use std::alloc::{AllocError, Global};
 #[derive(Drop)]
 pub struct RunWords {
     /// The name of the file with the machine's description.
-    pub desc: String,
+    pub desc: FileName,
     /// The name of the file with the image.
-    pub image: String,
-    /// How many cells are granted, to the machine or to the guest: 2 to 1,048,575.
-    pub grant: u32,
-    /// How many steps are done, exactly: 0 to 1,000,000.
-    pub steps: u64,
+    pub image: FileName,
+    /// How many cells are granted, to the machine or to the guest.
+    pub grant: Grant,
+    /// How many steps are done.
+    pub steps: Steps,
 }
 
 /// The program with the command of this name.
@@ -59,13 +60,12 @@ fn steps_rule<'a>(alloc: Global) -> Arg<'a>
 /// The words of the command.
 pub(crate) fn words(alloc: Global, matches: &ArgMatches<'_>) -> Result<RunWords, AllocError>
     requires { spec.HoldsRun (rows_of (found_of matches.now)) }
-    ensures value { IfOk result (λ r. spec.run_of (rows_of (found_of matches.now)) ≡ Some (spec.run_as r)) }
-    ensures bounds { IfOk result (λ r. spec.IsBoundedRun (spec.run_as r)) }
+    ensures { IfOk result (λ r. spec.run_of (rows_of (found_of matches.now)) ≡ Some r) }
 {
     let grant = grant(matches);
     let steps = steps(matches);
-    let desc = text(alloc, matches, "DESC")?;
-    let image = text(alloc, matches, "IMAGE")?;
+    let desc = file_name(alloc, matches, "DESC")?;
+    let image = file_name(alloc, matches, "IMAGE")?;
     Ok(RunWords {
         desc,
         image,
@@ -75,7 +75,15 @@ pub(crate) fn words(alloc: Global, matches: &ArgMatches<'_>) -> Result<RunWords,
 }
 
 /// How many cells are granted, to a machine or to a guest.
-fn grant(matches: &ArgMatches<'_>) -> u32
+fn grant(matches: &ArgMatches<'_>) -> Grant
+    requires { HasNumber (codes "grant") 2 1048575 (rows_of (found_of matches.now)) }
+    ensures { option_map number_of (one_of (codes "grant") (rows_of (found_of matches.now))) ≡ Some result }
+{
+    Grant::new(cells(matches))
+}
+
+/// The number of cells that are granted.
+fn cells(matches: &ArgMatches<'_>) -> u32
     requires { HasNumber (codes "grant") 2 1048575 (rows_of (found_of matches.now)) }
     ensures value { option_map number_of (one_of (codes "grant") (rows_of (found_of matches.now))) ≡ Some result }
     ensures least { 2 ≤ result }
@@ -85,7 +93,15 @@ fn grant(matches: &ArgMatches<'_>) -> u32
 }
 
 /// How many steps are done, exactly.
-fn steps(matches: &ArgMatches<'_>) -> u64
+fn steps(matches: &ArgMatches<'_>) -> Steps
+    requires { HasNumber (codes "steps") 0 1000000 (rows_of (found_of matches.now)) }
+    ensures { option_map number_of (one_of (codes "steps") (rows_of (found_of matches.now))) ≡ Some result }
+{
+    Steps::new(count(matches))
+}
+
+/// The number of steps that are done.
+fn count(matches: &ArgMatches<'_>) -> u64
     requires { HasNumber (codes "steps") 0 1000000 (rows_of (found_of matches.now)) }
     ensures value { option_map number_of (one_of (codes "steps") (rows_of (found_of matches.now))) ≡ Some result }
     ensures most { result ≤ 1000000 }

@@ -5,3 +5,4 @@ pub mod OnlySteps
 pub mod OnlyOne
 pub mod BareLemmas
 pub mod RunLemmas
+pub mod OneState

@@ -10,7 +10,11 @@ use Rattle.pg_valid.specs.Twice.{instr_names}
 use Rattle.pg_type.specs.Plain.{first_breach}
 use Rattle.pg_edge.specs.Shelf.{Files}
 use Rattle.pg_monitor.specs.Guests.{kept_cells}
-use Rattle.pg_command.specs.Asked.{Asked, AsksBare, AsksRun, AsksPrint, AskedRun, AskedPrint, request_of}
+use Rattle.pg_command.specs.Asked.{request_of}
+use Rattle.pg_command.specs.declared.ask.Request.{Request}
+use Rattle.pg_command.specs.declared.ask.Request.TheVariants as request
+use Rattle.pg_command.specs.declared.running.RunWords.{RunWords}
+use Rattle.pg_command.specs.declared.print.PrintWords.{PrintWords}
 use Rattle.pg_read.specs.declared.fault.DescFault.{DescFault}
 use Rattle.pg_read.specs.declared.fault.DescFault.TheVariants as read_fault
 use Rattle.pg_read.specs.Answer.{most_desc_bytes, IsAnswer}
@@ -162,87 +166,87 @@ only-rule d =
 
 -- ---- `bare`
 
-abbrev bare_answer : AskedRun → Desc → List ℕ → Result BareRun Refusal
+abbrev bare_answer : RunWords → Desc → List ℕ → Result BareRun Refusal
 bare_answer b d image = Ok (record { desc = d; image = image; grant = b.grant; steps = b.steps })
 
-abbrev image_then : Files → AskedRun → Desc → ℕ → Result BareRun Refusal
+abbrev image_then : Files → RunWords → Desc → ℕ → Result BareRun Refusal
 image_then files b d cells = bind (image_answer files 0 b.image d.word cells) (bare_answer b d)
 
-abbrev room_then : Files → AskedRun → Desc → Result BareRun Refusal
+abbrev room_then : Files → RunWords → Desc → Result BareRun Refusal
 room_then files b d = bind (lifted of_room (room_answer b.grant d.size)) (image_then files b d)
 
-only-image_then : (files : Files) (b : AskedRun) (d : Desc) (cells : ℕ) → Only (bare.behind_room (Some files) b d cells) (image_then files b d cells)
+only-image_then : (files : Files) (b : RunWords) (d : Desc) (cells : ℕ) → Only (bare.behind_room (Some files) b d cells) (image_then files b d cells)
 only-image_then files b d cells =
     only-then (ImageDue (Some files) 0 b.image d.word cells) (bare.behind_image b d) (image_answer files 0 b.image d.word cells) (bare_answer b d)
     (only-image files 0 b.image d.word cells) (λ image. only-gives (record { desc = d; image = image; grant = b.grant; steps = b.steps }))
 
-only-room_then : (files : Files) (b : AskedRun) (d : Desc) → Only (bare.behind_desc (Some files) b d) (room_then files b d)
+only-room_then : (files : Files) (b : RunWords) (d : Desc) → Only (bare.behind_desc (Some files) b d) (room_then files b d)
 only-room_then files b d =
     only-then (RoomDue b.grant d.size) (bare.behind_room (Some files) b d) (lifted of_room (room_answer b.grant d.size)) (image_then files b d)
     (only-room b.grant d.size) (only-image_then files b d)
 
-only-bare : (files : Files) (b : AskedRun) → Only (BareDue b (Some files)) (bind (desc_answer files b.desc) (room_then files b))
+only-bare : (files : Files) (b : RunWords) → Only (BareDue b (Some files)) (bind (desc_answer files b.desc) (room_then files b))
 unfolding BareDue
 only-bare files b =
     only-then (DescDue (Some files) b.desc) (bare.behind_desc (Some files) b) (desc_answer files b.desc) (room_then files b) (only-desc files b.desc) (only-room_then files b)
 
-one-bare : (files : Files) (b : AskedRun) → IsOne (BareDue b (Some files))
+one-bare : (files : Files) (b : RunWords) → IsOne (BareDue b (Some files))
 one-bare files b = one-of (BareDue b (Some files)) (bind (desc_answer files b.desc) (room_then files b)) (only-bare files b)
 
 -- ---- `run`
 
-abbrev run_answer : AskedRun → Desc → List ℕ → Unit {0} → Result GuestRun Refusal
+abbrev run_answer : RunWords → Desc → List ℕ → Unit {0} → Result GuestRun Refusal
 run_answer r d image kept = Ok (lone_run d image r.steps)
 
-abbrev rule_behind : AskedRun → Desc → List ℕ → Result GuestRun Refusal
+abbrev rule_behind : RunWords → Desc → List ℕ → Result GuestRun Refusal
 rule_behind r d image = bind (rule_answer d) (run_answer r d image)
 
-abbrev image_behind : Files → AskedRun → Desc → ℕ → Result GuestRun Refusal
+abbrev image_behind : Files → RunWords → Desc → ℕ → Result GuestRun Refusal
 image_behind files r d cells = bind (image_answer files 0 r.image d.word r.grant) (rule_behind r d)
 
-abbrev room_behind : Files → AskedRun → Desc → Result GuestRun Refusal
+abbrev room_behind : Files → RunWords → Desc → Result GuestRun Refusal
 room_behind files r d = bind (lifted of_room (room_answer r.grant (d.size - kept_cells))) (image_behind files r d)
 
-only-rule_behind : (r : AskedRun) (d : Desc) (image : List ℕ) → Only (run.behind_image r d image) (rule_behind r d image)
+only-rule_behind : (r : RunWords) (d : Desc) (image : List ℕ) → Only (run.behind_image r d image) (rule_behind r d image)
 only-rule_behind r d image =
     only-then (RuleDue d) (run.behind_rule r d image) (rule_answer d) (run_answer r d image) (only-rule d) (λ kept. only-gives (lone_run d image r.steps))
 
-only-image_behind : (files : Files) (r : AskedRun) (d : Desc) (cells : ℕ) → Only (run.behind_room (Some files) r d cells) (image_behind files r d cells)
+only-image_behind : (files : Files) (r : RunWords) (d : Desc) (cells : ℕ) → Only (run.behind_room (Some files) r d cells) (image_behind files r d cells)
 only-image_behind files r d cells =
     only-then (ImageDue (Some files) 0 r.image d.word r.grant) (run.behind_image r d) (image_answer files 0 r.image d.word r.grant) (rule_behind r d)
     (only-image files 0 r.image d.word r.grant) (only-rule_behind r d)
 
-only-room_behind : (files : Files) (r : AskedRun) (d : Desc) → Only (run.behind_desc (Some files) r d) (room_behind files r d)
+only-room_behind : (files : Files) (r : RunWords) (d : Desc) → Only (run.behind_desc (Some files) r d) (room_behind files r d)
 only-room_behind files r d =
     only-then (RoomDue r.grant (d.size - kept_cells)) (run.behind_room (Some files) r d) (lifted of_room (room_answer r.grant (d.size - kept_cells))) (image_behind files r d)
     (only-room r.grant (d.size - kept_cells)) (only-image_behind files r d)
 
-only-run : (files : Files) (r : AskedRun) → Only (RunDue r (Some files)) (bind (desc_answer files r.desc) (room_behind files r))
+only-run : (files : Files) (r : RunWords) → Only (RunDue r (Some files)) (bind (desc_answer files r.desc) (room_behind files r))
 unfolding RunDue
 only-run files r =
     only-then (DescDue (Some files) r.desc) (run.behind_desc (Some files) r) (desc_answer files r.desc) (room_behind files r) (only-desc files r.desc) (only-room_behind files r)
 
-one-run : (files : Files) (r : AskedRun) → IsOne (RunDue r (Some files))
+one-run : (files : Files) (r : RunWords) → IsOne (RunDue r (Some files))
 one-run files r = one-of (RunDue r (Some files)) (bind (desc_answer files r.desc) (room_behind files r)) (only-run files r)
 
 -- ---- `print`
 
-one-print : (files : Files) (p : AskedPrint) → IsOne (PrintDue p (Some files))
+one-print : (files : Files) (p : PrintWords) → IsOne (PrintDue p (Some files))
 one-print files p = one-of (DescDue (Some files) p.desc) (desc_answer files p.desc) (only-desc files p.desc)
 
 -- ---- every command
 
-one-command : (files : Files) (asked : Asked) → IsOne ((command_of asked).due (Some files))
-one-command files (AsksBare b) = one-bare files b
-one-command files (AsksRun r) = one-run files r
-one-command files (AsksPrint p) = one-print files p
+one-command : (files : Files) (asked : Request) → IsOne ((command_of asked).due (Some files))
+one-command files (request.Bare b) = one-bare files b
+one-command files (request.Run r) = one-run files r
+one-command files (request.Print p) = one-print files p
 
 one-refused : IsOne WordsRefused
 one-refused (Ok a) b h k = absurd a
 one-refused (Err why) (Ok b) h k = absurd b
 one-refused (Err why) (Err other) h k = ap (λ w. Err w) (h ∙ sym k)
 
-one-asked : (files : Files) (o : Option Asked) → IsOne ((command_or_none o).due (Some files))
+one-asked : (files : Files) (o : Option Request) → IsOne ((command_or_none o).due (Some files))
 one-asked files None = one-refused
 one-asked files (Some asked) = one-command files asked
 

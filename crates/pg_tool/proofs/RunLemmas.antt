@@ -33,7 +33,7 @@ use Rattle.pg_valid.specs.Valid.{IsValid}
 use Rattle.pg_word.specs.declared.psw.Psw.{Psw}
 use Rattle.pg_word.specs.Psw.{packed, power_on_psw}
 use Rattle.pg_tool.specs.Plans.{first_guest, lone_run, lone_state}
-use Rattle.pg_command.specs.Asked.{AskedRun}
+use Rattle.pg_command.specs.declared.running.RunWords.{RunWords}
 use Rattle.pg_edge.specs.Shelf.{Files}
 use Rattle.pg_tool.specs.declared.refusal.Refusal.{Refusal}
 use Rattle.pg_tool.specs.declared.refusal.Stop.{Stop}
@@ -285,32 +285,32 @@ stopped-as {U = U} was now before after piece rest text fault error e h =
 -- ---- its steps
 
 -- what comes behind the verdict, the image, the room and the description
-abbrev pub behind_rule : AskedRun → Desc → List ℕ → Unit {0} → Step Refusal GuestRun
+abbrev pub behind_rule : RunWords → Desc → List ℕ → Unit {0} → Step Refusal GuestRun
 behind_rule r d image kept = Gives (lone_run d image r.steps)
 
-abbrev pub behind_image : AskedRun → Desc → List ℕ → Step Refusal GuestRun
+abbrev pub behind_image : RunWords → Desc → List ℕ → Step Refusal GuestRun
 behind_image r d image = Then (RuleDue d) (behind_rule r d image)
 
-abbrev pub behind_room : Option Files → AskedRun → Desc → ℕ → Step Refusal GuestRun
+abbrev pub behind_room : Option Files → RunWords → Desc → ℕ → Step Refusal GuestRun
 behind_room told r d cells = Then (ImageDue told 0 r.image d.word r.grant) (behind_image r d)
 
-abbrev pub behind_desc : Option Files → AskedRun → Desc → Step Refusal GuestRun
+abbrev pub behind_desc : Option Files → RunWords → Desc → Step Refusal GuestRun
 behind_desc told r d = Then (RoomDue r.grant (d.size - kept_cells)) (behind_room told r d)
 
 -- the description stops it
-pub run-stopped : {T U : Type 0} (view : T → Desc) (shows : U → GuestRun) (told : Option Files) (r : AskedRun) (before after : ℕ) (why : Stop) →
+pub run-stopped : {T U : Type 0} (view : T → Desc) (shows : U → GuestRun) (told : Option Files) (r : RunWords) (before after : ℕ) (why : Stop) →
     Comes view (DescDue told r.desc) before after (Err why) → Comes shows (RunDue r told) before after (Err why)
 unfolding RunDue
 run-stopped view shows told r before after why h = comes-stopped view shows (DescDue told r.desc) (behind_desc told r) before after after why h (omega arith)
 
 -- the room stops it
-pub run-no_room : (told : Option Files) (r : AskedRun) (d : Desc) → DescDue told r.desc (Came d) → d.size - 2 < r.grant →
+pub run-no_room : (told : Option Files) (r : RunWords) (d : Desc) → DescDue told r.desc (Came d) → d.size - 2 < r.grant →
     RunDue r told (Refused (of_room (record { wanted = r.grant; free = d.size - 2 })))
 unfolding RunDue
 run-no_room told r d h passes = inr (d, h, inl (room-refused r.grant (d.size - 2) passes))
 
 -- what comes behind the room
-run-behind : {U : Type 0} (shows : U → GuestRun) (told : Option Files) (r : AskedRun) (d : Desc) (before mid after : ℕ) (answer : Result U Stop) →
+run-behind : {U : Type 0} (shows : U → GuestRun) (told : Option Files) (r : RunWords) (d : Desc) (before mid after : ℕ) (answer : Result U Stop) →
     DescDue told r.desc (Came d) → r.grant ≤ d.size - 2 → before ≤ mid → Comes shows (behind_room told r d r.grant) mid after answer → Comes shows (RunDue r told) before after answer
 unfolding RunDue
 run-behind shows told r d before mid after answer h fits earlier k =
@@ -318,7 +318,7 @@ run-behind shows told r d before mid after answer h fits earlier k =
     (comes-behind shows (RoomDue r.grant (d.size - 2)) (behind_room told r d) r.grant mid mid after answer (room-came r.grant (d.size - 2) fits) (omega arith) k)
 
 -- the image stops it
-pub run-no_image : {T U : Type 0} (view : T → List ℕ) (shows : U → GuestRun) (told : Option Files) (r : AskedRun) (d : Desc) (before mid after : ℕ) (why : Stop) →
+pub run-no_image : {T U : Type 0} (view : T → List ℕ) (shows : U → GuestRun) (told : Option Files) (r : RunWords) (d : Desc) (before mid after : ℕ) (why : Stop) →
     DescDue told r.desc (Came d) → r.grant ≤ d.size - 2 → before ≤ mid → Comes view (ImageDue told 0 r.image d.word r.grant) mid after (Err why) →
     Comes shows (RunDue r told) before after (Err why)
 run-no_image view shows told r d before mid after why h fits earlier k =
@@ -326,7 +326,7 @@ run-no_image view shows told r d before mid after why h fits earlier k =
     (comes-stopped view shows (ImageDue told 0 r.image d.word r.grant) (behind_image r d) mid after after why k (omega arith))
 
 -- the verdict stops it
-pub run-open : {T U : Type 0} (view : T → Unit {0}) (shows : U → GuestRun) (told : Option Files) (r : AskedRun) (d : Desc) (image : List ℕ) (before after : ℕ) (why : Stop) →
+pub run-open : {T U : Type 0} (view : T → Unit {0}) (shows : U → GuestRun) (told : Option Files) (r : RunWords) (d : Desc) (image : List ℕ) (before after : ℕ) (why : Stop) →
     DescDue told r.desc (Came d) → r.grant ≤ d.size - 2 → ImageDue told 0 r.image d.word r.grant (Came image) → before ≤ after →
     Comes view (RuleDue d) after after (Err why) → Comes shows (RunDue r told) before after (Err why)
 run-open view shows told r d image before after why h fits k later rest =
@@ -335,7 +335,7 @@ run-open view shows told r d image before after why h fits k later rest =
     (comes-stopped view shows (RuleDue d) (behind_rule r d image) after after after why rest (omega arith)))
 
 -- nothing stops it
-pub run-runs : (told : Option Files) (r : AskedRun) (d : Desc) (image : List ℕ) → DescDue told r.desc (Came d) → r.grant ≤ d.size - 2 →
+pub run-runs : (told : Option Files) (r : RunWords) (d : Desc) (image : List ℕ) → DescDue told r.desc (Came d) → r.grant ≤ d.size - 2 →
     ImageDue told 0 r.image d.word r.grant (Came image) → first_breach d.instrs ≡ None → RunDue r told (Came (lone_run d image r.steps))
 unfolding RunDue RuleDue
 run-runs told r d image h fits k kept = (d, h, (r.grant, room-came r.grant (d.size - 2) fits, (image, k, (tt, kept, refl))))

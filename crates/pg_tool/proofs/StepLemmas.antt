@@ -37,6 +37,6 @@ pub room-refused : (wanted free : ℕ) → free < wanted → RoomDue wanted free
 unfolding RoomDue
 room-refused wanted free passes = (record { wanted = wanted; free = free }, (passes, refl), refl)
 
--- the same of equal files, names and widths
+-- the same of equal files, widths and grants
 pub same_three : {A B C : Type 0} (P : A → B → C → Type 0) (a a' : A) (b b' : B) (c c' : C) → a ≡ a' → b ≡ b' → c ≡ c' → P a b c → P a' b' c'
 same_three P a a' b b' c c' ea eb ec h = subst (λ x. P x b' c') ea (subst (λ x. P a x c') eb (subst (λ x. P a b x) ec h))

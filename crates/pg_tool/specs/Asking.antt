@@ -1,6 +1,8 @@
 -- The command that words ask for.
 use Rattle.std.specs.Prelude.{◌≡◌, ℕ, List, Option, None, Some}
-use Rattle.pg_command.specs.Asked.{Asked, AsksBare, AsksRun, AsksPrint, request_of}
+use Rattle.pg_command.specs.Asked.{request_of}
+use Rattle.pg_command.specs.declared.ask.Request.{Request}
+use Rattle.pg_command.specs.declared.ask.Request.TheVariants as request
 use Rattle.pg_tool.specs.declared.refusal.Refusal.{Refusal}
 use Rattle.pg_tool.specs.declared.refusal.Refusal.TheVariants.{Words}
 use Rattle.pg_tool.specs.Commands.{Command}
@@ -26,12 +28,12 @@ no_command = record {
 }
 
 -- a line for each command
-abbrev pub command_of : Asked → Command
-command_of (AsksBare b) = bare_command b
-command_of (AsksRun r) = run_command r
-command_of (AsksPrint p) = print_command p
+abbrev pub command_of : Request → Command
+command_of (request.Bare b) = bare_command b
+command_of (request.Run r) = run_command r
+command_of (request.Print p) = print_command p
 
-abbrev pub command_or_none : Option Asked → Command
+abbrev pub command_or_none : Option Request → Command
 command_or_none None = no_command
 command_or_none (Some asked) = command_of asked
 

@@ -1,7 +1,7 @@
 -- `print`: a description in one layout.
 use Rattle.std.specs.Prelude.{◌≡◌, ℕ, List, Option, None}
 use Rattle.pg_ast.specs.declared.tree.Desc.{Desc}
-use Rattle.pg_command.specs.Asked.{AskedPrint}
+use Rattle.pg_command.specs.declared.print.PrintWords.{PrintWords}
 use Rattle.pg_edge.specs.Shelf.{Files}
 use Rattle.pg_print.specs.Layout.{printed}
 use Rattle.pg_tool.specs.declared.status.Status.{Status}
@@ -13,7 +13,7 @@ use Rattle.pg_tool.specs.Steps.{Step}
 use Rattle.pg_tool.specs.World.{World, IsUntouched}
 
 -- the description, and then its text
-abbrev pub PrintDue : AskedPrint → Option Files → Step Refusal Desc
+abbrev pub PrintDue : PrintWords → Option Files → Step Refusal Desc
 PrintDue p told = DescDue told p.desc
 
 -- its text is the description in that layout, and nothing else is touched
@@ -23,7 +23,7 @@ pub record PrintEnds (d : Desc) (old new : World) (given : Status) (text : List 
   pub untouched : IsUntouched old new
 
 -- the text is made before any of it is put
-abbrev pub print_command : AskedPrint → Command
+abbrev pub print_command : PrintWords → Command
 print_command p = record {
   Work = Desc;
   due = PrintDue p;

@@ -1,7 +1,7 @@
 -- `run`: images as guests under a monitor.
 use Rattle.std.specs.Prelude.{◌≡◌, ℕ, suc, ◌+◌, ◌-◌, ◌*◌, ◌<◌, ◌≤◌, List, [], ◌∷◌, length, map, sum_by, slice_get, slice_index, Option, None, Some}
 use Rattle.pg_ast.specs.declared.tree.Desc.{Desc}
-use Rattle.pg_command.specs.Asked.{AskedRun}
+use Rattle.pg_command.specs.declared.running.RunWords.{RunWords}
 use Rattle.pg_edge.specs.Shelf.{Files}
 use Rattle.pg_monitor.specs.declared.guest.Guest.{Guest}
 use Rattle.pg_monitor.specs.Guests.{kept_cells}
@@ -75,7 +75,7 @@ abbrev pub taken_for : Desc → Machinery → Machinery
 taken_for d h = poked_at 1 (packed d.address (power_on_psw d.size)) (installed_for d h)
 
 -- the description, the room beside the cells that a monitor keeps, the image, the verdict, and then the run
-unfoldable pub RunDue : AskedRun → Option Files → Step Refusal GuestRun
+unfoldable pub RunDue : RunWords → Option Files → Step Refusal GuestRun
 RunDue r told =
     Then (DescDue told r.desc) (λ d. Then (RoomDue r.grant (d.size - kept_cells)) (λ cells. Then (ImageDue told 0 r.image d.word r.grant) (λ image.
     Then (RuleDue d) (λ kept. Gives (record { desc = d; images = image ∷ []; plan = (0, r.steps) ∷ [] })))))
@@ -125,7 +125,7 @@ pub record RunStarves (r : GuestRun) (old new : World) : Type 0 where
   pub saves : new.save_faults ≡ old.save_faults
   pub set_up : SetUp r.desc old.hw new.hw
 
-abbrev pub run_command : AskedRun → Command
+abbrev pub run_command : RunWords → Command
 run_command r = record {
   Work = GuestRun;
   due = RunDue r;

@@ -7,7 +7,6 @@
 
 ghost use Rattle.std.specs.Prelude.{◌≡◌, ◌≤◌, OnOk, OnErr};
 ghost use Rattle.pg_ast.specs.declared.tree.Desc.{Desc};
-ghost use Rattle.pg_command.specs.Asked.{IsBoundedRun, run_as};
 ghost use Rattle.pg_edge.specs.Sink.{Puts};
 ghost use Rattle.pg_hw.specs.Serving.{SameServed};
 ghost use Rattle.pg_image.specs.Lines.{state_text};
@@ -39,11 +38,10 @@ pub(crate) fn carry_bare<F: Shelf, S: Sink, H: Hardware>(
     out: &mut S,
     hw: &mut H,
 ) -> Status
-    requires bounded { IsBoundedRun (run_as words.now) }
     requires serves { (d : Desc) → H.serves hw.old d }
     requires room { 1048575 ≤ (H.machinery hw.old).room }
     requires counts { CanCount (H.machinery hw.old).tally }
-    ensures carries { Carries (bare_command (run_as words.now)) (around (F.files shelf.old) (F.reads shelf.old) (F.saves shelf.old) (output (S.written out.old) (S.faults out.old)) (H.machinery hw.old))
+    ensures carries { Carries (bare_command words.now) (around (F.files shelf.old) (F.reads shelf.old) (F.saves shelf.old) (output (S.written out.old) (S.faults out.old)) (H.machinery hw.old))
         (around (F.files shelf.new) (F.reads shelf.new) (F.saves shelf.new) (output (S.written out.new) (S.faults out.new)) (H.machinery hw.new)) result }
     ensures files { F.files shelf.new ≡ F.files shelf.old }
     ensures reads { F.reads shelf.old ≤ F.reads shelf.new }
@@ -67,24 +65,23 @@ pub(crate) fn carry_bare<F: Shelf, S: Sink, H: Hardware>(
 
 /// The run that is to be done; or why there is none.
 fn prepare_bare<F: Shelf>(alloc: Global, words: &RunWords, shelf: &mut F) -> Result<BarePlan, Stop>
-    requires { IsBoundedRun (run_as words.now) }
-    ensures comes { Comes bare_run (BareDue (run_as words.now) (F.files shelf.old)) (F.reads shelf.old) (F.reads shelf.new) result }
+    ensures comes { Comes bare_run (BareDue words.now (F.files shelf.old)) (F.reads shelf.old) (F.reads shelf.new) result }
     ensures reads { OnlyReads (F.files shelf.old) (F.files shelf.new) (F.saves shelf.old) (F.saves shelf.new) (F.reads shelf.old) (F.reads shelf.new) }
 {
     let machine = match load_machine(alloc, &words.desc, shelf) {
         Ok(machine) => machine,
         Err(stop) => return Err(stop),
     };
-    let most = machine.shape().q;
-    if words.grant > most {
-        return Err(no_room(words.grant, most));
+    let (most, grant) = (machine.shape().q, words.grant.cells());
+    if grant > most {
+        return Err(no_room(grant, most));
     }
-    match load_image(alloc, 0, &words.image, machine.shape(), words.grant, shelf) {
+    match load_image(alloc, 0, &words.image, machine.shape(), grant, shelf) {
         Ok(image) => Ok(BarePlan {
             machine,
             image,
-            grant: words.grant,
-            steps: words.steps,
+            grant,
+            steps: words.steps.count(),
         }),
         Err(stop) => Err(stop),
     }

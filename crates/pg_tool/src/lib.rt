@@ -17,7 +17,6 @@
 
 ghost use Rattle.std.specs.Prelude.{◌≡◌, ◌≤◌, Some, map, string_bytes};
 ghost use Rattle.pg_ast.specs.declared.tree.Desc.{Desc};
-ghost use Rattle.pg_command.specs.Asked.{IsBounded, asked_as};
 ghost use Rattle.pg_edge.specs.Shelf.{Files};
 ghost use Rattle.pg_hw.specs.Serving.{SameServed};
 ghost use Rattle.pg_tool.specs.Asking.{command_for, command_of};
@@ -95,13 +94,12 @@ fn carry<F: Shelf, S: Sink, H: Hardware>(
     out: &mut S,
     hw: &mut H,
 ) -> Status
-    requires bounded { IsBounded (asked_as request.now) }
     requires serves { (d : Desc) → H.serves hw.old d }
     requires room { 1048575 ≤ (H.machinery hw.old).room }
     requires counts { CanCount (H.machinery hw.old).tally }
-    ensures carries { Carries (command_of (asked_as request.now)) (around (F.files shelf.old) (F.reads shelf.old) (F.saves shelf.old) (output (S.written out.old) (S.faults out.old)) (H.machinery hw.old))
+    ensures carries { Carries (command_of request.now) (around (F.files shelf.old) (F.reads shelf.old) (F.saves shelf.old) (output (S.written out.old) (S.faults out.old)) (H.machinery hw.old))
         (around (F.files shelf.new) (F.reads shelf.new) (F.saves shelf.new) (output (S.written out.new) (S.faults out.new)) (H.machinery hw.new)) result }
-    ensures files { SavesOnly (command_of (asked_as request.now)).saved (F.files shelf.old) (F.files shelf.new) }
+    ensures files { SavesOnly (command_of request.now).saved (F.files shelf.old) (F.files shelf.new) }
     ensures reads { F.reads shelf.old ≤ F.reads shelf.new }
     ensures saves { F.saves shelf.old ≤ F.saves shelf.new }
     ensures faults { S.faults out.old ≤ S.faults out.new }

@@ -17,6 +17,7 @@ ghost use Rattle.pg_tool.specs.Answering.{Comes, OnlyReads, stop_as};
 use crate::described::machine_of;
 use crate::imaged::image_of;
 use crate::refusal::{Refusal, Stop};
+use pg_command::FileName;
 use pg_edge::{LoadFault, Shelf};
 use pg_image::{IMAGE_BYTES, Image};
 use pg_read::DESC_BYTES;
@@ -28,7 +29,7 @@ use std::alloc::Global;
 /// The machine that a file describes, or why there is none.
 pub(crate) fn load_machine<F: Shelf>(
     alloc: Global,
-    name: &str,
+    name: &FileName,
     shelf: &mut F,
 ) -> Result<Machine, Stop>
     ensures comes { Comes (λ m. m.desc) (DescDue (F.files shelf.old) name.now) (F.reads shelf.old) (F.reads shelf.new) result }
@@ -52,7 +53,7 @@ pub(crate) fn load_machine<F: Shelf>(
 pub(crate) fn load_image<F: Shelf>(
     alloc: Global,
     number: usize,
-    name: &str,
+    name: &FileName,
     shape: &Shape,
     size: u32,
     shelf: &mut F,
@@ -81,7 +82,7 @@ pub(crate) fn load_image<F: Shelf>(
 /// The bytes of a file, if it has at most `limit`.
 fn load_file<F: Shelf>(
     alloc: Global,
-    name: &str,
+    name: &FileName,
     limit: u64,
     shelf: &mut F,
 ) -> Result<Vec<u8>, LoadFault>
@@ -92,7 +93,7 @@ fn load_file<F: Shelf>(
     ensures reads { OnlyReads (F.files shelf.old) (F.files shelf.new) (F.saves shelf.old) (F.saves shelf.new) (F.reads shelf.old) (F.reads shelf.new) }
 {
     let mut bytes = Vec::new(alloc);
-    match shelf.load(name, limit, &mut bytes) {
+    match shelf.load(name.as_str(), limit, &mut bytes) {
         Ok(()) => Ok(bytes),
         Err(fault) => Err(fault),
     }

@@ -4,7 +4,6 @@
 //! but the sink can refuse.
 
 ghost use Rattle.std.specs.Prelude.{◌≡◌, ◌≤◌};
-ghost use Rattle.pg_command.specs.Asked.{print_as};
 ghost use Rattle.pg_tool.specs.Commands.{Carries};
 ghost use Rattle.pg_tool.specs.Answering.{Comes, OnlyReads};
 ghost use Rattle.pg_tool.specs.Print.{PrintDue, print_command};
@@ -32,7 +31,7 @@ pub(crate) fn carry_print<F: Shelf, S: Sink, H: Hardware>(
     out: &mut S,
     hw: &H,
 ) -> Status
-    ensures carries { Carries (print_command (print_as words.now))
+    ensures carries { Carries (print_command words.now)
         (around (F.files shelf.old) (F.reads shelf.old) (F.saves shelf.old) (output (S.written out.old) (S.faults out.old)) (H.machinery hw.now))
         (around (F.files shelf.new) (F.reads shelf.new) (F.saves shelf.new) (output (S.written out.new) (S.faults out.new)) (H.machinery hw.now)) result }
     ensures files { F.files shelf.new ≡ F.files shelf.old }
@@ -56,7 +55,7 @@ fn prepare_print<F: Shelf>(
     words: &PrintWords,
     shelf: &mut F,
 ) -> Result<PrintPlan, Stop>
-    ensures comes { Comes (λ p. p.machine.desc) (PrintDue (print_as words.now) (F.files shelf.old)) (F.reads shelf.old) (F.reads shelf.new) result }
+    ensures comes { Comes (λ p. p.machine.desc) (PrintDue words.now (F.files shelf.old)) (F.reads shelf.old) (F.reads shelf.new) result }
     ensures reads { OnlyReads (F.files shelf.old) (F.files shelf.new) (F.saves shelf.old) (F.saves shelf.new) (F.reads shelf.old) (F.reads shelf.new) }
 {
     let machine = match load_machine(alloc, &words.desc, shelf) {

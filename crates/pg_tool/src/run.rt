@@ -9,7 +9,6 @@
 
 ghost use Rattle.std.specs.Prelude.{◌≡◌, ◌⊎◌, ◌∷◌, [], ℕ, None, ◌≤◌, length, IfOk, OnOk, OnErr};
 ghost use Rattle.pg_ast.specs.declared.tree.Desc.{Desc};
-ghost use Rattle.pg_command.specs.Asked.{IsBoundedRun, run_as};
 ghost use Rattle.pg_edge.specs.Sink.{Puts};
 ghost use Rattle.pg_hw.specs.Serving.{SameServed, blank};
 ghost use Rattle.pg_hw.specs.Machinery.{poked_at};
@@ -66,11 +65,10 @@ pub(crate) fn carry_run<F: Shelf, S: Sink, H: Hardware>(
     out: &mut S,
     hw: &mut H,
 ) -> Status
-    requires bounded { IsBoundedRun (run_as words.now) }
     requires serves { (d : Desc) → H.serves hw.old d }
     requires room { 1048575 ≤ (H.machinery hw.old).room }
     requires counts { CanCount (H.machinery hw.old).tally }
-    ensures carries { Carries (run_command (run_as words.now)) (around (F.files shelf.old) (F.reads shelf.old) (F.saves shelf.old) (output (S.written out.old) (S.faults out.old)) (H.machinery hw.old))
+    ensures carries { Carries (run_command words.now) (around (F.files shelf.old) (F.reads shelf.old) (F.saves shelf.old) (output (S.written out.old) (S.faults out.old)) (H.machinery hw.old))
         (around (F.files shelf.new) (F.reads shelf.new) (F.saves shelf.new) (output (S.written out.new) (S.faults out.new)) (H.machinery hw.new)) result }
     ensures files { F.files shelf.new ≡ F.files shelf.old }
     ensures reads { F.reads shelf.old ≤ F.reads shelf.new }
@@ -94,19 +92,18 @@ pub(crate) fn carry_run<F: Shelf, S: Sink, H: Hardware>(
 
 /// The run that is to be done; or why there is none.
 fn prepare_run<F: Shelf>(alloc: Global, words: &RunWords, shelf: &mut F) -> Result<GuestPlan, Stop>
-    requires { IsBoundedRun (run_as words.now) }
-    ensures comes { Comes (λ p. guest_run p.bare) (RunDue (run_as words.now) (F.files shelf.old)) (F.reads shelf.old) (F.reads shelf.new) result }
+    ensures comes { Comes (λ p. guest_run p.bare) (RunDue words.now (F.files shelf.old)) (F.reads shelf.old) (F.reads shelf.new) result }
     ensures reads { OnlyReads (F.files shelf.old) (F.files shelf.new) (F.saves shelf.old) (F.saves shelf.new) (F.reads shelf.old) (F.reads shelf.new) }
 {
     let machine = match load_machine(alloc, &words.desc, shelf) {
         Ok(machine) => machine,
         Err(stop) => return Err(stop),
     };
-    let most = machine.shape().q - KEPT_CELLS;
-    if words.grant > most {
-        return Err(no_room(words.grant, most));
+    let (most, grant) = (machine.shape().q - KEPT_CELLS, words.grant.cells());
+    if grant > most {
+        return Err(no_room(grant, most));
     }
-    let image = match load_image(alloc, 0, &words.image, machine.shape(), words.grant, shelf) {
+    let image = match load_image(alloc, 0, &words.image, machine.shape(), grant, shelf) {
         Ok(image) => image,
         Err(stop) => return Err(stop),
     };
@@ -117,8 +114,8 @@ fn prepare_run<F: Shelf>(alloc: Global, words: &RunWords, shelf: &mut F) -> Resu
     let bare = BarePlan {
         machine,
         image,
-        grant: words.grant,
-        steps: words.steps,
+        grant,
+        steps: words.steps.count(),
     };
     Ok(GuestPlan { bare })
 }

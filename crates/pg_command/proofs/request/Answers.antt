@@ -30,7 +30,7 @@ returns-in-Ok-asked-clause-ok c =
     let fine : fault_of line words ≡ [] = ap (λ (a : App). fault_of a words) (sym line_is) ∙ c.in-Ok-try_get_matches_from.ensures.kinds (ap is_simple_and_free line_is ∙ line_simple) in
     let named : subcommand_rows_of c.in-Ok-try_get_matches_from.matches ≡ subcommand_of line words =
     (c.in-Ok-try_get_matches_from.ensures.matches (ap is_simple line_is ∙ line_plain)).1 ∙ ap (λ (a : App). subcommand_of a words) line_is in
-    asks_by_name words fine ∙ ap named_as (sym named) ∙ c.in-Ok-asked.ensures.value
+    asks_by_name words fine ∙ ap named_as (sym named) ∙ c.in-Ok-asked.ensures
 
 pub returns-in-Err-clause-faults : goal.returns-in-Err-clause-faults
 returns-in-Err-clause-faults c = nothing_at_fault _

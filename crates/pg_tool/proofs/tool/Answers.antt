@@ -1,6 +1,5 @@
 use Rattle.std.proofs.Common.{map, Err, refl, ap, subst}
 use Rattle.std.specs.Prelude.{string_bytes}
-use Rattle.pg_command.specs.Asked.{asked_as}
 use Rattle.pg_tool.specs.Asking.{command_for}
 use Rattle.pg_tool.specs.Answering.{Stops}
 use Rattle.pg_tool.specs.World.{around, output}
@@ -10,13 +9,13 @@ use Rattle.pg_tool.proofs.tool.Goals as goal
 
 pub returns-in-Ok-clause-carries : goal.returns-in-Ok-clause-carries
 returns-in-Ok-clause-carries g c =
-    carries-asked (map string_bytes c.args.words.now) (asked_as c.in-Ok.request)
+    carries-asked (map string_bytes c.args.words.now) c.in-Ok.request
     (around (g.F.Shelf.files c.args.shelf.now) (g.F.Shelf.reads c.args.shelf.now) (g.F.Shelf.saves c.args.shelf.now) (output (g.S.Sink.written c.args.out.now) (g.S.Sink.faults c.args.out.now)) (g.H.Hardware.machinery c.args.hw.now))
     (around (g.F.Shelf.files c.carry.new.shelf) (g.F.Shelf.reads c.carry.new.shelf) (g.F.Shelf.saves c.carry.new.shelf) (output (g.S.Sink.written c.carry.new.out) (g.S.Sink.faults c.carry.new.out)) (g.H.Hardware.machinery c.carry.new.hw))
     c.carry.result c.in-Ok.ensures.ok c.carry.ensures.carries
 
 pub returns-in-Ok-clause-files : goal.returns-in-Ok-clause-files
-returns-in-Ok-clause-files g c = saves-asked (map string_bytes c.args.words.now) (asked_as c.in-Ok.request) _ _ c.in-Ok.ensures.ok c.carry.ensures.files
+returns-in-Ok-clause-files g c = saves-asked (map string_bytes c.args.words.now) c.in-Ok.request _ _ c.in-Ok.ensures.ok c.carry.ensures.files
 
 pub returns-in-Ok-clause-exactly : goal.returns-in-Ok-clause-exactly
 returns-in-Ok-clause-exactly g c = λ files told.

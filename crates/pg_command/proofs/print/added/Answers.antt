@@ -7,6 +7,6 @@ use Rattle.pg_command.proofs.print.added.Goals as goal
 
 pub returns : goal.returns
 returns c =
-    let made : app_of c.in_ok-print.print ≡ record { top = spec.print; subs = [] } =
+    let made : app_of c.in_ok-print.print ≡ record { top = spec.print.shape; subs = [] } =
     c.in_ok-print.ensures.shape (search rules) ∙ ap₂ with_rule c.new.ensures.app c.place.ensures.rule in
     IfOk-weaker c.subcommand.result _ _ (λ r h. h.shape (search rules) ∙ ap (λ (a : App). with_subcommand (app_of c.args.program) a.top) made) c.subcommand.ensures

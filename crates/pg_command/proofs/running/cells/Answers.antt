@@ -6,7 +6,7 @@ use Rattle.clap.specs.Words.{found_of}
 use Rattle.clap.proofs.WalkLemmas.{one_text-rows}
 use Rattle.pg_command.specs.Arguments.{number_of}
 use Rattle.pg_command.proofs.NumberLaws.{reads_number}
-use Rattle.pg_command.proofs.running.grant.Goals as goal
+use Rattle.pg_command.proofs.running.cells.Goals as goal
 
 pub unwrap-requires : goal.unwrap-requires
 unwrap-requires c =

@@ -1,0 +1,56 @@
+-- The two laws of each command: what its arguments hold where its words have no fault, and that this is something to ask for.
+use Rattle.std.proofs.Common.{◌≡◌, refl, true, false, List, [], ◌∷◌, Option, Some, None, codes}
+use Rattle.std.specs.Prelude.{option_and_then}
+use Rattle.std.specs.Option.{is_some}
+use Rattle.clap.specs.Walk.{Row, Text, nothing_held, rows_after}
+use Rattle.clap.specs.Simple.{Shape, built}
+use Rattle.clap.specs.Faults.{level_fault}
+use Rattle.pg_command.specs.Entries.{Entry}
+use Rattle.pg_command.specs.Line.{commands, line}
+use Rattle.pg_command.specs.Reads.{HoldsOne}
+use Rattle.pg_command.specs.declared.ask.Request.{Request}
+use Rattle.pg_command.specs.declared.ask.Request.TheVariants as request
+use Rattle.pg_command.proofs.PrintLaws.{print_asks, print_holds}
+use Rattle.pg_command.proofs.RunningLaws.{run_asks, running_holds}
+
+-- each of the commands holds what it wants where a level of the parse has no fault
+abbrev pub EachHolds : List Shape → Type 0
+EachHolds [] = Unit {0}
+EachHolds (s ∷ more) =
+    ((words : List Text) → level_fault s [] nothing_held words false [] ≡ [] → HoldsOne commands s.name (rows_after s.rules [] words)) × EachHolds more
+
+-- what each command's arguments hold is something to ask for
+abbrev pub AllAsk : List Entry → Type 0
+AllAsk [] = Unit {0}
+AllAsk (e ∷ more) = ((rows : List Row) → e.Holds rows → is_some (e.asks rows) ≡ true) × AllAsk more
+
+-- a request made of what the arguments of a command give
+made : {X : Type 0} (make : X → Request) (given : Option X) → is_some given ≡ true → is_some (option_and_then (λ x. Some (make x)) given) ≡ true
+made make None e = e
+made make (Some x) e = refl
+
+-- ---- a row for each command
+
+pub all_hold : EachHolds (built line).subs
+all_hold = (
+  running_holds (codes "bare"),
+  (
+    running_holds (codes "run"),
+    (
+      print_holds,
+      tt,
+    ),
+  ),
+)
+
+pub all_ask : AllAsk commands
+all_ask = (
+  (λ rows h. made request.Bare _ (run_asks rows h)),
+  (
+    (λ rows h. made request.Run _ (run_asks rows h)),
+    (
+      (λ rows h. made request.Print _ (print_asks rows h)),
+      tt,
+    ),
+  ),
+)
