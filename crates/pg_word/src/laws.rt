@@ -78,11 +78,14 @@ pub fn worked_numbers()
     ensures widened { sign_extended 12 4 8 ≡ 252 }
 {}
 
-/// A state is listed in one way alone: lists of one size that stand for the same storage are the same.
-pub fn same_storage_same_cells(x: &Sparse, y: &Sparse)
+/// A state is listed in one way alone: two of one size and one program status word that stand for the same storage are the
+/// same.
+pub fn same_storage_same_state(x: &Sparse, y: &Sparse)
     requires size { x.now.size ≡ y.now.size }
+    requires psw { x.now.psw ≡ y.now.psw }
     requires storage { storage_of x.now.size x.now.cells ≡ storage_of y.now.size y.now.cells }
-    ensures { x.now.cells ≡ y.now.cells }
+    ensures cells { x.now.cells ≡ y.now.cells }
+    ensures state { x.now ≡ y.now }
 {
     x.cells.as_slice();
     y.cells.as_slice();

@@ -71,7 +71,8 @@ impl CellList {
         ensures found { IfOk result (IsListedAt self.now at) }
         ensures absent { IfErr result (IsNotListed self.now at) }
     {
-        self.cells.binary_search_by_key(&at, |&(address, _)| address)
+        self.cells
+            .binary_search_by_key(&at, |&(address, _)| address)
     }
 }
 
