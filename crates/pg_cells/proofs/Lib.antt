@@ -1,0 +1,2 @@
+pub mod StorageLaws
+pub mod InputLaws

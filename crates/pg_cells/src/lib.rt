@@ -1,0 +1,6 @@
+//! Storage of which only the cells that are touched are named.
+#![tactic(auto)]
+
+mod cell;
+
+pub use cell::{Cell, Write};
