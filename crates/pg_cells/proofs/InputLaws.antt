@@ -152,7 +152,7 @@ due_word nodes storage c inputs = get_or storage (number (values_of inputs nodes
 with_cell : List Node → ℕ → List ℕ → Cell → List Bool → List Bool
 with_cell nodes w storage c inputs = put_bits (first_input nodes c) (bits_of w (due_word nodes storage c inputs)) inputs
 
-cells-room : (nodes : List Node) (w a from : ℕ) (cells : List Cell) → AreCells nodes w a from cells → from ≤ length nodes
+pub cells-room : (nodes : List Node) (w a from : ℕ) (cells : List Cell) → AreCells nodes w a from cells → from ≤ length nodes
 cells-room nodes w a from [] h = h
 cells-room nodes w a from (c ∷ cells) h = let r = cells-room nodes w a (place_of c + w) cells h.2 in let l = h.0 in omega arith
 
@@ -204,7 +204,7 @@ record SetsCells (nodes : List Node) (w from : ℕ) (storage : List ℕ) (cells 
   front : take from (values_of given nodes) ≡ take from (values_of inputs nodes)
   agrees : Agrees storage (known_cells (values_of given nodes) cells)
 
-gates-there : (k w bound : ℕ) → k + w ≤ bound → AreThere bound (gates_from k w)
+pub gates-there : (k w bound : ℕ) → k + w ≤ bound → AreThere bound (gates_from k w)
 gates-there k zero bound l = All-nil (IsThere bound)
 gates-there k (suc w) bound l = All-cons (IsThere bound) (gate_at k) (gates_from (k + 1) w) (omega arith) (gates-there (k + 1) w bound (omega arith))
 

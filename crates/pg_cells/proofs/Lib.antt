@@ -1,2 +1,4 @@
 pub mod StorageLaws
 pub mod InputLaws
+pub mod OverLaws
+pub mod TouchLaws

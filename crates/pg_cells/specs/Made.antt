@@ -1,5 +1,5 @@
 -- What each call makes: gates, and the nodes that there are then.
-use Rattle.std.specs.Prelude.{ℕ, zero, suc, ◌+◌, Bool, true, false, not, ◌&&◌, ◌||◌, if◌then◌else◌, List, [], ◌∷◌, ◌++◌, length}
+use Rattle.std.specs.Prelude.{ℕ, zero, suc, ◌+◌, Bool, true, false, not, ◌&&◌, if◌then◌else◌, Option, Some, None, List, [], ◌∷◌, ◌++◌, length}
 use Rattle.pg_circuit.specs.declared.node.Gate.{Gate}
 use Rattle.pg_circuit.specs.declared.node.Node.{Node}
 use Rattle.pg_circuit.specs.declared.node.Node.TheVariants.{Input}
@@ -29,15 +29,18 @@ same_gates [] [] = true
 same_gates (x ∷ xs) (y ∷ ys) = same_gate x y && same_gates xs ys
 same_gates _ _ = false
 
--- whether a cell has these gates as its address
-abbrev pub has_cell : List Cell → List Gate → Bool
-has_cell [] address = false
-has_cell (c ∷ cells) address = same_gates c.address address || has_cell cells address
+-- the word of the first cell that has these gates as its address
+abbrev pub found_word : List Cell → List Gate → Option (List Gate)
+found_word [] address = None
+found_word (c ∷ cells) address = (if same_gates c.address address then Some c.word else found_word cells address)
 
 -- the word before all writes: that of the cell with this address, or inputs where there is none
+abbrev pub initial_of : List Node → ℕ → Option (List Gate) → List Gate × List Node
+initial_of nodes w (Some word) = (word, nodes)
+initial_of nodes w None = inputs_made nodes w
+
 unfoldable pub initial_made : List Node → ℕ → List Cell → List Gate → List Gate × List Node
-initial_made nodes w [] address = inputs_made nodes w
-initial_made nodes w (c ∷ cells) address = (if same_gates c.address address then (c.word, nodes) else initial_made nodes w cells address)
+initial_made nodes w cells address = initial_of nodes w (found_word cells address)
 
 -- whether a write is done, and at this address
 unfoldable pub hit_made : List Node → List Gate → Write → Gate × List Node
@@ -60,9 +63,12 @@ touch_made nodes t address =
     then_made (initial_made nodes t.w t.cells address) (λ word after_word. laid_made after_word address t.writes word)
 
 -- the cells after a touch: one more where none had the address
+abbrev pub with_found : List Node → ℕ → List Cell → List Gate → Option (List Gate) → List Cell
+with_found nodes w cells address (Some word) = cells
+with_found nodes w cells address None = cells ++ record { address = address; word = (inputs_made nodes w).0 } ∷ []
+
 unfoldable pub cells_after : List Node → ℕ → List Cell → List Gate → List Cell
-cells_after nodes w cells address =
-    (if has_cell cells address then cells else cells ++ record { address = address; word = (inputs_made nodes w).0 } ∷ [])
+cells_after nodes w cells address = with_found nodes w cells address (found_word cells address)
 
 -- ---- agreement
 
