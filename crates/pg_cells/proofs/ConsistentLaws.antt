@@ -24,7 +24,7 @@ use Rattle.pg_cells.specs.Storage.{Known, AreConsistent, HasStorage}
 use Rattle.pg_cells.specs.Cells.{known_of, known_cells}
 use Rattle.pg_cells.specs.Over.{place_of, AreCells}
 use Rattle.pg_cells.specs.Made.{alike_made, pair_made, row_made, pairs_made, consistent_made}
-use Rattle.pg_cells.specs.Means.{TellsConsistent}
+use Rattle.pg_cells.specs.Means.{each_pair, TellsConsistent}
 use Rattle.pg_cells.proofs.StorageLaws.{IsWithin, has_storage, is_pair, is_row, are_pairs, pairs-decide}
 use Rattle.pg_cells.proofs.InputLaws.{gates-there, cells-room}
 use Rattle.pg_cells.proofs.TouchLaws.{length-gates_from}
@@ -74,10 +74,6 @@ and-assoc true b c = refl
 and-assoc false b c = refl
 
 -- ---- two cells
-
--- how many nodes a pair adds at most
-abbrev pub each_pair : ℕ → ℕ → ℕ
-each_pair w a = 2 * a + 2 * w + 2
 
 alike-makes : (nodes : List Node) (so_far at : Gate) (xs ys : List Gate) → IsCircuit nodes → IsThere (length nodes) so_far → IsThere (length nodes) at → AreThere (length nodes) xs → AreThere (length nodes) ys → length xs ≡ length ys →
     MakesGate nodes (alike_made nodes so_far at xs ys) (2 * length xs + 2) (λ v. gate_value v so_far && not (gate_value v at && not (nat_eq (number v xs) (number v ys))))

@@ -3,3 +3,6 @@ pub mod InputLaws
 pub mod OverLaws
 pub mod TouchLaws
 pub mod ConsistentLaws
+pub mod FindLaws
+pub mod InputsMade
+pub mod LayLaws

@@ -30,7 +30,7 @@ use Rattle.pg_cells.specs.Storage.{IsStorage, written, Known, Agrees}
 use Rattle.pg_cells.specs.Cells.{known_of, put_of, known_cells, puts_of}
 use Rattle.pg_cells.specs.Over.{gates_from, place_of, IsCell, AreCells, IsWrite, IsOver}
 use Rattle.pg_cells.specs.Made.{inputs_from, inputs_made, same_gates, found_word, initial_of, initial_made, hit_made, over_made, laid_made, touch_made, with_found, cells_after}
-use Rattle.pg_cells.specs.Means.{GrowsBy, IsWordAt}
+use Rattle.pg_cells.specs.Means.{each_write, touch_most, GrowsBy, IsWordAt}
 use Rattle.pg_cells.proofs.StorageLaws.{laid_word, written-at}
 use Rattle.pg_cells.proofs.InputLaws.{gates-there, cells-room}
 use Rattle.pg_cells.proofs.OverLaws.{AreCells-later, AreWrites-later, AreCells-push}
@@ -41,11 +41,11 @@ pub length-gates_from : (w k : ℕ) → length (gates_from k w) ≡ w
 length-gates_from zero k = refl
 length-gates_from (suc w) k = ap (λ n. suc n) (length-gates_from w (k + 1))
 
-length-inputs_from : (w n : ℕ) → length (inputs_from n w) ≡ w
+pub length-inputs_from : (w n : ℕ) → length (inputs_from n w) ≡ w
 length-inputs_from zero n = refl
 length-inputs_from (suc w) n = ap (λ n. suc n) (length-inputs_from w (n + 1))
 
-input_count-inputs_from : (w n : ℕ) → input_count (inputs_from n w) ≡ w
+pub input_count-inputs_from : (w n : ℕ) → input_count (inputs_from n w) ≡ w
 input_count-inputs_from zero n = refl
 input_count-inputs_from (suc w) n = omega (arith, input_count-inputs_from w (n + 1))
 
@@ -202,10 +202,6 @@ initial-is nodes t address h o there wide = initial-by nodes t.w t.a t.cells add
 
 -- ---- writes that are laid over a word
 
--- how many nodes one write adds at most
-abbrev pub each_write : ℕ → ℕ → ℕ
-each_write w a = 2 * a + 1 + w * 3
-
 over-makes : (nodes : List Node) (w a : ℕ) (address : List Gate) (x : Write) (word : List Gate) → IsCircuit nodes → AreThere (length nodes) address → length address ≡ a → IsWrite (length nodes) w a x →
     AreThere (length nodes) word → length word ≡ w →
     MakesBits nodes (over_made nodes address x word) w (each_write w a) (λ v. cond (gate_value v x.guard && nat_eq (number v address) (number v x.address)) (number v x.value) (number v word))
@@ -272,10 +268,6 @@ laid-makes (x ∷ writes) nodes w a address word h ta wa ws tw ww =
     }
 
 -- ---- a touch
-
--- how many nodes a touch adds at most
-abbrev pub touch_most : View → ℕ
-touch_most t = t.w + length t.writes * each_write t.w t.a
 
 pub record Touches (nodes : List Node) (t : View) (address : List Gate) (made : List Gate × List Node) : Type 0 where
   pub circuit : IsCircuit made.1

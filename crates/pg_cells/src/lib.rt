@@ -2,5 +2,10 @@
 #![tactic(auto)]
 
 mod cell;
+mod find;
+mod gate;
+mod inputs;
+mod lay;
+mod string;
 
 pub use cell::{Cell, Write};
