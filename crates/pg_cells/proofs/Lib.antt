@@ -6,3 +6,4 @@ pub mod ConsistentLaws
 pub mod FindLaws
 pub mod InputsMade
 pub mod LayLaws
+pub mod TouchSteps

@@ -158,7 +158,7 @@ found (c ∷ cells) address word h = by (same_gates c.address address) refl h (f
         record { place = suc r.place; cell = r.cell; in_range = let l = r.in_range in omega arith; is = r.is; address_is = r.address_is; word_is = r.word_is }
 
 -- a cell of the list is one of those after a place, so its word is there
-cell_word : (nodes : List Node) (w a from : ℕ) (cells : List Cell) (k : ℕ) (d : Cell) → AreCells nodes w a from cells → k < length cells →
+pub cell_word : (nodes : List Node) (w a from : ℕ) (cells : List Cell) (k : ℕ) (d : Cell) → AreCells nodes w a from cells → k < length cells →
     (length (get_or cells k d).word ≡ w) × AreThere (length nodes) (get_or cells k d).word
 cell_word nodes w a from [] k d h l = absurd (omega arith)
 cell_word nodes w a from (c ∷ cells) zero d h l =

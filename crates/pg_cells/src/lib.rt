@@ -7,5 +7,7 @@ mod gate;
 mod inputs;
 mod lay;
 mod string;
+mod touched;
 
 pub use cell::{Cell, Write};
+pub use touched::Touched;
