@@ -7,3 +7,4 @@ pub mod FindLaws
 pub mod InputsMade
 pub mod LayLaws
 pub mod TouchSteps
+pub mod AgreeSteps

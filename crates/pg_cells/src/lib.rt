@@ -1,6 +1,7 @@
 //! Storage of which only the cells that are touched are named.
 #![tactic(auto)]
 
+mod agree;
 mod cell;
 mod find;
 mod gate;

@@ -16,11 +16,12 @@ ghost use Rattle.std.specs.Prelude.{◌≡◌, ◌+◌, ◌*◌, ◌^◌, ◌<�
 ghost use Rattle.pg_circuit.specs.declared.node.Node.{Node};
 ghost use Rattle.pg_word.specs.Bits.{IsWidth};
 ghost use Rattle.pg_vec.specs.There.{AreThere};
-ghost use Rattle.pg_cells.specs.View.{View};
+ghost use Rattle.pg_vec.specs.AddsNodes.{AddsNodes};
 ghost use Rattle.pg_cells.specs.Over.{IsOver};
-ghost use Rattle.pg_cells.specs.Made.{no_cell, inputs_made, laid_made, touch_made, cells_after};
-ghost use Rattle.pg_cells.specs.Means.{each_write, touch_most, GrowsBy, IsWordAt};
+ghost use Rattle.pg_cells.specs.Made.{no_cell, inputs_made, laid_made, touch_made, cells_after, consistent_made};
+ghost use Rattle.pg_cells.specs.Means.{touch_most, each_pair, GrowsBy, IsWordAt, TellsConsistent};
 
+use crate::agree::agree_with_all;
 use crate::cell::{Cell, Write};
 use crate::find::find;
 use crate::inputs::inputs;
@@ -174,5 +175,25 @@ impl Touched {
         ensures over { (nodes : List Node) → IsOver nodes self.old → IsOver nodes self.new }
     {
         self.writes.clear();
+    }
+
+    /// The gate that cells of equal addresses have equal words, of all pairs of cells. Ask for it after the last touch: cells
+    /// that are touched later are not compared. The error is want of memory, and the circuit may hold further gates. What is
+    /// built is quadratic in the cells; a pair whose addresses are equal for no values costs their comparison alone.
+    pub fn consistent(&self, circuit: &mut Circuit) -> Result<Gate, AllocError>
+        requires { IsOver circuit.old.nodes self.now }
+        ensures made { IfOk result (λ gate. (gate, circuit.new.nodes) ≡ consistent_made circuit.old.nodes self.now.cells) }
+        ensures tells { IfOk result (λ gate. TellsConsistent circuit.new.nodes self.now.w self.now.a self.now.cells gate) }
+        ensures there { IfOk result (λ gate. gate.number < length circuit.new.nodes) }
+        ensures over { IsOver circuit.new.nodes self.now }
+        ensures kept { AddsNodes circuit.old.nodes circuit.new.nodes (length self.now.cells * (length self.now.cells * each_pair self.now.w self.now.a)) }
+        ensures few { length self.now.cells ≤ 256 → AddsNodes circuit.old.nodes circuit.new.nodes (2 ^ 24) }
+    {
+        let cells = self.cells.as_slice();
+        let mut so_far = circuit.constant(true);
+        for (i, cell) in cells.iter().enumerate() {
+            so_far = agree_with_all(circuit, so_far, cell, &cells[i + 1..])?;
+        }
+        Ok(so_far)
     }
 }
