@@ -8,3 +8,4 @@ pub mod InputsMade
 pub mod LayLaws
 pub mod TouchSteps
 pub mod AgreeSteps
+pub mod LaterLaws

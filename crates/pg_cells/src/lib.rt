@@ -6,6 +6,7 @@ mod cell;
 mod find;
 mod gate;
 mod inputs;
+pub mod laws;
 mod lay;
 mod string;
 mod touched;

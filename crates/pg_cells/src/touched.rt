@@ -12,7 +12,7 @@
 //! The circuit is lent to each call. It is the same one at all calls, or what it has grown to (`IsOver`); the law
 //! `cells_stay` says that growth does no harm.
 
-ghost use Rattle.std.specs.Prelude.{◌≡◌, ◌+◌, ◌*◌, ◌^◌, ◌<◌, ◌≤◌, List, [], ◌∷◌, ◌++◌, length, slice_index_or, IfOk, OnOk, OnErr};
+ghost use Rattle.std.specs.Prelude.{◌≡◌, ◌+◌, ◌*◌, ◌^◌, ◌<◌, ◌≤◌, List, [], ◌∷◌, ◌++◌, length, take, slice_index_or, IfOk, OnOk, OnErr};
 ghost use Rattle.pg_circuit.specs.declared.node.Node.{Node};
 ghost use Rattle.pg_word.specs.Bits.{IsWidth};
 ghost use Rattle.pg_vec.specs.There.{AreThere};
@@ -90,6 +90,7 @@ impl Touched {
         requires width { length address.now ≡ self.old.a }
         ensures made { IfOk result (λ word. (word, circuit.new.nodes) ≡ touch_made circuit.old.nodes self.old address.now) }
         ensures cells { OnOk result (self.new ≡ record self.old { cells = cells_after circuit.old.nodes self.old.w self.old.cells address.now }) }
+        ensures kept { take (length self.old.cells) self.new.cells ≡ self.old.cells }
         ensures worth { IfOk result (λ word. IsWordAt circuit.new.nodes self.new.w self.new.a self.new.cells self.new.writes address.now word) }
         ensures there { IfOk result (λ word. AreThere (length circuit.new.nodes) word) }
         ensures width { IfOk result (λ word. length word ≡ self.old.w) }
