@@ -1,5 +1,5 @@
 -- What the gate of agreement is worth.
-use Rattle.std.proofs.Common.{◌≡◌, ◌↔◌, ℕ, zero, suc, ◌+◌, ◌*◌, ◌^◌, ◌<◌, ◌≤◌, Bool, true, false, not, ◌&&◌, nat_eq, if◌then◌else◌, List, [], ◌∷◌, length, refl, sym, ap, ◌∙◌, subst, arith}
+use Rattle.std.proofs.Common.{◌≡◌, ℕ, ◌+◌, ◌*◌, ◌^◌, ◌≤◌, Bool, true, false, not, ◌&&◌, nat_eq, if◌then◌else◌, List, [], ◌∷◌, length, refl, sym, ap, ◌∙◌, subst, arith}
 use Rattle.std.specs.List.{All}
 use Rattle.std.proofs.Math.Nat.{suc-mul}
 use Rattle.std.proofs.lemmas.Nat.{mul-le}
@@ -12,15 +12,14 @@ use Rattle.pg_circuit.specs.Made.{constant_gate, not_gate, and_made}
 use Rattle.pg_circuit.proofs.NodeLemmas.{same_gate-true}
 use Rattle.pg_circuit.proofs.MadeLemmas.{not_value}
 use Rattle.pg_vec.specs.Number.{number}
-use Rattle.pg_vec.specs.There.{AreThere, AreValues}
+use Rattle.pg_vec.specs.There.{AreThere}
 use Rattle.pg_vec.specs.AddsNodes.{AddsNodes}
 use Rattle.pg_vec.specs.Makes.{MakesGate}
 use Rattle.pg_vec.specs.Strings.{same_made}
-use Rattle.pg_vec.proofs.Kept.{front_same, front_then, there_later, all_there_later, values_earlier, constant-value, and-makes, adds_none, adds_then, adds_more}
+use Rattle.pg_vec.proofs.Kept.{front_same, front_then, there_later, all_there_later, values_earlier, constant-value, and-makes, adds_more}
 use Rattle.pg_vec.proofs.CompareLaws.{same-makes}
 use Rattle.pg_vec.proofs.EachLaws.{number-below}
 use Rattle.pg_cells.specs.declared.cell.Cell.{Cell}
-use Rattle.pg_cells.specs.Storage.{Known, AreConsistent, HasStorage}
 use Rattle.pg_cells.specs.Cells.{known_of, known_cells}
 use Rattle.pg_cells.specs.Over.{place_of, AreCells, IsWhole}
 use Rattle.pg_cells.specs.Made.{alike_made, pair_made, row_made, pairs_made, consistent_made}

@@ -1,5 +1,5 @@
 -- What a touch makes is worth.
-use Rattle.std.proofs.Common.{◌≡◌, ℕ, zero, suc, ◌+◌, ◌*◌, ◌^◌, ◌<◌, ◌≤◌, Bool, true, false, ◌&&◌, cond, nat_eq, if◌then◌else◌, List, [], ◌∷◌, ◌++◌, length, map, take, get_or, slice_get, Option, Some, None, refl, sym, ap, ◌∙◌, subst, arith, add-one, append_assoc, length-append}
+use Rattle.std.proofs.Common.{◌≡◌, ℕ, zero, suc, ◌+◌, ◌*◌, ◌^◌, ◌<◌, ◌≤◌, Bool, true, false, ◌&&◌, cond, nat_eq, if◌then◌else◌, List, [], ◌∷◌, ◌++◌, length, get_or, Option, Some, None, refl, sym, ap, ◌∙◌, subst, arith, append_assoc, length-append}
 use Rattle.std.specs.List.{All}
 use Rattle.std.proofs.Math.Nat.{suc-mul}
 use Rattle.std.proofs.lemmas.Bool.{false≢true}
@@ -10,24 +10,23 @@ use Rattle.pg_circuit.specs.declared.node.Gate.{Gate}
 use Rattle.pg_circuit.specs.declared.node.Node.{Node}
 use Rattle.pg_circuit.specs.declared.node.Node.TheVariants.{Constant, Input}
 use Rattle.pg_circuit.specs.Nodes.{same_gate, input_count, IsCircuit}
-use Rattle.pg_circuit.specs.Values.{gate_value, IsThere}
-use Rattle.pg_circuit.specs.Made.{gate_at, constant_gate, and_made}
+use Rattle.pg_circuit.specs.Values.{gate_value}
+use Rattle.pg_circuit.specs.Made.{constant_gate, and_made}
 use Rattle.pg_circuit.specs.Grown.{GrowsTo}
 use Rattle.pg_circuit.proofs.NodeLemmas.{same_gate-true}
 use Rattle.pg_circuit.proofs.CircuitLemmas.{input_count-append, IsCircuit-push}
-use Rattle.pg_word.specs.Bits.{IsWidth}
 use Rattle.pg_vec.specs.Number.{number}
-use Rattle.pg_vec.specs.There.{AreThere, AreValues}
-use Rattle.pg_vec.specs.Makes.{MakesGate, MakesBits}
-use Rattle.pg_vec.specs.Strings.{mux_made, same_made}
-use Rattle.pg_vec.proofs.Kept.{front_same, front_then, front_length, there_later, all_there_later, values_earlier, constant-value, and-makes}
+use Rattle.pg_vec.specs.There.{AreThere}
+use Rattle.pg_vec.specs.Makes.{MakesBits}
+use Rattle.pg_vec.specs.Strings.{same_made}
+use Rattle.pg_vec.proofs.Kept.{front_same, front_then, there_later, all_there_later, values_earlier, constant-value, and-makes}
 use Rattle.pg_vec.proofs.CompareLaws.{same-makes}
 use Rattle.pg_vec.proofs.EachLaws.{mux-makes, number-below}
 use Rattle.pg_cells.specs.declared.cell.Cell.{Cell}
 use Rattle.pg_cells.specs.declared.cell.Write.{Write}
 use Rattle.pg_cells.specs.View.{View}
-use Rattle.pg_cells.specs.Storage.{IsStorage, written, Known, Agrees}
-use Rattle.pg_cells.specs.Cells.{known_of, put_of, known_cells, puts_of}
+use Rattle.pg_cells.specs.Storage.{Known, Agrees}
+use Rattle.pg_cells.specs.Cells.{known_of, known_cells, puts_of}
 use Rattle.pg_cells.specs.Over.{gates_from, place_of, IsCell, AreCells, IsWrite, IsOver}
 use Rattle.pg_cells.specs.Made.{inputs_from, inputs_made, same_gates, found_word, initial_of, initial_made, hit_made, over_made, laid_made, touch_made, with_found, cells_after}
 use Rattle.pg_cells.specs.Means.{each_write, touch_most, GrowsBy, IsWordAt}

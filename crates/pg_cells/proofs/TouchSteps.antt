@@ -1,8 +1,7 @@
 -- The code's steps touch as the definitions say.
-use Rattle.std.proofs.Common.{◌≡◌, ℕ, ◌+◌, ◌*◌, ◌^◌, ◌<◌, ◌≤◌, List, [], ◌∷◌, ◌++◌, length, get_or, Option, Some, None, Result, Ok, Err, IfOk, OnOk, OnErr, refl, sym, ap, ◌∙◌, subst, arith, length-append}
+use Rattle.std.proofs.Common.{◌≡◌, ℕ, ◌+◌, ◌*◌, ◌<◌, List, [], ◌∷◌, ◌++◌, length, get_or, Some, None, Result, Ok, Err, IfOk, OnOk, OnErr, refl, sym, ap, ◌∙◌, subst, arith, length-append}
 use Rattle.std.specs.List.{All}
 use Rattle.std.specs.declared.alloc.AllocError.{AllocError}
-use Rattle.std.proofs.lemmas.Nat.{mul-le}
 use Rattle.pg_circuit.specs.declared.node.Gate.{Gate}
 use Rattle.pg_circuit.specs.declared.node.Node.{Node}
 use Rattle.pg_circuit.specs.Nodes.{input_count, IsCircuit}
@@ -17,8 +16,8 @@ use Rattle.pg_cells.specs.Over.{gates_from, IsWrite, IsOver}
 use Rattle.pg_cells.specs.Made.{inputs_from, inputs_made, no_cell, IsFoundAt, found_word, initial_of, initial_made, laid_made, touch_made, with_found, cells_after}
 use Rattle.pg_cells.specs.Means.{each_write, touch_most, GrowsBy, IsWordAt}
 use Rattle.pg_cells.proofs.InputLaws.{gates-there}
-use Rattle.pg_cells.proofs.OverLaws.{IsOver-later, AreWrites-later}
-use Rattle.pg_cells.proofs.TouchLaws.{inputs-front, length-gates_from, length-inputs_from, input_count-inputs_from, cell_word, Touches, touches}
+use Rattle.pg_cells.proofs.OverLaws.{IsOver-later}
+use Rattle.pg_cells.proofs.TouchLaws.{length-gates_from, length-inputs_from, cell_word, Touches, touches}
 
 -- ---- what is lent to the writes' call
 

@@ -121,7 +121,13 @@ impl Touched {
     {
         let cell = &self.cells.as_slice()[place];
         let writes = self.writes.as_slice();
-        let word = lay(self.alloc, circuit, address.as_slice(), writes, cell.word.as_slice())?;
+        let word = lay(
+            self.alloc,
+            circuit,
+            address.as_slice(),
+            writes,
+            cell.word.as_slice(),
+        )?;
         Ok(Bits::from_vec(word))
     }
 
@@ -137,9 +143,18 @@ impl Touched {
     {
         let initial = inputs(self.alloc, circuit, self.w)?;
         let writes = self.writes.as_slice();
-        let word = lay(self.alloc, circuit, address.as_slice(), writes, initial.as_slice())?;
+        let word = lay(
+            self.alloc,
+            circuit,
+            address.as_slice(),
+            writes,
+            initial.as_slice(),
+        )?;
         let address = Bits::from_slice(self.alloc, address.as_slice())?;
-        let cell = Cell { address, word: Bits::from_vec(initial) };
+        let cell = Cell {
+            address,
+            word: Bits::from_vec(initial),
+        };
         self.cells.push(cell)?;
         Ok(Bits::from_vec(word))
     }
@@ -166,7 +181,11 @@ impl Touched {
     {
         let address = Bits::from_slice(self.alloc, address.as_slice())?;
         let value = Bits::from_slice(self.alloc, value.as_slice())?;
-        self.writes.push(Write { guard, address, value })?;
+        self.writes.push(Write {
+            guard,
+            address,
+            value,
+        })?;
         Ok(())
     }
 

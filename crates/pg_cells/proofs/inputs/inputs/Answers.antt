@@ -1,6 +1,5 @@
 -- One more input, and at the end all of them.
-use Rattle.std.proofs.Common.{sym, ap, subst, arith, List}
-use Rattle.pg_circuit.specs.declared.node.Node.{Node}
+use Rattle.std.proofs.Common.{sym, subst, arith}
 use Rattle.pg_circuit.specs.declared.circuit.Circuit.{Circuit}
 use Rattle.pg_cells.specs.Means.{GrowsBy}
 use Rattle.pg_cells.proofs.InputsMade.{one_more, grown_so_far, all_so_far}

@@ -5,7 +5,6 @@ use Rattle.pg_vec.proofs.Loops.{folded_next, folded_all}
 use Rattle.pg_cells.specs.View.{View}
 use Rattle.pg_cells.specs.declared.cell.Cell.{Cell}
 use Rattle.pg_cells.specs.Made.{consistent_made}
-use Rattle.pg_cells.specs.Means.{each_pair}
 use Rattle.pg_cells.proofs.OverLaws.{IsOver-later}
 use Rattle.pg_cells.proofs.AgreeSteps.{own_cell, cell_widths, other_cells, begin, row_kept, rows_kept, few_kept, told, in_cells, pairs_none, pairs_next}
 use Rattle.pg_cells.proofs.touched.Touched.consistent.Goals as goal
