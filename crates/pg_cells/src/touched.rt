@@ -67,6 +67,20 @@ impl Touched {
         }
     }
 
+    /// How many bits a word has.
+    pub fn word_width(&self) -> u32
+        ensures { result ≡ self.now.w }
+    {
+        self.w
+    }
+
+    /// How many bits an address has.
+    pub fn address_width(&self) -> u32
+        ensures { result ≡ self.now.a }
+    {
+        self.a
+    }
+
     /// The cells, in the order of their first touch.
     pub fn cells(&self) -> &[Cell]
         ensures { result.now ≡ self.now.cells }
