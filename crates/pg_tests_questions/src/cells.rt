@@ -50,6 +50,21 @@ fn touch(
     Ok(cells.touch(circuit, address)?)
 }
 
+/// A touch of an address that is a number below four.
+fn touch_constant(
+    rt: &impl Abort,
+    alloc: Global,
+    circuit: &mut Circuit,
+    cells: &mut Touched,
+    address: u8,
+) -> Result<Bits, Fail>
+    requires { IsOver circuit.old.nodes cells.old }
+    ensures { IsOver circuit.new.nodes cells.new }
+{
+    let address = constant(alloc, circuit, address)?;
+    touch(rt, circuit, cells, &address)
+}
+
 /// A write of what is there.
 fn write(
     rt: &impl Abort,
@@ -95,7 +110,7 @@ fn value(values: &[bool], gate: Gate) -> Result<bool, Fail> {
 }
 
 /// The number of a string of two gates.
-fn number(values: &[bool], bits: &Bits) -> Result<usize, Fail> {
+fn number(values: &[bool], bits: &Bits) -> Result<u32, Fail> {
     let mut number = 0;
     for (k, gate) in bits.as_slice().iter().enumerate() {
         if value(values, *gate)? {
@@ -106,13 +121,13 @@ fn number(values: &[bool], bits: &Bits) -> Result<usize, Fail> {
 }
 
 /// Two bits of a number, from one on.
-fn two_bits(number: u32, from: u32) -> usize {
-    (number.wrapping_shr(from) & 3) as usize
+fn two_bits(number: u32, from: u32) -> u32 {
+    number.wrapping_shr(from) & 3
 }
 
 /// A word of a storage.
-fn at(storage: &[usize; 4], address: usize) -> usize {
-    storage[address & 3]
+fn at(storage: &[u32; 4], address: u32) -> u32 {
+    storage[(address & 3) as usize]
 }
 
 /// What a run touched at two addresses: x; x after a write to y that may be done; y after one to address 1 too; and x
@@ -150,10 +165,10 @@ fn run(rt: &impl Abort, alloc: Global) -> Result<Seen, Fail> {
 }
 
 /// What a storage has where such a run looks.
-fn expected(mut storage: [usize; 4], x: usize, y: usize, done: bool) -> [usize; 4] {
+fn expected(mut storage: [u32; 4], x: u32, y: u32, done: bool) -> [u32; 4] {
     let first = at(&storage, x);
     if done {
-        storage[y & 3] = 3;
+        storage[(y & 3) as usize] = 3;
     }
     let second = at(&storage, x);
     storage[1] = first;
@@ -171,8 +186,8 @@ fn words_are_those_of_a_storage(rt: HostRuntime) -> Result<(), Fail> {
         assert!(rt; fine == (x != y || word_x == word_y), "{bits}");
         if fine {
             let mut storage = [0; 4];
-            storage[x & 3] = word_x;
-            storage[y & 3] = word_y;
+            storage[(x & 3) as usize] = word_x;
+            storage[(y & 3) as usize] = word_y;
             let words = expected(storage, x, y, bits & 16 != 0);
             for (word, due) in seen.words.iter().zip(words) {
                 assert!(rt; number(values.as_slice(), word)? == due, "{bits}");
@@ -200,7 +215,7 @@ fn a_word_is_an_address(rt: HostRuntime) -> Result<(), Fail> {
         ];
         let start = two_bits(bits, 8);
         let (one, two) = (at(&storage, start), at(&storage, at(&storage, start)));
-        let chosen = (start | one << 2 | two << 4) as u32;
+        let chosen = start | one << 2 | two << 4;
         let values = values(&rt, alloc, &circuit, chosen)?;
         assert!(rt; value(values.as_slice(), consistent)?, "{bits}");
         assert!(rt; number(values.as_slice(), &far)? == two, "{bits}");
@@ -213,10 +228,9 @@ fn cells_that_are_shared_or_told_apart(rt: HostRuntime) -> Result<(), Fail> {
     let alloc = rt.alloc();
     let mut circuit = Circuit::new(alloc)?;
     let mut cells = Touched::new(alloc, 2, 2);
-    for address in [1, 2, 1] {
-        let address = constant(alloc, &circuit, address)?;
-        touch(&rt, &mut circuit, &mut cells, &address)?;
-    }
+    touch_constant(&rt, alloc, &mut circuit, &mut cells, 1)?;
+    touch_constant(&rt, alloc, &mut circuit, &mut cells, 2)?;
+    touch_constant(&rt, alloc, &mut circuit, &mut cells, 1)?;
     assert!(rt; cells.cells().len() == 2);
     assert!(rt; circuit.inputs() == 4);
     let before = circuit.len();
