@@ -1,5 +1,5 @@
 -- Lists of cells that are not zero, and the storages that they stand for.
-use Rattle.std.proofs.Common.{◌≡◌, ◌≢◌, ℕ, zero, suc, ◌+◌, ◌-◌, ◌<◌, ◌≤◌, ◌⊎◌, inl, inr, List, [], ◌∷◌, ◌++◌, length, get_or, set, refl, sym, ap, ◌∙◌, subst, arith, length-append, Result, Ok, Err, IfOk, IfErr}
+use Rattle.std.proofs.Common.{take, ◌≡◌, ◌≢◌, ℕ, zero, suc, ◌+◌, ◌-◌, ◌<◌, ◌≤◌, ◌⊎◌, inl, inr, List, [], ◌∷◌, ◌++◌, length, get_or, set, refl, sym, ap, ◌∙◌, subst, arith, length-append, Result, Ok, Err, IfOk, IfErr}
 use Rattle.std.specs.List.{All}
 use Rattle.std.specs.List.Sorted.{IsSearchInRange, IsBinarySearchResult, IsNonDecreasingBy}
 use Rattle.std.specs.Ordering.{nat_cmp, ordering_index}
@@ -7,7 +7,7 @@ use Rattle.std.proofs.Math.Nat.{eq-or-lt_of_le}
 use Rattle.std.proofs.lemmas.Cmp.{ranked}
 use Rattle.std.proofs.lemmas.List.Sorted.{IsNonDecreasingBy-from_default}
 use Rattle.std.proofs.lemmas.List.Elements.{All-head, All-tail, All-push, All-weaker, All-from_get_or}
-use Rattle.std.proofs.lemmas.List.{get_or_append_left, get_or_at, get_or-replicate, length-replicate, length-set, get_or-set_same, get_or-set_other, set-set, set-get_or}
+use Rattle.std.proofs.lemmas.List.{take_all, take_more, length-take-le, get_or-take, get_or_append_left, get_or_at, get_or-replicate, length-replicate, length-set, get_or-set_same, get_or-set_other, set-set, set-get_or}
 use Rattle.std.proofs.lemmas.Bool.Decides.{nat_tests}
 use Rattle.pg_word.specs.Sparse.{address_at, IsCellList, IsPastLast, AreWithin, storage_of, IsListedAt, IsNotListed}
 
@@ -133,3 +133,46 @@ one_list size (c ∷ cs) (d ∷ ds) h k w v e =
     rest_storage size c cs lc h ∙ ap (λ (s : List ℕ). set s c.0 0) e ∙ ap (λ n. set (storage_of size (d ∷ ds)) n 0) at ∙ sym (rest_storage size d ds ld k) in
     let tail = one_list size cs ds (rest_listed c cs h) (rest_listed d ds k) (All-tail (λ cell. cell.0 < size) c cs w) (All-tail (λ cell. cell.0 < size) d ds v) rest in
     λ i. (at i, word i) ∷ tail i
+
+-- ---- a list that is gone through
+
+-- the cells so far are listed, and the least address that may follow is past the last one
+pub record ListedSoFar (cells : List (ℕ × ℕ)) (i least : ℕ) : Type 0 where
+  pub listed : IsCellList (take i cells)
+  pub least_is : (j : ℕ) → j + 1 ≡ i → address_at cells j + 1 ≡ least
+  pub begins : i ≡ 0 → least ≡ 0
+
+pub none_so_far : (cells : List (ℕ × ℕ)) → ListedSoFar cells 0 0
+none_so_far cells = record {
+  listed = record { ascending = λ i j lt l. absurd (omega arith); not_zero = λ i d l. absurd (omega arith) };
+  least_is = λ j e. absurd (omega arith);
+  begins = λ e. refl;
+}
+
+pub one_more_listed : (cells : List (ℕ × ℕ)) (i least next : ℕ) → i < length cells → ListedSoFar cells i least → (get_or cells i (0, 0)).1 ≢ 0 → least ≤ address_at cells i → next ≡ address_at cells i + 1 → ListedSoFar cells (i + 1) next
+one_more_listed cells i least next l h n le en =
+    let c = get_or cells i (0, 0) in
+    let long : length (take i cells) ≡ i = length-take-le i cells (omega arith) in
+    let past : IsPastLast (take i cells) c.0 =
+    λ j e.
+    let same : address_at (take i cells) j ≡ address_at cells j = ap (λ (x : ℕ × ℕ). x.0) (get_or-take i cells j (0, 0) (omega arith)) in
+    let last = h.least_is j (omega arith) in
+    omega arith in
+    record {
+      listed = subst IsCellList (sym (take_more cells i (0, 0) l)) (pushed (take i cells) c.0 c.1 h.listed past n);
+      least_is = λ j e. let same : j ≡ i = omega arith in ap (λ k. address_at cells k + 1) same ∙ sym en;
+      begins = λ e. absurd (omega arith);
+    }
+
+pub all_listed : (cells : List (ℕ × ℕ)) (i least : ℕ) → length cells ≤ i → ListedSoFar cells i least → IsCellList cells
+all_listed cells i least l h = subst IsCellList (take_all i cells l) h.listed
+
+pub zero_not_listed : (cells : List (ℕ × ℕ)) (i : ℕ) → i < length cells → (get_or cells i (0, 0)).1 ≡ 0 → ¬ (IsCellList cells)
+zero_not_listed cells i l e h = h.not_zero i (0, 0) l e
+
+pub low_not_listed : (cells : List (ℕ × ℕ)) (i least : ℕ) → i < length cells → ListedSoFar cells i least → address_at cells i < least → ¬ (IsCellList cells)
+low_not_listed cells zero least l h low k = let z = h.begins refl in omega arith
+low_not_listed cells (suc i) least l h low k =
+    let last = h.least_is i (omega arith) in
+    let rise = k.ascending i (suc i) (omega arith) l in
+    omega arith

@@ -5,7 +5,7 @@
 //! are not zero is kept by the types, so that a state is listed in one way alone (`laws`): two states are the same where
 //! their lists are. Whoever makes one pushes its cells as it goes over the addresses upwards.
 
-ghost use Rattle.std.specs.Prelude.{◌≡◌, ◌≢◌, ◌<◌, [], ◌∷◌, ◌++◌, slice_index, IfOk, IfErr, OnOk, OnErr};
+ghost use Rattle.std.specs.Prelude.{◌≡◌, ◌≢◌, ◌<◌, [], ◌∷◌, ◌++◌, ◌↔◌, slice_index, IsTrue, IsSome, IfSome, IfOk, IfErr, OnOk, OnErr};
 ghost use Rattle.pg_word.specs.Sparse.{IsCellList, IsPastLast, AreWithin, AreWithin-prop, IsListedAt, IsNotListed, storage_of};
 
 use super::psw::Psw;
@@ -47,6 +47,19 @@ impl CellList {
         CellList { cells }
     }
 
+    /// The list of these cells, or none where addresses do not ascend strictly or a word is zero. It takes the vector over,
+    /// and no memory.
+    pub fn checked(cells: Vec<(u32, u64)>) -> Option<CellList>
+        ensures listed { IsSome result ↔ IsCellList cells.items }
+        ensures cells { IfSome result (λ list. list ≡ cells.items) }
+    {
+        if are_listed(cells.as_slice()) {
+            Some(CellList { cells })
+        } else {
+            None
+        }
+    }
+
     /// The cells, in the order of their addresses.
     pub fn as_slice(&self) -> &[(u32, u64)]
         ensures cells { result.now ≡ self.now }
@@ -74,6 +87,27 @@ impl CellList {
         self.cells
             .binary_search_by_key(&at, |&(address, _)| address)
     }
+}
+
+/// The least word that is listed.
+const LEAST_WORD: u64 = 1;
+
+/// Whether addresses ascend strictly and no word is zero.
+fn are_listed(cells: &[(u32, u64)]) -> bool
+    ensures { IsTrue result ↔ IsCellList cells.now }
+{
+    let mut least = 0;
+    for cell in cells {
+        let (address, word) = *cell;
+        if word < LEAST_WORD {
+            return false;
+        }
+        if u64::from(address) < least {
+            return false;
+        }
+        least = u64::from(address) + 1;
+    }
+    true
 }
 
 /// A state whose cells that are not listed are zero.
