@@ -4,16 +4,16 @@ use Rattle.std.proofs.lemmas.List.{take-map, take_all, take_at}
 use Rattle.std.proofs.lemmas.List.Elements.{All-take}
 use Rattle.pg_circuit.specs.declared.node.Gate.{Gate}
 use Rattle.pg_circuit.specs.declared.node.Node.{Node}
-use Rattle.pg_circuit.specs.Values.{gate_value}
+use Rattle.pg_circuit.specs.Values.{gate_value, values_of}
 use Rattle.pg_circuit.specs.Grown.{GrowsTo}
 use Rattle.pg_vec.specs.There.{AreValues}
-use Rattle.pg_vec.proofs.Kept.{values_earlier}
+use Rattle.pg_vec.proofs.Kept.{front_same, values_earlier, values_later}
 use Rattle.pg_cells.specs.declared.cell.Cell.{Cell}
 use Rattle.pg_cells.specs.declared.cell.Write.{Write}
 use Rattle.pg_cells.specs.Storage.{Known, Agrees}
 use Rattle.pg_cells.specs.Cells.{known_of, known_cells}
 use Rattle.pg_cells.specs.Made.{inputs_made, found_word, with_found, cells_after}
-use Rattle.pg_cells.specs.Means.{IsWordAt, TellsConsistent}
+use Rattle.pg_cells.specs.Means.{IsWordAt, TellsConsistent, HasInputs}
 use Rattle.pg_cells.proofs.StorageLaws.{agreeing_consistent}
 
 -- what agrees with more cells agrees with the first of them
@@ -36,6 +36,11 @@ tells_later nodes later w a cells gate h g = record {
 pub agreeing_true : (nodes : List Node) (w a : ℕ) (cells : List Cell) (gate : Gate) → TellsConsistent nodes w a cells gate → (inputs values : List Bool) (storage : List ℕ) → AreValues inputs nodes values →
     Agrees storage (known_cells values cells) → gate_value values gate ≡ true
 agreeing_true nodes w a cells gate h inputs values storage v agrees = (h.exact inputs values v).1 (agreeing_consistent storage (known_cells values cells) agrees)
+
+pub given_true : (nodes : List Node) (w a : ℕ) (cells : List Cell) (gate : Gate) → TellsConsistent nodes w a cells gate → (inputs : List Bool) (storage : List ℕ) (found : HasInputs nodes w cells storage inputs) →
+    gate_value (values_of found.given nodes) gate ≡ true
+given_true nodes w a cells gate h inputs storage found =
+    agreeing_true nodes w a cells gate h found.given (values_of found.given nodes) storage (values_later found.given nodes nodes (front_same nodes)) found.agrees
 
 -- ---- cells after a touch
 

@@ -29,6 +29,7 @@ same_gates [] [] = true
 same_gates (x ∷ xs) (y ∷ ys) = same_gate x y && same_gates xs ys
 same_gates _ _ = false
 
+-- what stands past the end of a list of cells
 abbrev pub no_cell : Cell
 no_cell = record { address = []; word = [] }
 

@@ -6,7 +6,7 @@
 
 ghost use Rattle.std.specs.Prelude.{◌≡◌, ℕ, Bool, true, List, length, take};
 ghost use Rattle.pg_circuit.specs.Nodes.{input_count, IsCircuit};
-ghost use Rattle.pg_circuit.specs.Values.{gate_value};
+ghost use Rattle.pg_circuit.specs.Values.{gate_value, values_of};
 ghost use Rattle.pg_circuit.specs.Grown.{GrowsTo};
 ghost use Rattle.pg_vec.specs.There.{AreValues};
 ghost use Rattle.pg_cells.specs.Storage.{IsStorage, Agrees};
@@ -59,8 +59,9 @@ pub fn storages_have_inputs(touched: &Touched, nodes: &[Node])
     ensures { (storage : List ℕ) (inputs : List Bool) → IsStorage touched.now.w touched.now.a storage → length inputs ≡ input_count nodes.now → HasInputs nodes.now touched.now.w touched.now.cells storage inputs }
 {}
 
-/// And where a storage agrees with all cells, the gate of agreement is true.
+/// And where a storage agrees with all cells, the gate of agreement is true: so it is under those inputs too.
 pub fn storages_are_consistent(nodes: &[Node], cells: &[Cell], gate: Gate, w: u32, a: u32)
     requires { TellsConsistent nodes.now w a cells.now gate }
-    ensures { (inputs values : List Bool) (storage : List ℕ) → AreValues inputs nodes.now values → Agrees storage (known_cells values cells.now) → gate_value values gate ≡ true }
+    ensures agreeing { (inputs values : List Bool) (storage : List ℕ) → AreValues inputs nodes.now values → Agrees storage (known_cells values cells.now) → gate_value values gate ≡ true }
+    ensures given { (inputs : List Bool) (storage : List ℕ) (found : HasInputs nodes.now w cells.now storage inputs) → gate_value (values_of found.given nodes.now) gate ≡ true }
 {}

@@ -50,7 +50,8 @@ impl Model for Touched {
 }
 
 impl Touched {
-    /// No cell and no write, of a machine with words of `w` bits and addresses of `a`. It takes no memory yet.
+    /// No cell and no write, of a machine with words of `w` bits, 1 to 64, and addresses of `a`, 1 to 32. It takes no memory
+    /// yet.
     pub fn new(alloc: Global, w: u32, a: u32) -> Touched
         requires word_width { IsWidth w }
         requires address_least { 1 ≤ a }
