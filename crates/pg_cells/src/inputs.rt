@@ -13,7 +13,7 @@ pub fn inputs(alloc: Global, circuit: &mut Circuit, count: u32) -> Result<Vec<Ga
     ensures kept { GrowsBy circuit.old.nodes circuit.new.nodes count count }
 {
     let mut bits = Vec::with_capacity(alloc, count as usize)?;
-    for i in 0..count {
+    for _ in 0..count {
         let bit = circuit.input()?;
         bits.push(bit)?;
     }
