@@ -2,3 +2,4 @@ pub mod Shape
 pub mod Psw
 pub mod Bits
 pub mod Bytes
+pub mod Sparse

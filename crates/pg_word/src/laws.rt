@@ -4,9 +4,11 @@ ghost use Rattle.std.specs.Prelude.{◌≡◌, ℕ, ◌+◌, ◌*◌, ◌/◌, �
 ghost use Rattle.pg_word.specs.Shape.{IsShape};
 ghost use Rattle.pg_word.specs.Psw.{IsPsw, packed, packed_trap, power_on_psw, unpacked, window_len_of};
 ghost use Rattle.pg_word.specs.Bits.{product_of, left_shifted, sign_extended};
+ghost use Rattle.pg_word.specs.Sparse.{storage_of};
 
 use super::psw::{Mode, Psw};
 use super::shape::Shape;
+use super::sparse::Sparse;
 
 /// Unpacking a packed program status word gives it back.
 pub fn unpack_undoes_pack(a: u32, x: Psw)
@@ -75,3 +77,16 @@ pub fn worked_numbers()
     ensures left_by_width { left_shifted 8 1 8 ≡ 0 }
     ensures widened { sign_extended 12 4 8 ≡ 252 }
 {}
+
+/// A state is listed in one way alone: two of one size and one program status word that stand for the same storage are the
+/// same.
+pub fn same_storage_same_state(x: &Sparse, y: &Sparse)
+    requires size { x.now.size ≡ y.now.size }
+    requires psw { x.now.psw ≡ y.now.psw }
+    requires storage { storage_of x.now.size x.now.cells ≡ storage_of y.now.size y.now.cells }
+    ensures cells { x.now.cells ≡ y.now.cells }
+    ensures state { x.now ≡ y.now }
+{
+    x.cells.as_slice();
+    y.cells.as_slice();
+}

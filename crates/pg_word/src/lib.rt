@@ -15,7 +15,9 @@ mod cause;
 pub mod laws;
 mod psw;
 mod shape;
+mod sparse;
 
 pub use cause::Cause;
 pub use psw::{Mode, Psw, pack, pack_trap, unpack, window_len};
 pub use shape::Shape;
+pub use sparse::{CellList, Sparse};
