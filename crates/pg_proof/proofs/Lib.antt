@@ -1,0 +1,5 @@
+pub mod FlagLemmas
+pub mod WithinLemmas
+pub mod ReadingLemmas
+pub mod WalkLemmas
+pub mod MarkedLemmas

@@ -1,0 +1,7 @@
+pub mod Flags
+pub mod Places
+pub mod Reading
+pub mod State
+pub mod Refutation
+pub mod Marked
+pub mod Sound

@@ -1,0 +1,41 @@
+-- The same by flags: what the code computes where the literals set true are marked, and not listed.
+use Rattle.std.specs.Prelude.{◌≡◌, ℕ, ◌+◌, ◌*◌, ◌<◌, ⊤, Bool, true, if◌then◌else◌, ℤ, neg_ℤ, nat_abs, List, [], ◌∷◌, slice_set, Option, None, Some}
+use Rattle.pg_proof.specs.declared.propagation.Reading.{Reading}
+use Rattle.pg_proof.specs.declared.propagation.Reading.TheVariants.{Falsified, Unit, Neither}
+use Rattle.pg_proof.specs.declared.step.ProofFault.{ProofFault}
+use Rattle.pg_proof.specs.declared.step.ProofFault.TheVariants.{NoConflict}
+use Rattle.pg_proof.specs.Places.{place, is_marked}
+use Rattle.pg_proof.specs.Reading.{reading}
+use Rattle.pg_proof.specs.State.{clause_at}
+use Rattle.pg_proof.specs.Refutation.{is_last, at_reading, at_clause}
+
+-- what a literal more makes of a reading
+abbrev pub with_open : Reading → ℤ → Reading
+with_open Falsified z = Unit z
+with_open (Unit y) z = Neither
+with_open Neither z = Neither
+
+abbrev pub with_literal : (ℤ → Bool) → Reading → ℤ → Reading
+with_literal is_true r z = (if is_true (neg_ℤ z) then r else (if is_true z then Neither else with_open r z))
+
+-- the reading of a clause's rest, after a part that was read
+abbrev pub read_on : (ℤ → Bool) → Reading → List ℤ → Reading
+read_on is_true r [] = r
+read_on is_true r (z ∷ zs) = read_on is_true (with_literal is_true r z) zs
+
+-- a literal that a reading sets has its places among so many
+abbrev pub IsReadWithin : ℕ → Reading → Type 0
+IsReadWithin places Falsified = ⊤
+IsReadWithin places (Unit z) = 2 * nat_abs z + 1 < places
+IsReadWithin places Neither = ⊤
+
+-- flags with those of some literals put up
+abbrev pub marked : List Bool → List ℤ → List Bool
+marked flags [] = flags
+marked flags (z ∷ zs) = marked (slice_set flags (place z) true) zs
+
+unfoldable pub walk_marked : List (Option (List ℤ)) → List Bool → List ℕ → Option ProofFault
+walk_marked held flags [] = Some NoConflict
+walk_marked held flags (h ∷ hs) =
+    at_clause (clause_at held h)
+        (λ c. at_reading (reading (is_marked flags) c) (is_last hs) (λ z. walk_marked held (slice_set flags (place z) true) hs))
