@@ -3,3 +3,5 @@ pub mod WithinLemmas
 pub mod ReadingLemmas
 pub mod WalkLemmas
 pub mod MarkedLemmas
+pub mod SoundLemmas
+pub mod KeptLemmas

@@ -85,7 +85,7 @@ shows-marked n zs h =
     is_marked-marked zs (replicate n false) (λ _. false) (subst (λ m. AreWithin m zs) (sym (length-replicate n false)) h) (λ i y. none_up n (place y) i)
     ∙ (λ i y. or_false (has zs y) i)
 
-same_clause : (o : Option (Option (List ℤ))) (c : List ℤ) → option_and_then (λ x. x) o ≡ Some c → o ≡ Some (Some c)
+pub same_clause : (o : Option (Option (List ℤ))) (c : List ℤ) → option_and_then (λ x. x) o ≡ Some c → o ≡ Some (Some c)
 same_clause None c e = cc
 same_clause (Some None) c e = cc
 same_clause (Some (Some b)) c e = ap Some e

@@ -22,15 +22,15 @@ AreHeldWithin-push n [] c h k = (k, tt)
 AreHeldWithin-push n (None ∷ held) c h k = AreHeldWithin-push n held c h k
 AreHeldWithin-push n (Some b ∷ held) c h k = (h.0, AreHeldWithin-push n held c h.1 k)
 
-both : (a b : Bool) → a && b ≡ true → (a ≡ true) × (b ≡ true)
+pub both : (a b : Bool) → a && b ≡ true → (a ≡ true) × (b ≡ true)
 both true b h = (refl, h)
 both false b h = cc
 
 le : (a b : ℕ) → leb a b ≡ true → a ≤ b
 le a b h = grind (arith, nat_tests)
 
-lt : (a b : ℕ) → ltb a b ≡ true → a < b
-lt a b h = grind (arith, nat_tests)
+pub less : (a b : ℕ) → ltb a b ≡ true → a < b
+less a b h = grind (arith, nat_tests)
 
 -- ascending literals are within
 pub AreWithin-ascending : (variables above : ℕ) (c : List ℤ) → are_ascending variables above c ≡ true → AreWithin (2 * variables + 2) c

@@ -5,3 +5,4 @@ pub mod State
 pub mod Refutation
 pub mod Marked
 pub mod Sound
+pub mod Kept

@@ -1,1 +1,118 @@
-pub struct Checker {}
+//! The checker: the clauses of a question, and those that valid steps add.
+//!
+//! Whoever has a log calls `new` with the question, and then `add` and `remove` act by act: a caller that reads a log from
+//! outside, or the one that made it and does not want to be trusted. The clauses lie here, each in a list of its own, so
+//! that nothing of the question is borrowed. Literals are marked in flags that each step takes down at once.
+
+ghost use Rattle.std.specs.Prelude.{◌≡◌, ◌+◌, ◌<◌, ◌^◌, ◌++◌, ◌∷◌, [], ◌||◌, List, ℤ, length, map, Some, IfOk, OnOk, OnErr};
+ghost use Rattle.pg_proof.specs.State.{State, begun, is_empty, with_clause};
+ghost use Rattle.pg_proof.specs.Refutation.{fault_of, told};
+ghost use Rattle.pg_proof.specs.Sound.{IsSound};
+
+use crate::marks::Marks;
+use crate::propagation::fault_of;
+use crate::question::{copies, greatest_variable};
+use crate::step::{LitList, ProofFault, Step};
+use pg_cnf::Cnf;
+use std::alloc::{AllocError, Global};
+use std::marker::Model;
+
+/// The clauses that are held, by their numbers from 1 on, and whether the empty clause was among those added.
+#[derive(Drop)]
+pub struct Checker {
+    variables: u32,
+    clauses: Vec<Option<LitList>>,
+    closed: bool,
+    literals: Marks,
+    alloc: Global,
+}
+
+impl Model for Checker {
+    ghost use Rattle.std.specs.Prelude.{ℕ};
+    ghost use Rattle.pg_proof.specs.State.{State};
+
+    ghost Value = { State };
+
+    ghost use Rattle.pg_proof.specs.Kept.{IsKept, state_of};
+
+    ghost view = { λ c. state_of c.variables c.clauses.items c.closed };
+
+    ghost invariant = { λ c. IsKept c.variables c.clauses.items c.literals };
+}
+
+impl Checker {
+    /// A checker of a question: its clauses are held, in order, under the numbers from 1 on. Steps may use the variables up
+    /// to the greatest that stands in one of them. The clauses are copied. The error is want of memory.
+    pub fn new(alloc: Global, cnf: &Cnf) -> Result<Checker, AllocError>
+        ensures state { IfOk result (λ checker. checker ≡ begun cnf.now.clauses) }
+        ensures sound { IfOk result (λ checker. IsSound cnf.now.clauses checker) }
+    {
+        let clauses = copies(alloc, cnf.clauses.as_slice())?;
+        let variables = greatest_variable(cnf.clauses.as_slice());
+        let literals = Marks::new(alloc, 2 * variables as usize + 2)?;
+        Ok(Checker {
+            variables,
+            clauses,
+            closed: false,
+            literals,
+            alloc,
+        })
+    }
+
+    /// Takes a step, if it is valid: `Ok` has the number of its clause, which is held from then on. A refusal is the first
+    /// fault of the step, by the order in which it is read: `UnknownLit` for its literals, then `UnknownHint` or `NotUnit`
+    /// for the first hint at fault, and `NoConflict` where no hint is. `Memory` comes to a valid step where memory runs out.
+    /// After a refusal all is as it was.
+    ///
+    /// It costs the length of the step and of its hints' clauses, whatever the number of clauses held.
+    pub fn add(&mut self, step: &Step) -> Result<u32, ProofFault>
+        requires room { length self.old.held + 1 < 2 ^ 32 }
+        ensures judged { fault_of self.old.variables self.old.held step.now ≡ told result }
+        ensures number { IfOk result (λ number. number ≡ length self.old.held + 1) }
+        ensures added { OnOk result (self.new ≡ with_clause self.old step.now.lits) }
+        ensures kept { OnErr result (self.new ≡ self.old) }
+        ensures sound { (question : List (List ℤ)) → IsSound question self.old → IsSound question self.new }
+    {
+        if let Some(fault) = fault_of(&mut self.literals, self.variables, self.clauses.as_slice(), step) {
+            return Err(fault);
+        }
+        let number = self.clauses.len() as u32 + 1;
+        let literals = step.lits.as_slice();
+        match hold(self.alloc, &mut self.clauses, literals) {
+            Ok(()) => {}
+            Err(_) => return Err(ProofFault::Memory),
+        }
+        self.closed = closes(self.closed, literals);
+        Ok(number)
+    }
+
+    /// Whether the empty clause was added: then no assignment makes all clauses of the question true.
+    pub fn closed(&self) -> bool
+        ensures { result ≡ self.now.closed }
+    {
+        self.closed
+    }
+}
+
+/// A clause of these literals more, at the end. The error is want of memory, and the clauses stay.
+fn hold(alloc: Global, clauses: &mut Vec<Option<LitList>>, literals: &[i32]) -> Result<(), AllocError>
+    ensures held { OnOk result (clauses.new.items ≡ clauses.old.items ++ Some literals.now ∷ []) }
+    ensures kept { OnErr result (clauses.new.items ≡ clauses.old.items) }
+{
+    let copy = LitList::from_slice(alloc, literals)?;
+    clauses.push(Some(copy))?;
+    Ok(())
+}
+
+/// Whether the empty clause was added, once a clause of these literals is.
+fn closes(closed: bool, literals: &[i32]) -> bool
+    ensures { result ≡ closed || is_empty literals.now }
+{
+    if closed {
+        return true;
+    }
+    match literals {
+        [] => true,
+        [_, ..] => false,
+    }
+}

@@ -11,6 +11,7 @@ mod checker;
 pub mod laws;
 mod marks;
 pub mod propagation;
+mod question;
 mod step;
 
 pub use checker::Checker;

@@ -1,0 +1,22 @@
+use Rattle.std.proofs.Common.{◌≡◌, ◌+◌, ◌*◌, false, length, map, Some, subst, sym, ap, ◌∙◌}
+use Rattle.std.proofs.lemmas.List.{length-replicate}
+use Rattle.pg_proof.specs.State.{AreHeldWithin, variables_of, begun}
+use Rattle.pg_proof.specs.Kept.{state_of}
+use Rattle.pg_proof.specs.Sound.{IsSound}
+use Rattle.pg_proof.proofs.KeptLemmas.{AreHeldWithin-begun}
+use Rattle.pg_proof.proofs.SoundLemmas.{IsSound-begun}
+use Rattle.pg_proof.proofs.checker.Checker.new.Goals as goal
+
+pub invariant_of-result : goal.invariant_of-result
+invariant_of-result c = record {
+  places = ap length c.in_ok-literals.ensures ∙ length-replicate (2 * c.greatest_variable-variables.result + 2) false;
+  within =
+    rw (c.in_ok-clauses.ensures, c.greatest_variable-variables.ensures, c.as_slice.ensures, c.as_slice-2.ensures)
+    (AreHeldWithin-begun c.args.cnf.now.clauses);
+}
+
+pub returns-clause-sound : goal.returns-clause-sound
+returns-clause-sound c =
+    subst (IsSound c.args.cnf.now.clauses)
+        (λ i. state_of (sym (c.greatest_variable-variables.ensures ∙ ap variables_of c.as_slice-2.ensures) i) (sym (c.in_ok-clauses.ensures ∙ ap (map Some) c.as_slice.ensures) i) false)
+        (IsSound-begun c.args.cnf.now.clauses)
