@@ -5,3 +5,4 @@ pub mod WalkLemmas
 pub mod MarkedLemmas
 pub mod SoundLemmas
 pub mod KeptLemmas
+pub mod RemovalLemmas

@@ -6,3 +6,4 @@ pub mod Refutation
 pub mod Marked
 pub mod Sound
 pub mod Kept
+pub mod Removal

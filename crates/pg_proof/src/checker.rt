@@ -4,14 +4,16 @@
 //! outside, or the one that made it and does not want to be trusted. The clauses lie here, each in a list of its own, so
 //! that nothing of the question is borrowed. Literals are marked in flags that each step takes down at once.
 
-ghost use Rattle.std.specs.Prelude.{◌≡◌, ◌+◌, ◌<◌, ◌^◌, ◌++◌, ◌∷◌, [], ◌||◌, List, ℤ, length, map, Some, IfOk, OnOk, OnErr};
+ghost use Rattle.std.specs.Prelude.{◌≡◌, ◌+◌, ◌<◌, ◌^◌, ◌++◌, ◌∷◌, [], ◌||◌, List, ℤ, length, map, Some, None, IfOk, IfErr, OnOk, OnErr};
 ghost use Rattle.pg_proof.specs.State.{State, begun, is_empty, with_clause};
 ghost use Rattle.pg_proof.specs.Refutation.{fault_of, told};
+ghost use Rattle.pg_proof.specs.Removal.{after_removal};
 ghost use Rattle.pg_proof.specs.Sound.{IsSound};
 
 use crate::marks::Marks;
 use crate::propagation::fault_of;
 use crate::question::{copies, greatest_variable};
+use crate::removal::{are_held, make_room, take_away};
 use crate::step::{LitList, ProofFault, Step};
 use pg_cnf::Cnf;
 use std::alloc::{AllocError, Global};
@@ -24,6 +26,7 @@ pub struct Checker {
     clauses: Vec<Option<LitList>>,
     closed: bool,
     literals: Marks,
+    numbers: Marks,
     alloc: Global,
 }
 
@@ -37,7 +40,7 @@ impl Model for Checker {
 
     ghost view = { λ c. state_of c.variables c.clauses.items c.closed };
 
-    ghost invariant = { λ c. IsKept c.variables c.clauses.items c.literals };
+    ghost invariant = { λ c. IsKept c.variables c.clauses.items c.literals c.numbers };
 }
 
 impl Checker {
@@ -50,11 +53,13 @@ impl Checker {
         let clauses = copies(alloc, cnf.clauses.as_slice())?;
         let variables = greatest_variable(cnf.clauses.as_slice());
         let literals = Marks::new(alloc, 2 * variables as usize + 2)?;
+        let numbers = Marks::new(alloc, clauses.len())?;
         Ok(Checker {
             variables,
             clauses,
             closed: false,
             literals,
+            numbers,
             alloc,
         })
     }
@@ -77,6 +82,10 @@ impl Checker {
             return Err(fault);
         }
         let number = self.clauses.len() as u32 + 1;
+        match make_room(&mut self.numbers, self.clauses.len()) {
+            Ok(()) => {}
+            Err(_) => return Err(ProofFault::Memory),
+        }
         let literals = step.lits.as_slice();
         match hold(self.alloc, &mut self.clauses, literals) {
             Ok(()) => {}
@@ -84,6 +93,23 @@ impl Checker {
         }
         self.closed = closes(self.closed, literals);
         Ok(number)
+    }
+
+    /// Takes the clauses of these numbers away, which frees their memory and takes none. `UnknownClause`, the only fault, comes
+    /// exactly where one of the numbers is that of no clause held, or is there a second time; then all is as it was.
+    ///
+    /// It costs the length of the list.
+    pub fn remove(&mut self, numbers: &[u32]) -> Result<(), ProofFault>
+        ensures removed { OnOk result (after_removal self.old numbers.now ≡ Some self.new) }
+        ensures fault { IfErr result (λ fault. (fault ≡ ProofFault.UnknownClause) × (after_removal self.old numbers.now ≡ None)) }
+        ensures kept { OnErr result (self.new ≡ self.old) }
+        ensures sound { (question : List (List ℤ)) → IsSound question self.old → IsSound question self.new }
+    {
+        if !are_held(&mut self.numbers, self.clauses.as_slice(), numbers) {
+            return Err(ProofFault::UnknownClause);
+        }
+        take_away(&mut self.clauses, numbers);
+        Ok(())
     }
 
     /// Whether the empty clause was added: then no assignment makes all clauses of the question true.

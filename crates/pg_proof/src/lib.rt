@@ -12,6 +12,7 @@ pub mod laws;
 mod marks;
 pub mod propagation;
 mod question;
+mod removal;
 mod step;
 
 pub use checker::Checker;
