@@ -1,6 +1,7 @@
 -- What a checker keeps, from the start on and from step to step.
 use Rattle.std.proofs.Common.{◌≡◌, ℕ, ◌+◌, ◌*◌, ◌<◌, ◌≤◌, max, Bool, true, false, List, [], ◌∷◌, ◌++◌, length, map, Option, Some, None, refl, sym, ap, subst, ◌∙◌, arith, ℤ, nat_abs, ◌||◌}
 use Rattle.pg_proof.specs.declared.step.Step.{Step}
+use Rattle.pg_cnf.specs.Literals.{AreLiterals, AreClauses}
 use Rattle.pg_proof.specs.Places.{AreWithin}
 use Rattle.pg_proof.specs.State.{State, AreHeldWithin, variables_of_clause, variables_of, is_empty, with_clause}
 use Rattle.pg_proof.specs.Refutation.{fault_of}
@@ -11,16 +12,17 @@ use Rattle.pg_proof.specs.Removal.{without}
 use Rattle.pg_proof.proofs.RemovalLemmas.{AreHeldWithin-without, length-without}
 use Rattle.pg_proof.proofs.SoundLemmas.{valid_within}
 
-AreWithin-most : (n : ℕ) (c : List ℤ) → variables_of_clause c ≤ n → AreWithin (2 * n + 2) c
-AreWithin-most n [] le = tt
-AreWithin-most n (z ∷ zs) le = (omega arith, AreWithin-most n zs (omega arith))
+AreWithin-most : (m n : ℕ) (c : List ℤ) → AreLiterals m c → variables_of_clause c ≤ n → AreWithin (2 * n + 2) c
+AreWithin-most m n [] h le = tt
+AreWithin-most m n (z ∷ zs) h le =
+    (record { nonzero = h.0.0; within = omega arith }, AreWithin-most m n zs h.1 (omega arith))
 
-AreHeldWithin-most : (n : ℕ) (cs : List (List ℤ)) → variables_of cs ≤ n → AreHeldWithin (2 * n + 2) (map Some cs)
-AreHeldWithin-most n [] le = tt
-AreHeldWithin-most n (c ∷ cs) le = (AreWithin-most n c (omega arith), AreHeldWithin-most n cs (omega arith))
+AreHeldWithin-most : (m n : ℕ) (cs : List (List ℤ)) → AreClauses m cs → variables_of cs ≤ n → AreHeldWithin (2 * n + 2) (map Some cs)
+AreHeldWithin-most m n [] h le = tt
+AreHeldWithin-most m n (c ∷ cs) h le = (AreWithin-most m n c h.0.within (omega arith), AreHeldWithin-most m n cs h.1 (omega arith))
 
-pub AreHeldWithin-begun : (cs : List (List ℤ)) → AreHeldWithin (2 * variables_of cs + 2) (map Some cs)
-AreHeldWithin-begun cs = AreHeldWithin-most (variables_of cs) cs (omega arith)
+pub AreHeldWithin-begun : (m : ℕ) (cs : List (List ℤ)) → AreClauses m cs → AreHeldWithin (2 * variables_of cs + 2) (map Some cs)
+AreHeldWithin-begun m cs h = AreHeldWithin-most m (variables_of cs) cs h (omega arith)
 
 pub IsKept-added : (variables : ℕ) (held after : List (Option (List ℤ))) (flags marked numbers more : List Bool) (step : Step) → fault_of variables held step ≡ None →
     length marked ≡ length flags → length held < length more → after ≡ held ++ Some step.lits ∷ [] → IsKept variables held flags numbers → IsKept variables after marked more

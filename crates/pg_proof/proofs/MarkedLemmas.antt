@@ -9,7 +9,7 @@ use Rattle.pg_proof.specs.declared.propagation.Reading.TheVariants.{Falsified, U
 use Rattle.pg_proof.specs.declared.step.ProofFault.{ProofFault}
 use Rattle.pg_proof.specs.declared.step.ProofFault.TheVariants.{UnknownLit}
 use Rattle.pg_proof.specs.declared.step.Step.{Step}
-use Rattle.pg_proof.specs.Places.{has, negations, place, is_marked, AreWithin}
+use Rattle.pg_proof.specs.Places.{has, negations, place, is_marked, IsWithin, AreWithin}
 use Rattle.pg_proof.specs.Reading.{reading}
 use Rattle.pg_proof.specs.State.{clause_at, AreHeldWithin}
 use Rattle.pg_proof.specs.Refutation.{are_ascending, is_last, at_reading, at_clause, walk, fault_of}
@@ -23,9 +23,9 @@ place-same (pos a) (negsuc b) e = absurd (omega arith)
 place-same (negsuc a) (pos b) e = absurd (omega arith)
 place-same (negsuc a) (negsuc b) e = ap negsuc (omega arith)
 
-pub place-below : (n : ℕ) (z : ℤ) → 2 * nat_abs z + 1 < n → place z < n
-place-below n (pos a) h = omega arith
-place-below n (negsuc a) h = omega arith
+pub place-below : (n : ℕ) (z : ℤ) → IsWithin n z → place z < n
+place-below n (pos a) h = omega (arith, h.within)
+place-below n (negsuc a) h = omega (arith, h.within)
 
 pub nat_abs-neg : (z : ℤ) → nat_abs (neg_ℤ z) ≡ nat_abs z
 nat_abs-neg (pos zero) = refl
@@ -34,7 +34,8 @@ nat_abs-neg (negsuc n) = refl
 
 pub AreWithin-negations : (n : ℕ) (zs : List ℤ) → AreWithin n zs → AreWithin n (negations zs)
 AreWithin-negations n [] h = tt
-AreWithin-negations n (z ∷ zs) h = (subst (λ k. 2 * k + 1 < n) (sym (nat_abs-neg z)) h.0, AreWithin-negations n zs h.1)
+AreWithin-negations n (z ∷ zs) h =
+    (record { nonzero = subst (λ k. 0 < k) (sym (nat_abs-neg z)) h.0.nonzero; within = subst (λ k. 2 * k + 1 < n) (sym (nat_abs-neg z)) h.0.within }, AreWithin-negations n zs h.1)
 
 -- one flag more
 marked_at : (flags : List Bool) (z y : ℤ) (b : Bool) → place z < length flags → int_eq z y ≡ b →

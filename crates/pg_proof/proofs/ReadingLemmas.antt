@@ -1,7 +1,7 @@
 -- A clause that is read literal by literal.
 use Rattle.std.proofs.Common.{◌≡◌, ℕ, ◌+◌, ◌*◌, ◌<◌, Bool, true, false, not, if◌then◌else◌, cond, ℤ, pos, neg_ℤ, nat_abs, List, [], ◌∷◌, length, get_or, drop, refl, sym, ap, subst, ◌∙◌}
 use Rattle.std.proofs.lemmas.List.{at_drop_more}
-use Rattle.pg_proof.specs.Places.{AreWithin}
+use Rattle.pg_proof.specs.Places.{IsWithin, AreWithin}
 use Rattle.pg_proof.proofs.WithinLemmas.{AreWithin-drop}
 use Rattle.pg_proof.specs.declared.propagation.Reading.{Reading}
 use Rattle.pg_proof.specs.declared.propagation.Reading.TheVariants.{Falsified, Unit, Neither}
@@ -51,14 +51,14 @@ module _ (t : ℤ → Bool) where
   read_on-reading [] = refl
   read_on-reading (z ∷ zs) = one_open (t (neg_ℤ z)) (t z) z zs refl (read_on-reading zs)
 
-  within : (n : ℕ) (f s : Bool) (r : Reading) (z : ℤ) → IsReadWithin n r → 2 * nat_abs z + 1 < n → IsReadWithin n (if f then r else (if s then Neither else with_open r z))
+  within : (n : ℕ) (f s : Bool) (r : Reading) (z : ℤ) → IsReadWithin n r → IsWithin n z → IsReadWithin n (if f then r else (if s then Neither else with_open r z))
   within n true s r z h lt = h
   within n false true r z h lt = tt
   within n false false Falsified z h lt = lt
   within n false false (Unit y) z h lt = tt
   within n false false Neither z h lt = tt
 
-  pub IsReadWithin-literal : (n : ℕ) (r : Reading) (z : ℤ) → IsReadWithin n r → 2 * nat_abs z + 1 < n → IsReadWithin n (with_literal t r z)
+  pub IsReadWithin-literal : (n : ℕ) (r : Reading) (z : ℤ) → IsReadWithin n r → IsWithin n z → IsReadWithin n (with_literal t r z)
   IsReadWithin-literal n r z h lt = within n (t (neg_ℤ z)) (t z) r z h lt
 
 -- one literal
@@ -77,7 +77,7 @@ pub IsReadOn-next : (t : ℤ → Bool) (c : List ℤ) (n i : ℕ) (r s : Reading
     s ≡ with_literal t r x → IsReadOn t c n i r → IsReadOn t c n (i + 1) s
 IsReadOn-next t c n i r s x lt e m h =
     let w = AreWithin-drop n c i (pos 0) lt h.within in
-    let at_x : 2 * nat_abs x + 1 < n = subst (λ y. 2 * nat_abs y + 1 < n) (sym e) w.0 in
+    let at_x : IsWithin n x = subst (IsWithin n) (sym e) w.0 in
     record {
       rest = ap (λ q. read_on t q (drop (i + 1) c)) m ∙ read_on-next t c i r x lt e ∙ h.rest;
       within = w.1;

@@ -2,12 +2,12 @@
 use Rattle.std.proofs.Common.{◌≡◌, ℕ, zero, suc, ◌+◌, ◌*◌, ◌<◌, ◌≤◌, Bool, true, false, ◌&&◌, ltb, leb, ℤ, nat_abs, List, [], ◌∷◌, ◌++◌, length, get_or, drop, Option, Some, None, slice_get, refl, sym, ap, subst, ◌∙◌, arith}
 use Rattle.std.proofs.lemmas.List.{drop_more}
 use Rattle.std.proofs.lemmas.Bool.Decides.{nat_tests}
-use Rattle.pg_proof.specs.Places.{AreWithin}
+use Rattle.pg_proof.specs.Places.{IsWithin, AreWithin}
 use Rattle.pg_proof.specs.State.{AreHeldWithin, clause_at}
 use Rattle.pg_proof.specs.Refutation.{are_ascending}
 
 pub AreWithin-drop : (n : ℕ) (c : List ℤ) (i : ℕ) (d : ℤ) → i < length c → AreWithin n (drop i c) →
-    (2 * nat_abs (get_or c i d) + 1 < n) × AreWithin n (drop (i + 1) c)
+    IsWithin n (get_or c i d) × AreWithin n (drop (i + 1) c)
 AreWithin-drop n c i d lt h = rw (drop_more c i d lt) at h
 
 pub AreHeldWithin-at : (n : ℕ) (held : List (Option (List ℤ))) (k : ℕ) (c : List ℤ) → slice_get held k ≡ Some (Some c) → AreHeldWithin n held → AreWithin n c
@@ -39,4 +39,4 @@ AreWithin-ascending variables above (z ∷ zs) h =
     let p = both (ltb above (nat_abs z)) (leb (nat_abs z) variables && are_ascending variables (nat_abs z) zs) h in
     let q = both (leb (nat_abs z) variables) (are_ascending variables (nat_abs z) zs) p.1 in
     let r : nat_abs z ≤ variables = le (nat_abs z) variables q.0 in
-    (omega (arith, r), AreWithin-ascending variables (nat_abs z) zs q.1)
+    (record { nonzero = omega (arith, less above (nat_abs z) p.0); within = omega (arith, r) }, AreWithin-ascending variables (nat_abs z) zs q.1)

@@ -4,7 +4,7 @@ use Rattle.pg_proof.specs.declared.propagation.Reading.{Reading}
 use Rattle.pg_proof.specs.declared.propagation.Reading.TheVariants.{Falsified, Unit, Neither}
 use Rattle.pg_proof.specs.declared.step.ProofFault.{ProofFault}
 use Rattle.pg_proof.specs.declared.step.ProofFault.TheVariants.{NoConflict}
-use Rattle.pg_proof.specs.Places.{place, is_marked}
+use Rattle.pg_proof.specs.Places.{place, is_marked, IsWithin}
 use Rattle.pg_proof.specs.Reading.{reading}
 use Rattle.pg_proof.specs.State.{clause_at}
 use Rattle.pg_proof.specs.Refutation.{is_last, at_reading, at_clause}
@@ -23,10 +23,10 @@ abbrev pub read_on : (ℤ → Bool) → Reading → List ℤ → Reading
 read_on is_true r [] = r
 read_on is_true r (z ∷ zs) = read_on is_true (with_literal is_true r z) zs
 
--- a literal that a reading sets has its places among so many
+-- a literal that a reading sets is one whose places are among so many
 abbrev pub IsReadWithin : ℕ → Reading → Type 0
 IsReadWithin places Falsified = ⊤
-IsReadWithin places (Unit z) = 2 * nat_abs z + 1 < places
+IsReadWithin places (Unit z) = IsWithin places z
 IsReadWithin places Neither = ⊤
 
 -- flags with those of some literals put up

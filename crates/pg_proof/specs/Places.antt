@@ -20,7 +20,11 @@ place (negsuc n) = 2 * n + 3
 abbrev pub is_marked : List Bool → ℤ → Bool
 is_marked flags z = slice_index_or flags (place z) false
 
--- both places of each literal are among so many
+-- a literal, both places of which are among so many
+pub record IsWithin (places : ℕ) (z : ℤ) : Type 0 where
+  pub nonzero : 0 < nat_abs z
+  pub within : 2 * nat_abs z + 1 < places
+
 abbrev pub AreWithin : ℕ → List ℤ → Type 0
 AreWithin places [] = ⊤
-AreWithin places (z ∷ zs) = (2 * nat_abs z + 1 < places) × AreWithin places zs
+AreWithin places (z ∷ zs) = IsWithin places z × AreWithin places zs

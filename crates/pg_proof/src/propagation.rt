@@ -4,9 +4,9 @@
 //! and each hint's clause is read once, so that a step costs the length of its own clause and of its hints' clauses,
 //! whatever the number of clauses held.
 
-ghost use Rattle.std.specs.Prelude.{◌≡◌, ◌+◌, ◌*◌, ◌<◌, ◌≤◌, ◌^◌, ℕ, length, false, true, slice_set, slice_get, neg_ℤ, nat_abs, IfSome};
+ghost use Rattle.std.specs.Prelude.{◌≡◌, ◌+◌, ◌*◌, ◌<◌, ◌≤◌, ◌^◌, ℕ, length, false, true, slice_set, slice_get, neg_ℤ, IfSome};
 ghost use Rattle.std.specs.Option.{option_copied};
-ghost use Rattle.pg_proof.specs.Places.{place, is_marked, negations, AreWithin};
+ghost use Rattle.pg_proof.specs.Places.{place, is_marked, negations, IsWithin, AreWithin};
 ghost use Rattle.pg_proof.specs.Reading.{reading};
 ghost use Rattle.pg_proof.specs.State.{clause_at, AreHeldWithin};
 ghost use Rattle.pg_proof.specs.Refutation.{are_ascending, fault_of};
@@ -85,7 +85,7 @@ fn mark_negations(flags: &mut Marks, literals: &[i32])
 
 /// What a literal more makes of a reading, where the marked literals are true.
 fn with_literal(flags: &Marks, reading: Reading, literal: i32) -> Reading
-    requires { 2 * nat_abs literal + 1 < length flags.now }
+    requires { IsWithin (length flags.now) literal }
     ensures { result ≡ with_literal (is_marked flags.now) reading literal }
 {
     if flags.has(negation_place(literal)) {

@@ -13,7 +13,7 @@ invariant_of-result c = record {
   numbered = omega (arith, ap length c.in_ok-numbers.ensures, length-replicate c.len.result false, c.len.ensures, c.in_ok-clauses.clauses.ok.0);
   within =
     rw (c.in_ok-clauses.ensures, c.greatest_variable-variables.ensures, c.as_slice.ensures, c.as_slice-2.ensures)
-    (AreHeldWithin-begun c.args.cnf.now.clauses);
+    (AreHeldWithin-begun c.args.cnf.now.variables c.args.cnf.now.clauses c.args.cnf.now.are_clauses);
 }
 
 pub returns-clause-sound : goal.returns-clause-sound
