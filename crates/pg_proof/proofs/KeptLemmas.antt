@@ -24,26 +24,24 @@ AreHeldWithin-most m n (c ∷ cs) h le = (AreWithin-most m n c h.0.within (omega
 pub AreHeldWithin-begun : (m : ℕ) (cs : List (List ℤ)) → AreClauses m cs → AreHeldWithin (2 * variables_of cs + 2) (map Some cs)
 AreHeldWithin-begun m cs h = AreHeldWithin-most m (variables_of cs) cs h (omega arith)
 
-pub IsKept-added : (variables : ℕ) (held after : List (Option (List ℤ))) (flags marked numbers more : List Bool) (step : Step) → fault_of variables held step ≡ None →
-    length marked ≡ length flags → length held < length more → after ≡ held ++ Some step.lits ∷ [] → IsKept variables held flags numbers → IsKept variables after marked more
-IsKept-added variables held after flags marked numbers more step valid same room made k =
+pub IsKept-added : (variables : ℕ) (held after : List (Option (List ℤ))) (flags marked standing numbers more : List Bool) (step : Step) →
+    fault_of variables held step ≡ None → length marked ≡ length flags → length held < length more → after ≡ held ++ Some step.lits ∷ [] →
+    IsKept variables held flags standing numbers → IsKept variables after marked standing more
+IsKept-added variables held after flags marked standing numbers more step valid same room made k =
     record {
       places = same ∙ k.places;
+      standing_places = k.standing_places;
       numbered = omega (arith, room, ap length made, length-append held (Some step.lits ∷ []));
       within = subst (AreHeldWithin (2 * variables + 2)) (sym made)
         (AreHeldWithin-push (2 * variables + 2) held step.lits k.within (valid_within variables held step valid));
     }
 
-pub IsKept-flags : (variables : ℕ) (held : List (Option (List ℤ))) (flags marked numbers more : List Bool) → length marked ≡ length flags →
-    length numbers ≤ length more → IsKept variables held flags numbers → IsKept variables held marked more
-IsKept-flags variables held flags marked numbers more same le k =
-    record { places = same ∙ k.places; numbered = omega (arith, k.numbered, le); within = k.within }
-
-pub IsKept-without : (variables : ℕ) (held after : List (Option (List ℤ))) (flags numbers seen : List Bool) (ns : List ℕ) → without held ns ≡ Some after →
-    length seen ≡ length numbers → IsKept variables held flags numbers → IsKept variables after flags seen
-IsKept-without variables held after flags numbers seen ns e same k =
+pub IsKept-without : (variables : ℕ) (held after : List (Option (List ℤ))) (flags standing numbers seen : List Bool) (ns : List ℕ) → without held ns ≡ Some after →
+    length seen ≡ length numbers → IsKept variables held flags standing numbers → IsKept variables after flags standing seen
+IsKept-without variables held after flags standing numbers seen ns e same k =
     record {
       places = k.places;
+      standing_places = k.standing_places;
       numbered = omega (arith, same, k.numbered, length-without ns held after e);
       within = AreHeldWithin-without (2 * variables + 2) ns held after e k.within;
     }

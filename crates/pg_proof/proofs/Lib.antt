@@ -6,3 +6,4 @@ pub mod MarkedLemmas
 pub mod SoundLemmas
 pub mod KeptLemmas
 pub mod RemovalLemmas
+pub mod TightLemmas

@@ -49,10 +49,10 @@ marked_at flags z y false lt e =
 pub is_marked-set : (flags : List Bool) (z : ℤ) → place z < length flags → is_marked (set flags (place z) true) ≡ (λ y. int_eq z y || is_marked flags y)
 is_marked-set flags z lt = λ i y. marked_at flags z y (int_eq z y) lt refl i
 
-shown : (flags : List Bool) (trail : List ℤ) (z : ℤ) → place z < length flags → is_marked flags ≡ has trail → is_marked (set flags (place z) true) ≡ has (z ∷ trail)
+pub shown : (flags : List Bool) (trail : List ℤ) (z : ℤ) → place z < length flags → is_marked flags ≡ has trail → is_marked (set flags (place z) true) ≡ has (z ∷ trail)
 shown flags trail z lt e = is_marked-set flags z lt ∙ ap (λ (f : ℤ → Bool). λ y. int_eq z y || f y) e
 
-swapped : (a b c : Bool) → b || (a || c) ≡ (a || b) || c
+pub swapped : (a b c : Bool) → b || (a || c) ≡ (a || b) || c
 swapped true true c = refl
 swapped true false c = refl
 swapped false true c = refl
@@ -62,7 +62,7 @@ pub length-marked : (zs : List ℤ) (flags : List Bool) → length (marked flags
 length-marked [] flags = refl
 length-marked (z ∷ zs) flags = length-marked zs (set flags (place z) true) ∙ length-set flags (place z) true
 
-is_marked-marked : (zs : List ℤ) (flags : List Bool) (f : ℤ → Bool) → AreWithin (length flags) zs → is_marked flags ≡ f →
+pub is_marked-marked : (zs : List ℤ) (flags : List Bool) (f : ℤ → Bool) → AreWithin (length flags) zs → is_marked flags ≡ f →
     is_marked (marked flags zs) ≡ (λ y. has zs y || f y)
 is_marked-marked [] flags f h e = e
 is_marked-marked (z ∷ zs) flags f h e =
@@ -71,12 +71,12 @@ is_marked-marked (z ∷ zs) flags f h e =
         (is_marked-set flags z (place-below (length flags) z h.0) ∙ ap (λ (g : ℤ → Bool). λ y. int_eq z y || g y) e)
     ∙ (λ i y. swapped (int_eq z y) (has zs y) (f y) i)
 
-none_up : (n k : ℕ) → get_or (replicate n false) k false ≡ false
+pub none_up : (n k : ℕ) → get_or (replicate n false) k false ≡ false
 none_up zero k = refl
 none_up (suc n) zero = refl
 none_up (suc n) (suc k) = none_up n k
 
-or_false : (b : Bool) → b || false ≡ b
+pub or_false : (b : Bool) → b || false ≡ b
 or_false true = refl
 or_false false = refl
 

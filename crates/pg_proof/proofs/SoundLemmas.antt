@@ -87,7 +87,7 @@ reading_of-false t [] e = refl
 reading_of-false t (z ∷ []) e = absurd (one_reading (t z) z e)
 reading_of-false t (z ∷ y ∷ zs) e = cc
 
-reading_of-unit : (t : ℤ → Bool) (zs : List ℤ) (y : ℤ) → reading_of t zs ≡ Unit y → zs ≡ y ∷ []
+pub reading_of-unit : (t : ℤ → Bool) (zs : List ℤ) (y : ℤ) → reading_of t zs ≡ Unit y → zs ≡ y ∷ []
 reading_of-unit t [] y e = cc
 reading_of-unit t (z ∷ []) y e = ap (λ x. x ∷ []) (one_unit (t z) z y e)
 reading_of-unit t (z ∷ x ∷ zs) y e = cc

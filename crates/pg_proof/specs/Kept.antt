@@ -5,8 +5,9 @@ use Rattle.pg_proof.specs.State.{State, AreHeldWithin}
 abbrev pub state_of : ℕ → List (Option (List ℤ)) → Bool → State
 state_of variables held closed = record { variables = variables; held = held; closed = closed }
 
--- two flags a variable, and two more; a flag a clause at least; all that is held is over these variables
-pub record IsKept (variables : ℕ) (held : List (Option (List ℤ))) (literals numbers : List Bool) : Type 0 where
+-- two flags a variable, and two more, twice; a flag a clause at least; all that is held is over these variables
+pub record IsKept (variables : ℕ) (held : List (Option (List ℤ))) (literals standing numbers : List Bool) : Type 0 where
   pub places : length literals ≡ 2 * variables + 2
+  pub standing_places : length standing ≡ 2 * variables + 2
   pub numbered : length held ≤ length numbers
   pub within : AreHeldWithin (2 * variables + 2) held

@@ -3,6 +3,7 @@ pub mod Places
 pub mod Reading
 pub mod State
 pub mod Refutation
+pub mod Tight
 pub mod Marked
 pub mod Sound
 pub mod Kept

@@ -7,6 +7,7 @@
 ghost use Rattle.std.specs.Prelude.{◌≡◌, ◌+◌, ◌<◌, ◌^◌, ◌++◌, ◌∷◌, [], ◌||◌, List, ℤ, length, map, Some, None, IfOk, IfErr, OnOk, OnErr};
 ghost use Rattle.pg_proof.specs.State.{State, begun, is_empty, with_clause};
 ghost use Rattle.pg_proof.specs.Refutation.{fault_of, told};
+ghost use Rattle.pg_proof.specs.Tight.{is_tight};
 ghost use Rattle.pg_proof.specs.Removal.{after_removal};
 ghost use Rattle.pg_proof.specs.Sound.{IsSound};
 
@@ -15,6 +16,7 @@ use crate::propagation::fault_of;
 use crate::question::{copies, greatest_variable};
 use crate::removal::{are_held, make_room, take_away};
 use crate::step::{LitList, ProofFault, Step};
+use crate::tight::is_tight;
 use pg_cnf::Cnf;
 use std::alloc::{AllocError, Global};
 use std::marker::Model;
@@ -26,6 +28,7 @@ pub struct Checker {
     clauses: Vec<Option<LitList>>,
     closed: bool,
     literals: Marks,
+    standing: Marks,
     numbers: Marks,
     alloc: Global,
 }
@@ -40,7 +43,7 @@ impl Model for Checker {
 
     ghost view = { λ c. state_of c.variables c.clauses.items c.closed };
 
-    ghost invariant = { λ c. IsKept c.variables c.clauses.items c.literals c.numbers };
+    ghost invariant = { λ c. IsKept c.variables c.clauses.items c.literals c.standing c.numbers };
 }
 
 impl Checker {
@@ -53,12 +56,14 @@ impl Checker {
         let clauses = copies(alloc, cnf.clauses.as_slice())?;
         let variables = greatest_variable(cnf.clauses.as_slice());
         let literals = Marks::new(alloc, 2 * variables as usize + 2)?;
+        let standing = Marks::new(alloc, 2 * variables as usize + 2)?;
         let numbers = Marks::new(alloc, clauses.len())?;
         Ok(Checker {
             variables,
             clauses,
             closed: false,
             literals,
+            standing,
             numbers,
             alloc,
         })
@@ -110,6 +115,18 @@ impl Checker {
         }
         take_away(&mut self.clauses, numbers);
         Ok(())
+    }
+
+    /// Whether a step is tight: valid, and the resolvent of its hints' clauses with nothing added. So each of its literals
+    /// stands in the clause of a hint, and each literal that a hint sets stands negated in that of a later hint. A step that
+    /// was taken stays so while the clauses of its hints are held.
+    ///
+    /// It takes no memory, and costs the length of the step and of its hints' clauses.
+    pub fn tight(&mut self, step: &Step) -> bool
+        ensures tight { result ≡ is_tight self.old.variables self.old.held step.now }
+        ensures kept { self.new ≡ self.old }
+    {
+        is_tight(&mut self.literals, &mut self.standing, self.variables, self.clauses.as_slice(), step)
     }
 
     /// Whether the empty clause was added: then no assignment makes all clauses of the question true.

@@ -10,10 +10,11 @@
 mod checker;
 pub mod laws;
 mod marks;
-pub mod propagation;
+mod propagation;
 mod question;
 mod removal;
 mod step;
+mod tight;
 
 pub use checker::Checker;
 pub use step::{Act, HintList, LitList, ProofFault, Step};

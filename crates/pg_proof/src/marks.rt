@@ -45,7 +45,8 @@ impl Marks {
 
     /// Takes all flags down. It costs the same for any number of flags, but once in 2^64 - 1 calls.
     pub fn clear(&mut self)
-        ensures { self.new ≡ replicate (length self.old) false }
+        ensures down { self.new ≡ replicate (length self.old) false }
+        ensures places { length self.new ≡ length self.old }
     {
         if self.stamp == u64::MAX {
             zero(&mut self.stamps);

@@ -74,9 +74,10 @@ fn are_ascending(variables: u32, literals: &[i32]) -> bool
 }
 
 /// Marks the negation of each literal.
-fn mark_negations(flags: &mut Marks, literals: &[i32])
+pub fn mark_negations(flags: &mut Marks, literals: &[i32])
     requires { AreWithin (length flags.old) literals.now }
-    ensures { flags.new ≡ marked flags.old (negations literals.now) }
+    ensures marked { flags.new ≡ marked flags.old (negations literals.now) }
+    ensures places { length flags.new ≡ length flags.old }
 {
     for literal in literals {
         flags.set(negation_place(*literal));
@@ -101,7 +102,7 @@ fn with_literal(flags: &Marks, reading: Reading, literal: i32) -> Reading
 }
 
 /// What a clause says where the marked literals are true. It costs the length of the clause.
-fn read(flags: &Marks, clause: &[i32]) -> Reading
+pub fn read(flags: &Marks, clause: &[i32]) -> Reading
     requires { AreWithin (length flags.now) clause.now }
     ensures reading { result ≡ reading (is_marked flags.now) clause.now }
     ensures within { IsReadWithin (length flags.now) result }

@@ -6,7 +6,7 @@ use Rattle.pg_proof.proofs.removal.are_held.Goals.{In-loop-number}
 
 pub loop-number-init : goal.loop-number-init
 loop-number-init c = record {
-  seen = AreSeen-begun c.args.clauses.now c.clear.new.self c.args.numbers.now (length c.args.flags.now) c.clear.ensures c.requires;
+  seen = AreSeen-begun c.args.clauses.now c.clear.new.self c.args.numbers.now (length c.args.flags.now) c.clear.ensures.down c.requires;
   places = refl;
 }
 

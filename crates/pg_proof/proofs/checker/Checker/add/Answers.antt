@@ -14,7 +14,7 @@ returns-in-Some-clause-judged c =
 pub invariant_of-self-2 : goal.invariant_of-self-2
 invariant_of-self-2 c =
     let s = c.self.inside in
-    IsKept-added s.variables s.clauses.items c.hold.new.clauses.items s.literals c.fault_of.new.flags s.numbers c.make_room.new.flags c.args.step.now
+    IsKept-added s.variables s.clauses.items c.hold.new.clauses.items s.literals c.fault_of.new.flags s.standing s.numbers c.make_room.new.flags c.args.step.now
         (search rules) c.fault_of.ensures.places (search rules) (search rules) c.self.invariant
 
 pub returns-clause-sound : goal.returns-clause-sound

@@ -10,6 +10,7 @@ use Rattle.pg_proof.proofs.checker.Checker.new.Goals as goal
 pub invariant_of-result : goal.invariant_of-result
 invariant_of-result c = record {
   places = ap length c.in_ok-literals.ensures ∙ length-replicate (2 * c.greatest_variable-variables.result + 2) false;
+  standing_places = ap length c.in_ok-standing.ensures ∙ length-replicate (2 * c.greatest_variable-variables.result + 2) false;
   numbered = omega (arith, ap length c.in_ok-numbers.ensures, length-replicate c.len.result false, c.len.ensures, c.in_ok-clauses.clauses.ok.0);
   within =
     rw (c.in_ok-clauses.ensures, c.greatest_variable-variables.ensures, c.as_slice.ensures, c.as_slice-2.ensures)

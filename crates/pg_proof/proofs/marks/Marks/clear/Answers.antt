@@ -8,15 +8,15 @@ use Rattle.pg_proof.proofs.marks.Marks.clear.Goals as goal
 pub invariant_of-self : goal.invariant_of-self
 invariant_of-self c = rw c.zero.ensures (IsStamped-zeros (length c.self.inside.stamps.items))
 
-pub returns-then-self : goal.returns-then-self
-returns-then-self c =
+pub returns-then-self-clause-down : goal.returns-then-self-clause-down
+returns-then-self-clause-down c =
     ap (flags_of 1) c.zero.ensures ∙ flags_of-zeros (length c.self.inside.stamps.items)
     ∙ ap (λ n. replicate n false) (sym (length-map c.self.inside.stamps.items (λ s. nat_eq s c.self.inside.stamp)) ∙ ap length c.self.view_is)
 
 pub invariant_of-self-2 : goal.invariant_of-self-2
 invariant_of-self-2 c = IsStamped-next c.self.inside.stamp c.self.inside.stamps.items c.self.invariant
 
-pub returns : goal.returns
-returns c =
+pub returns-clause-down : goal.returns-clause-down
+returns-clause-down c =
     flags_of-next c.self.inside.stamp c.self.inside.stamps.items c.self.invariant.passed
     ∙ ap (λ n. replicate n false) (sym (length-map c.self.inside.stamps.items (λ s. nat_eq s c.self.inside.stamp)) ∙ ap length c.self.view_is)
