@@ -7,3 +7,4 @@ pub mod SoundLemmas
 pub mod KeptLemmas
 pub mod RemovalLemmas
 pub mod TightLemmas
+pub mod CoverLemmas

@@ -17,7 +17,7 @@ use Rattle.pg_proof.specs.Marked.{marked, walk_marked, read_on, IsReadWithin}
 use Rattle.pg_proof.proofs.WithinLemmas.{AreHeldWithin-at}
 use Rattle.pg_proof.proofs.ReadingLemmas.{read_on-reading, IsReadWithin-literal}
 
-place-same : (a b : ℤ) → place a ≡ place b → a ≡ b
+pub place-same : (a b : ℤ) → place a ≡ place b → a ≡ b
 place-same (pos a) (pos b) e = ap pos (omega arith)
 place-same (pos a) (negsuc b) e = absurd (omega arith)
 place-same (negsuc a) (pos b) e = absurd (omega arith)

@@ -169,7 +169,7 @@ all_held_true-set a (c ∷ held) (suc k) h =
     let p = both (held_true a c) (all_held_true a held) h in
     ap (λ b. b && all_held_true a (set held k None)) p.0 ∙ all_held_true-set a held k p.1
 
-one_of : (b : Bool) (o : Option (List (Option (List ℤ)))) (after : List (Option (List ℤ))) → (if b then o else None) ≡ Some after → o ≡ Some after
+pub one_of : (b : Bool) (o : Option (List (Option (List ℤ)))) (after : List (Option (List ℤ))) → (if b then o else None) ≡ Some after → o ≡ Some after
 one_of true o after e = e
 one_of false o after e = cc
 

@@ -6,5 +6,6 @@ pub mod Refutation
 pub mod Tight
 pub mod Marked
 pub mod Sound
+pub mod Covered
 pub mod Kept
 pub mod Removal

@@ -7,15 +7,17 @@
 ghost use Rattle.std.specs.Prelude.{◌≡◌, ◌+◌, ◌<◌, ◌^◌, ◌++◌, ◌∷◌, [], ◌||◌, List, ℤ, length, map, Some, None, IfOk, IfErr, OnOk, OnErr};
 ghost use Rattle.pg_proof.specs.State.{State, begun, is_empty, with_clause};
 ghost use Rattle.pg_proof.specs.Refutation.{fault_of, told};
+ghost use Rattle.pg_proof.specs.Covered.{home, is_covered, with_hung};
 ghost use Rattle.pg_proof.specs.Tight.{is_tight};
 ghost use Rattle.pg_proof.specs.Removal.{after_removal};
 ghost use Rattle.pg_proof.specs.Sound.{IsSound};
 
+use crate::cover::{hang, home, is_covered, lists_of};
 use crate::marks::Marks;
 use crate::propagation::fault_of;
 use crate::question::{copies, greatest_variable};
 use crate::removal::{are_held, make_room, take_away};
-use crate::step::{LitList, ProofFault, Step};
+use crate::step::{HintList, LitList, ProofFault, Step};
 use crate::tight::is_tight;
 use pg_cnf::Cnf;
 use std::alloc::{AllocError, Global};
@@ -30,6 +32,7 @@ pub struct Checker {
     literals: Marks,
     standing: Marks,
     numbers: Marks,
+    hung: Vec<HintList>,
     alloc: Global,
 }
 
@@ -43,7 +46,7 @@ impl Model for Checker {
 
     ghost view = { λ c. state_of c.variables c.clauses.items c.closed };
 
-    ghost invariant = { λ c. IsKept c.variables c.clauses.items c.literals c.standing c.numbers };
+    ghost invariant = { λ c. IsKept c.variables c.clauses.items c.literals c.standing c.numbers c.hung.items };
 }
 
 impl Checker {
@@ -55,8 +58,10 @@ impl Checker {
     {
         let clauses = copies(alloc, cnf.clauses.as_slice())?;
         let variables = greatest_variable(cnf.clauses.as_slice());
-        let literals = Marks::new(alloc, 2 * variables as usize + 2)?;
-        let standing = Marks::new(alloc, 2 * variables as usize + 2)?;
+        let places = 2 * variables as usize + 2;
+        let literals = Marks::new(alloc, places)?;
+        let standing = Marks::new(alloc, places)?;
+        let hung = lists_of(alloc, places, clauses.as_slice())?;
         let numbers = Marks::new(alloc, clauses.len())?;
         Ok(Checker {
             variables,
@@ -65,6 +70,7 @@ impl Checker {
             literals,
             standing,
             numbers,
+            hung,
             alloc,
         })
     }
@@ -92,7 +98,7 @@ impl Checker {
             Err(_) => return Err(ProofFault::Memory),
         }
         let literals = step.lits.as_slice();
-        match hold(self.alloc, &mut self.clauses, literals) {
+        match hold(self.alloc, &mut self.clauses, &mut self.hung, literals) {
             Ok(()) => {}
             Err(_) => return Err(ProofFault::Memory),
         }
@@ -129,6 +135,16 @@ impl Checker {
         is_tight(&mut self.literals, &mut self.standing, self.variables, self.clauses.as_slice(), step)
     }
 
+    /// Whether some clause held has no literal but these, so that a clause of these says no more than it does.
+    ///
+    /// It takes no memory, and walks the clauses that hang at these literals, not all that are held.
+    pub fn covered(&mut self, literals: &[i32]) -> bool
+        ensures covered { result ≡ is_covered self.old.held literals.now }
+        ensures kept { self.new ≡ self.old }
+    {
+        is_covered(&mut self.literals, self.clauses.as_slice(), self.hung.as_slice(), literals)
+    }
+
     /// Whether the empty clause was added: then no assignment makes all clauses of the question true.
     pub fn closed(&self) -> bool
         ensures { result ≡ self.now.closed }
@@ -137,14 +153,30 @@ impl Checker {
     }
 }
 
-/// A clause of these literals more, at the end. The error is want of memory, and the clauses stay.
-fn hold(alloc: Global, clauses: &mut Vec<Option<LitList>>, literals: &[i32]) -> Result<(), AllocError>
+/// A clause of these literals more, at the end, which hangs at its home. The error is want of memory, and all stays.
+fn hold(
+    alloc: Global,
+    clauses: &mut Vec<Option<LitList>>,
+    hung: &mut Vec<HintList>,
+    literals: &[i32],
+) -> Result<(), AllocError>
+    requires room { length clauses.old.items + 1 < 2 ^ 32 }
+    requires home { home literals.now < length hung.old.items }
     ensures held { OnOk result (clauses.new.items ≡ clauses.old.items ++ Some literals.now ∷ []) }
+    ensures hung { OnOk result (hung.new.items ≡ with_hung hung.old.items (home literals.now) (length clauses.old.items + 1)) }
     ensures kept { OnErr result (clauses.new.items ≡ clauses.old.items) }
+    ensures kept_hung { OnErr result (hung.new.items ≡ hung.old.items) }
 {
+    let number = clauses.len() as u32 + 1;
     let copy = LitList::from_slice(alloc, literals)?;
     clauses.push(Some(copy))?;
-    Ok(())
+    match hang(hung, home(literals), number) {
+        Ok(()) => Ok(()),
+        Err(error) => {
+            let _ = clauses.pop();
+            Err(error)
+        }
+    }
 }
 
 /// Whether the empty clause was added, once a clause of these literals is.

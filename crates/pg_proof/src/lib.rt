@@ -8,6 +8,7 @@
 #![tactic(auto)]
 
 mod checker;
+mod cover;
 pub mod laws;
 mod marks;
 mod propagation;

@@ -51,7 +51,7 @@ fn mark_clauses(flags: &mut Marks, clauses: &[Option<LitList>], hints: &[u32])
 }
 
 /// Whether each literal is marked.
-fn are_marked(flags: &Marks, literals: &[i32]) -> bool
+pub fn are_marked(flags: &Marks, literals: &[i32]) -> bool
     requires { AreWithin (length flags.now) literals.now }
     ensures { result ≡ list_all (is_marked flags.now) literals.now }
 {

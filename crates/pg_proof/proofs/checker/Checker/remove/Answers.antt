@@ -8,7 +8,7 @@ use Rattle.pg_proof.proofs.checker.Checker.remove.Goals as goal
 pub invariant_of-self-2 : goal.invariant_of-self-2
 invariant_of-self-2 c =
     let s = c.self.inside in
-    IsKept-without s.variables s.clauses.items c.take_away.new.clauses.items s.literals s.standing s.numbers c.are_held.new.flags c.args.numbers.now
+    IsKept-without s.variables s.clauses.items c.take_away.new.clauses.items s.literals s.standing s.numbers c.are_held.new.flags s.hung.items c.args.numbers.now
         c.take_away.ensures c.are_held.ensures.places c.self.invariant
 
 pub returns-clause-sound : goal.returns-clause-sound
