@@ -8,3 +8,4 @@ pub mod KeptLemmas
 pub mod RemovalLemmas
 pub mod TightLemmas
 pub mod CoverLemmas
+pub mod NewLemmas

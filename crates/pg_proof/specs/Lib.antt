@@ -7,5 +7,7 @@ pub mod Tight
 pub mod Marked
 pub mod Sound
 pub mod Covered
+pub mod Log
+pub mod New
 pub mod Kept
 pub mod Removal
