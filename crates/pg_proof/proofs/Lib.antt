@@ -9,3 +9,4 @@ pub mod RemovalLemmas
 pub mod TightLemmas
 pub mod CoverLemmas
 pub mod NewLemmas
+pub mod UseLemmas

@@ -9,5 +9,7 @@ pub mod Sound
 pub mod Covered
 pub mod Log
 pub mod New
+pub mod Trimmed
+pub mod Numbering
 pub mod Kept
 pub mod Removal

@@ -75,6 +75,13 @@ impl Checker {
         })
     }
 
+    /// How many clauses have numbers, also ones that were taken away: the number of the last.
+    pub fn numbered(&self) -> usize
+        ensures { result ≡ length self.now.held }
+    {
+        self.clauses.len()
+    }
+
     /// Takes a step, if it is valid: `Ok` has the number of its clause, which is held from then on. A refusal is the first
     /// fault of the step, by the order in which it is read: `UnknownLit` for its literals, then `UnknownHint` or `NotUnit`
     /// for the first hint at fault, and `NoConflict` where no hint is. `Memory` comes to a valid step where memory runs out.
@@ -180,7 +187,7 @@ fn hold(
 }
 
 /// Whether the empty clause was added, once a clause of these literals is.
-fn closes(closed: bool, literals: &[i32]) -> bool
+pub fn closes(closed: bool, literals: &[i32]) -> bool
     ensures { result ≡ closed || is_empty literals.now }
 {
     if closed {

@@ -16,6 +16,8 @@ mod question;
 mod removal;
 mod step;
 mod tight;
+mod trim;
 
 pub use checker::Checker;
+pub use trim::ActList;
 pub use step::{Act, HintList, LitList, ProofFault, Step};
