@@ -10,3 +10,5 @@ pub mod TightLemmas
 pub mod CoverLemmas
 pub mod NewLemmas
 pub mod UseLemmas
+pub mod GivenLemmas
+pub mod DraftLemmas

@@ -151,7 +151,7 @@ negations_true a variables above (z ∷ zs) asc h =
     let n = neither (literal_true a z) (clause_true a zs) h in
     AreTrue-more a (negations zs) (neg_ℤ z) (negation_true a z (omega (arith, lt)) n.0) (negations_true a variables (nat_abs z) zs q.1 n.1)
 
-checked : (b : Bool) (w : Option ProofFault) → (if b then w else Some UnknownLit) ≡ None → (b ≡ true) × (w ≡ None)
+pub checked : (b : Bool) (w : Option ProofFault) → (if b then w else Some UnknownLit) ≡ None → (b ≡ true) × (w ≡ None)
 checked true w e = (refl, e)
 checked false w e = cc
 

@@ -80,7 +80,7 @@ pub record AreFlagged (question : ℕ) (acts : List Act) (flags : List Bool) (nu
   pub last : get_or flags (question + step_count acts) false ≡ true
   pub places : length flags ≡ question + step_count acts + 1
 
-step_count-append : (front bs : List Act) → step_count (front ++ bs) ≡ step_count front + step_count bs
+pub step_count-append : (front bs : List Act) → step_count (front ++ bs) ≡ step_count front + step_count bs
 step_count-append [] bs = omega arith
 step_count-append (Add step ∷ front) bs = let e = step_count-append front bs in omega arith
 step_count-append (Remove numbers ∷ front) bs = step_count-append front bs
