@@ -11,5 +11,6 @@ pub mod Log
 pub mod New
 pub mod Trimmed
 pub mod Numbering
+pub mod Drafts
 pub mod Kept
 pub mod Removal

@@ -16,8 +16,8 @@ mod question;
 mod removal;
 mod step;
 mod tight;
-mod trim;
+mod trimming;
 
 pub use checker::Checker;
-pub use trim::ActList;
+pub use trimming::{ActList, trim};
 pub use step::{Act, HintList, LitList, ProofFault, Step};

@@ -4,11 +4,14 @@
 //! keeps the steps whose clauses are flagged, with their hints under the numbers that are left. Both walks cost the length
 //! of the log. Nothing is checked on the way: that the log is closed is the caller's to know, as from a `Checker`.
 
-ghost use Rattle.std.specs.Prelude.{◌≡◌, ◌+◌, ◌*◌, ◌-◌, ◌<◌, ◌≤◌, ◌^◌, ◌++◌, ◌∷◌, [], length, map, take, false, true, slice_index_or, IfOk, OnOk, IsTrue};
+ghost use Rattle.std.specs.Prelude.{◌≡◌, ◌+◌, ◌*◌, ◌-◌, ◌<◌, ◌≤◌, ◌^◌, ◌++◌, ◌∷◌, [], length, map, Some, take, false, true, slice_index_or, IfOk, OnOk, IsTrue};
 ghost use Rattle.std.specs.List.{list_any, position_or_len};
+ghost use Rattle.pg_proof.specs.declared.step.Act.{Act};
+ghost use Rattle.pg_proof.specs.State.{variables_of};
 ghost use Rattle.pg_proof.specs.Log.{IsClosedLog};
 ghost use Rattle.pg_proof.specs.Trimmed.{IsTrimmed};
-ghost use Rattle.pg_proof.specs.Numbering.{step_count, adds_empty, raised, raised_if, new_number, AreUsed, AreEarlier, renumbered, with_kept, with_number};
+ghost use Rattle.pg_proof.specs.Drafts.{AreKept};
+ghost use Rattle.pg_proof.specs.Numbering.{step_count, adds_empty, raised, raised_if, new_number, AreUsed, AreEarlier, AreValid, renumbered, with_kept, with_number};
 
 use crate::checker::closes;
 use crate::marks::Marks;
@@ -178,4 +181,56 @@ fn keep(
     made.push(Act::Add(kept))?;
     numbers.push(number)?;
     Ok(())
+}
+
+/// The place of the first act that adds the empty clause, of acts one of which does.
+fn end_of(acts: &[Act]) -> usize
+    requires { list_any adds_empty acts.now ≡ true }
+    ensures within { result < length acts.now }
+    ensures empty { (act : Act) → adds_empty (slice_index_or acts.now result act) ≡ true }
+{
+    place_of_empty(acts)
+}
+
+/// What is kept of a log so far, and the new numbers of the clauses of its steps, 0 where a step is left out.
+#[derive(Drop)]
+struct Draft {
+    made: Vec<Act>,
+    numbers: Vec<u32>,
+}
+
+/// What is kept of the acts of a log before the one at a place. The error is want of memory.
+fn kept_before(alloc: Global, cnf: &Cnf, used: &Marks, log: &[Act], end: usize) -> Result<Draft, AllocError>
+    requires within { end < length log.now }
+    requires few { length cnf.now.clauses + length log.now + 1 < 2 ^ 32 }
+    requires valid { AreValid (variables_of cnf.now.clauses) (map Some cnf.now.clauses) log.now }
+    requires used { AreUsed used.now (length cnf.now.clauses) log.now }
+    ensures { IfOk result (λ draft. AreKept cnf.now.clauses used.now log.now draft.numbers.items draft.made.items end) }
+{
+    let question = cnf.clauses.len();
+    let mut made = Vec::new(alloc);
+    let mut numbers = Vec::new(alloc);
+    for i in 0..end {
+        keep(alloc, question, used, &mut made, &mut numbers, &log[i])?;
+    }
+    Ok(Draft { made, numbers })
+}
+
+/// The log of a closed log with the steps left out that its empty clause is not made of, up to their hints' numbers: each
+/// step that is kept has the same literals, and its hints name the same clauses. Nothing is taken away in it, and its last
+/// act adds the empty clause. It is a closed log of this question too. The error is want of memory.
+///
+/// It costs the length of the log.
+pub fn trim(alloc: Global, cnf: &Cnf, acts: &[Act]) -> Result<ActList, AllocError>
+    requires closed { IsClosedLog cnf.now.clauses acts.now }
+    requires few { length cnf.now.clauses + length acts.now + 1 < 2 ^ 32 }
+    ensures { IfOk result (λ log. IsTrimmed cnf.now.clauses acts.now log) }
+{
+    let question = cnf.clauses.len();
+    let end = end_of(acts);
+    let log = &acts[..end + 1];
+    let used = used_clauses(alloc, question, log)?;
+    let Draft { mut made, mut numbers } = kept_before(alloc, cnf, &used, log, end)?;
+    keep(alloc, question, &used, &mut made, &mut numbers, &log[end])?;
+    Ok(ActList::from_vec(made))
 }

@@ -1,6 +1,6 @@
 use Rattle.std.proofs.Common.{◌≡◌, length, drop}
 use Rattle.pg_proof.specs.Numbering.{raised}
-use Rattle.pg_proof.proofs.trim.raise.Given as goal
+use Rattle.pg_proof.proofs.trimming.raise.Given as goal
 
 abbrev pub invariant-loop-number : goal.invariant-loop-number
 invariant-loop-number l = record {

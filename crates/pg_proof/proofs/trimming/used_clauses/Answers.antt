@@ -3,8 +3,8 @@ use Rattle.std.proofs.lemmas.List.{drop_more}
 use Rattle.pg_proof.specs.declared.step.Act.{Act}
 use Rattle.pg_proof.specs.declared.step.Act.TheVariants.{Add, Remove}
 use Rattle.pg_proof.proofs.UseLemmas.{AreFlagged, AreFlagged-add, AreFlagged-remove}
-use Rattle.pg_proof.proofs.trim.used_clauses.Goals as goal
-use Rattle.pg_proof.proofs.trim.used_clauses.Goals.{In-Add, After-raise_hints}
+use Rattle.pg_proof.proofs.trimming.used_clauses.Goals as goal
+use Rattle.pg_proof.proofs.trimming.used_clauses.Goals.{In-Add, After-raise_hints}
 
 pub loop-left-preserved-in-Remove : goal.loop-left-preserved-in-Remove
 loop-left-preserved-in-Remove c =
