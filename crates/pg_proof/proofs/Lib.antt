@@ -12,3 +12,4 @@ pub mod NewLemmas
 pub mod UseLemmas
 pub mod GivenLemmas
 pub mod DraftLemmas
+pub mod ReplayLemmas

@@ -4,11 +4,12 @@
 //! outside, or the one that made it and does not want to be trusted. The clauses lie here, each in a list of its own, so
 //! that nothing of the question is borrowed. Literals are marked in flags that each step takes down at once.
 
-ghost use Rattle.std.specs.Prelude.{◌≡◌, ◌+◌, ◌<◌, ◌^◌, ◌++◌, ◌∷◌, [], ◌||◌, List, ℤ, length, map, Some, None, IfOk, IfErr, OnOk, OnErr};
+ghost use Rattle.std.specs.Prelude.{◌≡◌, ◌+◌, ◌<◌, ◌≤◌, ◌≢◌, ◌^◌, ◌++◌, ◌∷◌, [], ◌||◌, List, ℤ, length, map, Some, None, IfOk, IfErr, OnOk, OnErr};
 ghost use Rattle.pg_proof.specs.State.{State, begun, is_empty, with_clause};
 ghost use Rattle.pg_proof.specs.Refutation.{fault_of, told};
 ghost use Rattle.pg_proof.specs.Covered.{home, is_covered, with_hung};
 ghost use Rattle.pg_proof.specs.Tight.{is_tight};
+ghost use Rattle.pg_proof.specs.Log.{after_act};
 ghost use Rattle.pg_proof.specs.Removal.{after_removal};
 ghost use Rattle.pg_proof.specs.Sound.{IsSound};
 
@@ -17,7 +18,7 @@ use crate::marks::Marks;
 use crate::propagation::fault_of;
 use crate::question::{copies, greatest_variable};
 use crate::removal::{are_held, make_room, take_away};
-use crate::step::{HintList, LitList, ProofFault, Step};
+use crate::step::{Act, HintList, LitList, ProofFault, Step};
 use crate::tight::is_tight;
 use pg_cnf::Cnf;
 use std::alloc::{AllocError, Global};
@@ -128,6 +129,25 @@ impl Checker {
         }
         take_away(&mut self.clauses, numbers);
         Ok(())
+    }
+
+    /// Takes an act: its step is added, or its clauses are taken away, with the faults of `add` or `remove`.
+    pub fn apply(&mut self, act: &Act) -> Result<(), ProofFault>
+        requires { length self.old.held + 1 < 2 ^ 32 }
+        ensures applied { OnOk result (after_act self.old act.now ≡ Some self.new) }
+        ensures refused { IfErr result (λ fault. fault ≢ ProofFault.Memory → after_act self.old act.now ≡ None) }
+        ensures kept { OnErr result (self.new ≡ self.old) }
+        ensures few { length self.new.held ≤ length self.old.held + 1 }
+        ensures sound { (question : List (List ℤ)) → IsSound question self.old → IsSound question self.new }
+    {
+        let step = match act {
+            Act::Remove(numbers) => return self.remove(numbers.as_slice()),
+            Act::Add(step) => step,
+        };
+        match self.add(step) {
+            Ok(_) => Ok(()),
+            Err(fault) => Err(fault),
+        }
     }
 
     /// Whether a step is tight: valid, and the resolvent of its hints' clauses with nothing added. So each of its literals

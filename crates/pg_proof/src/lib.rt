@@ -14,10 +14,12 @@ mod marks;
 mod propagation;
 mod question;
 mod removal;
+mod replay;
 mod step;
 mod tight;
 mod trimming;
 
 pub use checker::Checker;
 pub use trimming::{ActList, trim};
+pub use replay::is_refutation;
 pub use step::{Act, HintList, LitList, ProofFault, Step};
