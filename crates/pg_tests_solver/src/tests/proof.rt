@@ -4,7 +4,7 @@
 //! 4 `(-1 -2)`.
 
 use pg_cnf::{Clause, Cnf};
-use pg_proof::{Checker, HintList, LitList, ProofFault, Step};
+use pg_proof::{Act, Checker, HintList, LitList, ProofFault, Step, is_refutation, trim};
 use smallvec::SmallVec;
 use std::alloc::{AllocError, Global};
 use std::process::Abort;
@@ -49,8 +49,7 @@ fn pair(rt: &impl Abort, alloc: Global, first: i32, second: i32) -> Result<Claus
     Ok(Clause::new(literals))
 }
 
-/// A checker of the question.
-fn checker(rt: &impl Abort, alloc: Global) -> Result<Checker, AllocError> {
+fn question(rt: &impl Abort, alloc: Global) -> Result<Cnf, AllocError> {
     let mut cnf = Cnf::new(alloc, 2147483647);
     for (first, second) in QUESTION {
         let clause = pair(rt, alloc, first, second)?;
@@ -59,7 +58,12 @@ fn checker(rt: &impl Abort, alloc: Global) -> Result<Checker, AllocError> {
         assert!(rt; cnf.variables == 2147483647);
         cnf.push(clause)?;
     }
-    Checker::new(alloc, &cnf)
+    Ok(cnf)
+}
+
+/// A checker of the question.
+fn checker(rt: &impl Abort, alloc: Global) -> Result<Checker, AllocError> {
+    Checker::new(alloc, &question(rt, alloc)?)
 }
 
 fn step(alloc: Global, lits: &[i32], hints: &[u32]) -> Result<Step, AllocError> {
@@ -166,5 +170,59 @@ fn what_is_removed_is_gone(rt: HostRuntime) -> Result<(), Fail> {
     assert!(rt; added(&rt, alloc, &mut checker, &[], &[5, 3, 4])? == Answer::UnknownHint);
     assert!(rt; !checker.covered(&[1, 2]));
     assert!(rt; checker.covered(&[-1, 2]));
+    Ok(())
+}
+
+/// Steps, of which the first is of no use, and the second is taken away.
+const GIVEN: [(&[i32], &[u32]); 5] = [
+    (&[1], &[1, 3]),
+    (&[-1], &[2, 4]),
+    (&[2], &[1, 2]),
+    (&[], &[7, 3, 4]),
+    (&[-2], &[3, 4]),
+];
+
+/// What is kept of them.
+const KEPT: [(&[i32], &[u32]); 2] = [(&[2], &[1, 2]), (&[], &[5, 3, 4])];
+
+/// So many of the given steps, with the second's clause taken away at the third.
+fn given(alloc: Global, count: usize) -> Result<Vec<Act>, AllocError> {
+    let mut acts = Vec::new(alloc);
+    for (i, (lits, hints)) in GIVEN.iter().enumerate() {
+        if i < count {
+            if i == 2 {
+                acts.push(Act::Remove(HintList::from_slice(alloc, &[6])?))?;
+            }
+            acts.push(Act::Add(step(alloc, lits, hints)?))?;
+        }
+    }
+    Ok(acts)
+}
+
+fn adds(act: &Act, lits: &[i32], hints: &[u32]) -> bool {
+    match act {
+        Act::Add(step) => step.lits.as_slice() == lits && step.hints.as_slice() == hints,
+        Act::Remove(_) => false,
+    }
+}
+
+#[test]
+fn what_shows_nothing_is_left_out(rt: HostRuntime) -> Result<(), Fail> {
+    let alloc = rt.alloc();
+    let cnf = question(&rt, alloc)?;
+    assert!(rt; cnf.clauses.len() == 4);
+    let part = given(alloc, 3)?;
+    assert!(rt; part.len() == 4);
+    assert!(rt; !is_refutation(alloc, &cnf, part.as_slice())?);
+    let whole = given(alloc, 5)?;
+    let acts = whole.as_slice();
+    assert!(rt; acts.len() == 6);
+    let closed = is_refutation(alloc, &cnf, acts)?;
+    assert!(rt; closed);
+    let log = trim(alloc, &cnf, acts)?;
+    assert!(rt; log.len() == KEPT.len());
+    for (act, (lits, hints)) in log.as_slice().iter().zip(KEPT) {
+        assert!(rt; adds(act, lits, hints), "{lits:?}");
+    }
     Ok(())
 }
