@@ -1,5 +1,5 @@
 -- A clause that is covered hangs in the list of one of the literals.
-use Rattle.std.proofs.Common.{◌≡◌, ◌≢◌, ℕ, zero, suc, ◌+◌, ◌-◌, ◌<◌, ◌≤◌, Bool, true, false, ◌||◌, ◌&&◌, eqb, List, [], ◌∷◌, ◌++◌, length, get_or, take, set, replicate, Option, Some, None, slice_get, refl, sym, ap, subst, ◌∙◌, arith, ℤ}
+use Rattle.std.proofs.Common.{◌≡◌, ◌≢◌, ℕ, zero, suc, ◌+◌, ◌-◌, ◌<◌, Bool, true, false, ◌||◌, ◌&&◌, eqb, List, [], ◌∷◌, ◌++◌, length, get_or, take, set, replicate, Option, Some, None, slice_get, refl, sym, ap, subst, ◌∙◌, arith, ℤ}
 use Rattle.std.specs.Option.{option_and_then}
 use Rattle.std.specs.List.{list_any, list_all}
 use Rattle.std.specs.Ordering.{int_eq}
@@ -8,7 +8,7 @@ use Rattle.std.proofs.lemmas.List.{length-set, length-replicate, length-take-le,
 use Rattle.std.proofs.lemmas.Option.{same_Some, slice_get-get_or}
 use Rattle.std.proofs.lemmas.List.Folds.{list_any-append}
 use Rattle.std.proofs.lemmas.Bool.Decides.{Decides-int_eq, nat_tests}
-use Rattle.pg_proof.specs.Places.{has, place, is_marked, IsWithin, AreWithin}
+use Rattle.pg_proof.specs.Places.{has, place, is_marked, AreWithin}
 use Rattle.pg_proof.specs.State.{clause_at, AreHeldWithin}
 use Rattle.pg_proof.specs.Covered.{passes, is_covered, home, is_listed, AreHung, list_passes, place_passes, homes_pass}
 use Rattle.pg_proof.specs.Removal.{without}
@@ -53,7 +53,7 @@ pub homes_same : (n : ℕ) (held : List (Option (List ℤ))) (hung : List (List 
     homes_pass (is_marked (marked (replicate n false) lits)) held hung lits ≡ homes_pass (has lits) held hung lits
 homes_same n held hung lits w =
     let one : (m : ℕ) → passes (is_marked (marked (replicate n false) lits)) (clause_at held m) ≡ passes (has lits) (clause_at held m) =
-        (λ m. passes_same n (is_marked (marked (replicate n false) lits)) (has lits) (clause_at held m) (shows-known n lits) (λ c e. AreHeldWithin-clause n held m c e w)) in
+    (λ m. passes_same n (is_marked (marked (replicate n false) lits)) (has lits) (clause_at held m) (shows-known n lits) (λ c e. AreHeldWithin-clause n held m c e w)) in
     λ i. list_any (λ m. one m i) (get_or hung 0 []) || list_any (λ z. list_any (λ m. one m i) (get_or hung (place z) [])) lits
 
 -- what some element does
@@ -89,22 +89,22 @@ found t held hung p h = any_gives (λ n. passes t (clause_at held n)) (get_or hu
 homes_sound : (t : ℤ → Bool) (held : List (Option (List ℤ))) (hung : List (List ℕ)) (lits : List ℤ) → homes_pass t held hung lits ≡ true → list_any (passes t) held ≡ true
 homes_sound t held hung lits h =
     any_one (place_passes t held hung 0) (list_any (λ z. place_passes t held hung (place z)) lits) (list_any (passes t) held) (found t held hung 0)
-        (any_gives (λ z. place_passes t held hung (place z)) lits (list_any (passes t) held) (λ z. found t held hung (place z))) h
+    (any_gives (λ z. place_passes t held hung (place z)) lits (list_any (passes t) held) (λ z. found t held hung (place z))) h
 
 -- a clause held that passes hangs where it is looked for
 listed_passes : (t : ℤ → Bool) (held : List (Option (List ℤ))) (ns : List ℕ) (n : ℕ) → is_listed ns n ≡ true → passes t (clause_at held n) ≡ true → list_passes t held ns ≡ true
 listed_passes t held [] n l h = l
 listed_passes t held (m ∷ ns) n l h =
     any_one (eqb m n) (is_listed ns n) (list_passes t held (m ∷ ns))
-        (λ e. let s : m ≡ n = grind (arith, nat_tests) in or_first (passes t (clause_at held m)) (list_passes t held ns) (ap (λ k. passes t (clause_at held k)) s ∙ h))
-        (λ e. or_second (passes t (clause_at held m)) (list_passes t held ns) (listed_passes t held ns n e h)) l
+    (λ e. let s : m ≡ n = grind (arith, nat_tests) in or_first (passes t (clause_at held m)) (list_passes t held ns) (ap (λ k. passes t (clause_at held k)) s ∙ h))
+    (λ e. or_second (passes t (clause_at held m)) (list_passes t held ns) (listed_passes t held ns n e h)) l
 
 some_literal : (f : ℤ → Bool) (lits : List ℤ) (z : ℤ) → has lits z ≡ true → f z ≡ true → list_any f lits ≡ true
 some_literal f [] z h e = h
 some_literal f (y ∷ lits) z h e =
     any_one (int_eq y z) (has lits z) (f y || list_any f lits)
-        (λ s. or_first (f y) (list_any f lits) (ap f ((Decides-int_eq y z).0 s) ∙ e))
-        (λ l. or_second (f y) (list_any f lits) (some_literal f lits z l e)) h
+    (λ s. or_first (f y) (list_any f lits) (ap f ((Decides-int_eq y z).0 s) ∙ e))
+    (λ l. or_second (f y) (list_any f lits) (some_literal f lits z l e)) h
 
 at_home : (held : List (Option (List ℤ))) (hung : List (List ℕ)) (lits c : List ℤ) → list_all (has lits) c ≡ true → place_passes (has lits) held hung (home c) ≡ true →
     homes_pass (has lits) held hung lits ≡ true
@@ -116,7 +116,7 @@ module _ (held : List (Option (List ℤ))) (hung : List (List ℕ)) (lits : List
   hung_passes k c e h =
       let there : is_listed (get_or hung (home c) []) (suc k) ≡ true = subst (λ n. is_listed (get_or hung (home c) []) n ≡ true) (omega arith) (hangs k c e) in
       at_home held hung lits c h
-        (listed_passes (has lits) held (get_or hung (home c) []) (suc k) there (ap (λ o. passes (has lits) (option_and_then (λ x. x) o)) e ∙ h))
+      (listed_passes (has lits) held (get_or hung (home c) []) (suc k) there (ap (λ o. passes (has lits) (option_and_then (λ x. x) o)) e ∙ h))
 
   -- from a place of what is held on
   rest_passes : (rest : List (Option (List ℤ))) (q : Bool) → ((k : ℕ) (c : List ℤ) → slice_get rest k ≡ Some (Some c) → list_all (has lits) c ≡ true → q ≡ true) →
@@ -134,7 +134,7 @@ module _ (held : List (Option (List ℤ))) (hung : List (List ℕ)) (lits : List
   pub homes_covered : homes_pass (has lits) held hung lits ≡ is_covered held lits
   homes_covered =
       same_tests (homes_pass (has lits) held hung lits) (is_covered held lits) (homes_sound (has lits) held hung lits)
-        (rest_passes held (homes_pass (has lits) held hung lits) hung_passes)
+      (rest_passes held (homes_pass (has lits) held hung lits) hung_passes)
 
 -- the lists as clauses come and go
 pub AreHung-set : (hung : List (List ℕ)) (held : List (Option (List ℤ))) (j : ℕ) → AreHung hung held → AreHung hung (set held j None)
@@ -192,7 +192,7 @@ same_home : (hung : List (List ℕ)) (p q n m : ℕ) (b : Bool) → eqb q p ≡ 
 same_home hung p q n m true e lt h =
     let s : q ≡ p = grind (arith, nat_tests) in
     subst (λ r. is_listed (get_or hung r []) n ≡ true → is_listed (get_or (set hung p (get_or hung p [] ++ m ∷ [])) r []) n ≡ true) (sym s)
-        (λ l. ap (λ ns. is_listed ns n) (get_or-set_same hung p (get_or hung p [] ++ m ∷ []) [] lt) ∙ listed_more (get_or hung p []) n m l) h
+    (λ l. ap (λ ns. is_listed ns n) (get_or-set_same hung p (get_or hung p [] ++ m ∷ []) [] lt) ∙ listed_more (get_or hung p []) n m l) h
 same_home hung p q n m false e lt h =
     let s : q ≢ p = grind (arith, nat_tests) in
     ap (λ ns. is_listed ns n) (get_or-set_other hung p q (get_or hung p [] ++ m ∷ []) [] s) ∙ h
@@ -254,7 +254,7 @@ module _ (places : ℕ) (hung : List (List ℕ)) (held : List (Option (List ℤ)
   AreListed-next c after e room made =
       let len : length (take i held) ≡ i = length-take-le i held (omega arith) in
       let more : after ≡ set hung (home c) (get_or hung (home c) [] ++ (length (take i held) + 1) ∷ []) =
-          made ∙ ap (λ m. set hung (home c) (get_or hung (home c) [] ++ (m + 1) ∷ [])) (sym len) in
+      made ∙ ap (λ m. set hung (home c) (get_or hung (home c) [] ++ (m + 1) ∷ [])) (sym len) in
       record {
         hangs = subst (λ x. x) (λ j. AreHung (sym more j) (sym (take_next held i (Some c) lt (sym (clause_at-next held i lt) ∙ e)) j))
             (AreHung-added hung (take i held) c room h.hangs);

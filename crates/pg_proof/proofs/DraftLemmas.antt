@@ -1,27 +1,26 @@
 -- A log that is kept step by step: what it shows is part of what was given, and its steps are valid under their new numbers.
-use Rattle.std.proofs.Common.{◌≡◌, ◌≢◌, ℕ, zero, suc, ◌+◌, ◌-◌, ◌<◌, ◌≤◌, ◌⊎◌, Bool, true, false, not, cond, ◌&&◌, ◌||◌, leb, if◌then◌else◌, List, [], ◌∷◌, ◌++◌, length, map, get_or, take, drop, Option, Some, None, is_none, unwrap_or, refl, sym, ap, subst, ◌∙◌, arith, ℤ, inl, inr, IsTrue}
-use Rattle.std.specs.Prelude.{IsSomeAnd, nat_le}
+use Rattle.std.proofs.Common.{◌≡◌, ℕ, zero, suc, ◌+◌, ◌-◌, ◌<◌, ◌≤◌, Bool, true, false, not, cond, ◌||◌, leb, if◌then◌else◌, List, [], ◌∷◌, ◌++◌, length, map, get_or, take, drop, Option, Some, None, is_none, unwrap_or, refl, sym, ap, subst, ◌∙◌, arith, ℤ, inl, inr, IsTrue}
+use Rattle.std.specs.Prelude.{IsSomeAnd}
 use Rattle.std.specs.Option.{option_and_then}
 use Rattle.std.specs.List.{list_any, position_or_len}
 use Rattle.std.proofs.lemmas.List.{length-append, length-map, get_or_at, get_or_append_left, append-nil, take-append-drop, length-take-le, take_all}
 use Rattle.std.proofs.lemmas.Option.{same_Some}
-use Rattle.std.proofs.lemmas.List.Sums.{passes_at_first}
 use Rattle.std.proofs.lemmas.Bool.Decides.{nat_tests}
 use Rattle.pg_proof.specs.declared.step.ProofFault.{ProofFault}
 use Rattle.pg_proof.specs.declared.step.Step.{Step}
 use Rattle.pg_proof.specs.declared.step.Act.{Act}
 use Rattle.pg_proof.specs.declared.step.Act.TheVariants.{Add, Remove}
-use Rattle.pg_proof.specs.State.{State, clause_at, variables_of, begun, is_empty, with_clause}
+use Rattle.pg_proof.specs.State.{State, clause_at, variables_of, begun, is_empty}
 use Rattle.pg_proof.specs.Refutation.{fault_of}
 use Rattle.pg_proof.specs.Tight.{literals_at, hint_clauses}
 use Rattle.pg_proof.specs.Kept.{state_of}
-use Rattle.pg_proof.specs.Log.{after_act, after_acts_from, after_acts, IsClosedLog}
+use Rattle.pg_proof.specs.Log.{after_act, after_acts_from, after_acts}
 use Rattle.pg_proof.specs.Trimmed.{full, shown, IsPart, AddsEmpty, EndsEmpty, IsTrimmed}
 use Rattle.pg_proof.specs.Numbering.{step_count, adds_empty, are_up, AreUsed, AreEarlier, AreValid, new_number, renumbered, is_next_used, with_kept, with_number}
 use Rattle.pg_proof.specs.Drafts.{Maps, IsDraft, AreKept}
 use Rattle.pg_proof.proofs.WithinLemmas.{both}
 use Rattle.pg_proof.proofs.GivenLemmas.{AreMapped, AreKnown, Numbered, numbered, clause_at-push, clause_at-last, number_below, fault_of-mapped, known_hints}
-use Rattle.pg_proof.proofs.UseLemmas.{step_count-take, count_next, step_count-append}
+use Rattle.pg_proof.proofs.UseLemmas.{step_count-take, step_count-append}
 
 -- parts of lists, as both grow at the end
 IsPart-skip : {A : Type 0} (xs ys : List A) (y : A) → IsPart xs ys → IsPart xs (ys ++ y ∷ [])
@@ -133,7 +132,7 @@ same_hints : (all kept : List (Option (List ℤ))) (at : ℕ → ℕ) (hs : List
 same_hints all kept at [] m k = refl
 same_hints all kept at (h ∷ hs) m k =
     let one : literals_at kept (at h) ≡ literals_at all h =
-        ap (λ o. unwrap_or o []) (m.0 k.0.0 k.0.1) ∙ sym (ap (λ o. unwrap_or o []) k.0.1) in
+    ap (λ o. unwrap_or o []) (m.0 k.0.0 k.0.1) ∙ sym (ap (λ o. unwrap_or o []) k.0.1) in
     let rest = same_hints all kept at hs m.1 k.1 in
     λ i. one i ∷ rest i
 
@@ -182,9 +181,9 @@ module _ (question : List (List ℤ)) (flags : List Bool) (pre made : List Act) 
     closed = d.closed;
     reached = d.reached;
     part = subst (IsPart (shown (map Some question) made)) (sym shown_next)
-      (IsPart-skip (shown (map Some question) made) (shown (map Some question) pre) (step.lits, hint_clauses (full (map Some question) pre) step.hints) d.part);
+        (IsPart-skip (shown (map Some question) made) (shown (map Some question) pre) (step.lits, hint_clauses (full (map Some question) pre) step.hints) d.part);
     maps = subst (λ x. Maps (length question) flags (numbers ++ 0 ∷ []) x (full (map Some question) made)) (sym all_next)
-      (Maps-skip (length question) flags numbers (full (map Some question) pre) (full (map Some question) made) step.lits all_counted down d.maps);
+        (Maps-skip (length question) flags numbers (full (map Some question) pre) (full (map Some question) made) step.lits all_counted down d.maps);
     counted = count_more 0;
     as_many = d.as_many;
   }
@@ -205,9 +204,9 @@ module _ (question : List (List ℤ)) (flags : List Bool) (pre made : List Act) 
     kept_reached =
         after-append made (Add (renumbered (length question) numbers step) ∷ []) (begun question) (state_of (variables_of question) (full (map Some question) made) d.closed) d.reached
         ∙ ap (λ o. option_and_then (λ after. after_acts_from after []) o)
-            (valid_added (fault_of (variables_of question) (full (map Some question) made) (renumbered (length question) numbers step))
-                (state_of (variables_of question) (full (map Some question) made) d.closed)
-                (state_of (variables_of question) (full (map Some question) made ++ Some step.lits ∷ []) (d.closed || is_empty step.lits)) kept_valid)
+        (valid_added (fault_of (variables_of question) (full (map Some question) made) (renumbered (length question) numbers step))
+        (state_of (variables_of question) (full (map Some question) made) d.closed)
+        (state_of (variables_of question) (full (map Some question) made ++ Some step.lits ∷ []) (d.closed || is_empty step.lits)) kept_valid)
         ∙ ap (λ x. Some (state_of (variables_of question) x (d.closed || is_empty step.lits))) (sym kept_next)
 
     draft_keep : IsDraft question flags (pre ++ Add step ∷ []) (numbers ++ (length question + length made + 1) ∷ []) (made ++ Add (renumbered (length question) numbers step) ∷ [])
@@ -215,22 +214,22 @@ module _ (question : List (List ℤ)) (flags : List Bool) (pre made : List Act) 
       closed = d.closed || is_empty step.lits;
       reached = kept_reached;
       part = subst (λ x. x) (λ i. IsPart (sym (shown-append made (Add (renumbered (length question) numbers step) ∷ []) (map Some question)) i) (sym shown_next i))
-        (IsPart-both (shown (map Some question) made) (shown (map Some question) pre)
-            (step.lits, hint_clauses (full (map Some question) made) (map (new_number (length question) numbers) step.hints))
-            (step.lits, hint_clauses (full (map Some question) pre) step.hints)
-            (ap (λ x. (step.lits, x))
-                (same_hints (full (map Some question) pre) (full (map Some question) made) (new_number (length question) numbers) step.hints mapped
-                    (known_hints (variables_of question) (full (map Some question) pre) step valid)))
-            d.part);
+          (IsPart-both (shown (map Some question) made) (shown (map Some question) pre)
+          (step.lits, hint_clauses (full (map Some question) made) (map (new_number (length question) numbers) step.hints))
+          (step.lits, hint_clauses (full (map Some question) pre) step.hints)
+          (ap (λ x. (step.lits, x))
+          (same_hints (full (map Some question) pre) (full (map Some question) made) (new_number (length question) numbers) step.hints mapped
+          (known_hints (variables_of question) (full (map Some question) pre) step valid)))
+          d.part);
       maps = subst (λ x. x) (λ i. Maps (length question) flags (numbers ++ (length question + length made + 1) ∷ []) (sym all_next i) (sym kept_next i))
-        (Maps-keep (length question) (length made) flags numbers (full (map Some question) pre) (full (map Some question) made) step.lits all_counted kept_counted d.maps);
+          (Maps-keep (length question) (length made) flags numbers (full (map Some question) pre) (full (map Some question) made) step.lits all_counted kept_counted d.maps);
       counted = count_more (length question + length made + 1);
       as_many = step_count-append made (Add (renumbered (length question) numbers step) ∷ []) ∙ ap (λ n. n + 1) d.as_many ∙ sym (length-append made (Add (renumbered (length question) numbers step) ∷ []));
     }
 
   draft_step : (b : Bool) → is_next_used (length question) flags numbers ≡ b → (get_or flags (length question + length numbers + 1) false ≡ true → are_up flags step.hints ≡ true) →
       IsDraft question flags (pre ++ Add step ∷ []) (numbers ++ (if b then length question + length made + 1 else 0) ∷ [])
-        (if b then made ++ Add (renumbered (length question) numbers step) ∷ [] else made)
+      (if b then made ++ Add (renumbered (length question) numbers step) ∷ [] else made)
   draft_step true e u = draft_keep (u e)
   draft_step false e u = draft_skip e
 
@@ -239,7 +238,7 @@ pub IsDraft-next : (question : List (List ℤ)) (flags : List Bool) (pre made : 
     IsDraft question flags (pre ++ act ∷ []) (with_number (length question) flags numbers made act) (with_kept (length question) flags numbers made act)
 IsDraft-next question flags pre made numbers (Add step) d v u =
     draft_step question flags pre made numbers step d v.0 (is_next_used (length question) flags numbers) refl
-        (subst (λ n. get_or flags (length question + n + 1) false ≡ true → are_up flags step.hints ≡ true) (sym d.counted) u.0)
+    (subst (λ n. get_or flags (length question + n + 1) false ≡ true → are_up flags step.hints ≡ true) (sym d.counted) u.0)
 IsDraft-next question flags pre made numbers (Remove ns) d v u = record {
   closed = d.closed;
   reached = d.reached;
@@ -284,9 +283,9 @@ pub IsDraft-step : (question : List (List ℤ)) (flags : List Bool) (log made : 
     IsDraft question flags (take (k + 1) log) (with_number (length question) flags numbers made act) (with_kept (length question) flags numbers made act)
 IsDraft-step question flags log made numbers k act lt e v u d =
     subst (λ x. IsDraft question flags x (with_number (length question) flags numbers made act) (with_kept (length question) flags numbers made act))
-        (sym (step_count-take log k act lt e))
-        (IsDraft-next question flags (take k log) made numbers act d (valid_at log k (variables_of question) (map Some question) act lt e v)
-            (used_at log k (length question) flags act lt e u))
+    (sym (step_count-take log k act lt e))
+    (IsDraft-next question flags (take k log) made numbers act d (valid_at log k (variables_of question) (map Some question) act lt e v)
+    (used_at log k (length question) flags act lt e u))
 
 kept_few : (b : Bool) (made : List Act) (act : Act) → length (if b then made ++ act ∷ [] else made) ≤ length made + 1
 kept_few true made act = omega (arith, length-append made (act ∷ []))
@@ -334,7 +333,7 @@ module _ (question : List (List ℤ)) (flags : List Bool) (acts made : List Act)
   next_used : is_next_used (length question) flags numbers ≡ true
   next_used =
       let n : length question + length numbers + 1 ≡ length question + step_count (take (k + 1) acts) =
-          omega (arith, d.counted, ap step_count split, step_count-append (take k (take (k + 1) acts)) (Add step ∷ [])) in
+      omega (arith, d.counted, ap step_count split, step_count-append (take k (take (k + 1) acts)) (Add step ∷ [])) in
       ap (λ x. get_or flags x false) n ∙ last
 
   step_valid : fault_of (variables_of question) (full (map Some question) (take k (take (k + 1) acts))) step ≡ None
@@ -343,7 +342,7 @@ module _ (question : List (List ℤ)) (flags : List Bool) (acts made : List Act)
   hints_up : are_up flags step.hints ≡ true
   hints_up =
       (used_at (take (k + 1) acts) k (length question) flags (Add step) within here used).0
-        (ap (λ n. get_or flags (length question + n + 1) false) (sym d.counted) ∙ next_used)
+      (ap (λ n. get_or flags (length question + n + 1) false) (sym d.counted) ∙ next_used)
 
   kept_last : with_kept (length question) flags numbers made (Add step) ≡ made ++ Add (renumbered (length question) numbers step) ∷ []
   kept_last = ap (λ b. if b then made ++ Add (renumbered (length question) numbers step) ∷ [] else made) next_used
@@ -355,8 +354,8 @@ module _ (question : List (List ℤ)) (flags : List Bool) (acts made : List Act)
       record {
         closed = subst (λ o. IsSomeAnd o (λ after. IsTrue after.closed)) (sym reached) (or_second d.closed (is_empty step.lits) empty);
         part = subst (IsPart (shown (map Some question) (made ++ Add (renumbered (length question) numbers step) ∷ [])))
-          (sym (ap (shown (map Some question)) (sym (take-append-drop (k + 1) acts)) ∙ shown-append (take (k + 1) acts) (drop (k + 1) acts) (map Some question)))
-          (IsPart-more (shown (map Some question) (made ++ Add (renumbered (length question) numbers step) ∷ [])) (shown (map Some question) (take (k + 1) acts))
+            (sym (ap (shown (map Some question)) (sym (take-append-drop (k + 1) acts)) ∙ shown-append (take (k + 1) acts) (drop (k + 1) acts) (map Some question)))
+            (IsPart-more (shown (map Some question) (made ++ Add (renumbered (length question) numbers step) ∷ [])) (shown (map Some question) (take (k + 1) acts))
             (shown (full (map Some question) (take (k + 1) acts)) (drop (k + 1) acts))
             (subst (λ x. IsPart (shown (map Some question) (made ++ Add (renumbered (length question) numbers step) ∷ [])) (shown (map Some question) x)) (sym split) kept.part));
         last = EndsEmpty-last made (Add (renumbered (length question) numbers step)) (no_literals step.lits empty);
@@ -387,7 +386,7 @@ pub trimmed_end : (question : List (List ℤ)) (flags : List Bool) (acts made af
 trimmed_end question flags acts made after numbers k act lt here empty valid used last d made_is =
     let p = empty_act act empty in
     trimmed_last question flags acts made numbers k p.0 lt (here ∙ ap (λ a. a ∷ drop (k + 1) (take (k + 1) acts)) p.1) p.2 valid used last d after
-        (made_is ∙ ap (with_kept (length question) flags numbers made) p.1)
+    (made_is ∙ ap (with_kept (length question) flags numbers made) p.1)
 
 -- the front of a log
 pub valid_take : (k variables : ℕ) (acts : List Act) (all : List (Option (List ℤ))) → AreValid variables all acts → AreValid variables all (take k acts)

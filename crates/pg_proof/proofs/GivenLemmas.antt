@@ -1,29 +1,24 @@
 -- A log that is accepted: its steps are valid where nothing is taken away.
-use Rattle.std.proofs.Common.{◌≡◌, ◌≢◌, ℕ, zero, suc, ◌+◌, ◌-◌, ◌<◌, ◌≤◌, ◌⊎◌, Bool, true, false, ◌&&◌, ◌||◌, eqb, leb, if◌then◌else◌, List, [], ◌∷◌, ◌++◌, length, map, get_or, take, drop, set, Option, Some, None, is_some, is_none, slice_get, refl, sym, ap, subst, ◌∙◌, arith, ℤ, inl, inr, IsTrue}
-use Rattle.std.specs.Prelude.{⊤, IsSomeAnd, nat_le}
+use Rattle.std.proofs.Common.{◌≡◌, ℕ, zero, suc, ◌+◌, ◌-◌, ◌<◌, ◌≤◌, ◌⊎◌, Bool, true, false, ◌||◌, if◌then◌else◌, List, [], ◌∷◌, ◌++◌, length, map, set, Option, Some, None, is_none, slice_get, refl, sym, ap, subst, ◌∙◌, arith, ℤ, inl, inr, IsTrue}
+use Rattle.std.specs.Prelude.{⊤, IsSomeAnd}
 use Rattle.std.specs.Option.{option_and_then, option_map}
-use Rattle.std.specs.List.{list_any, list_all, position_or_len}
-use Rattle.std.proofs.lemmas.List.{length-append, length-map, map-id, get_or_at, get_or_append_left, append_assoc, append-nil, take-append-drop}
+use Rattle.std.specs.List.{list_any}
+use Rattle.std.proofs.lemmas.List.{length-append, length-map, map-id}
 use Rattle.std.proofs.lemmas.Option.{same_Some}
-use Rattle.std.proofs.lemmas.Bool.Decides.{nat_tests}
 use Rattle.pg_proof.specs.declared.propagation.Reading.{Reading}
 use Rattle.pg_proof.specs.declared.propagation.Reading.TheVariants.{Falsified, Unit, Neither}
 use Rattle.pg_proof.specs.declared.step.ProofFault.{ProofFault}
-use Rattle.pg_proof.specs.declared.step.ProofFault.TheVariants.{UnknownLit, UnknownHint, NotUnit, NoConflict}
+use Rattle.pg_proof.specs.declared.step.ProofFault.TheVariants.{UnknownLit}
 use Rattle.pg_proof.specs.declared.step.Step.{Step}
 use Rattle.pg_proof.specs.declared.step.Act.{Act}
 use Rattle.pg_proof.specs.declared.step.Act.TheVariants.{Add, Remove}
 use Rattle.pg_proof.specs.Places.{has, negations}
 use Rattle.pg_proof.specs.Reading.{reading}
-use Rattle.pg_proof.specs.State.{State, clause_at, variables_of, begun, is_empty, with_clause}
+use Rattle.pg_proof.specs.State.{State, clause_at, variables_of, begun, with_clause}
 use Rattle.pg_proof.specs.Refutation.{are_ascending, is_last, at_reading, at_clause, walk, fault_of}
-use Rattle.pg_proof.specs.Tight.{literals_at, hint_clauses}
-use Rattle.pg_proof.specs.Removal.{without, after_removal}
-use Rattle.pg_proof.specs.Kept.{state_of}
+use Rattle.pg_proof.specs.Removal.{without}
 use Rattle.pg_proof.specs.Log.{after_act, after_acts_from, after_acts, IsClosedLog}
-use Rattle.pg_proof.specs.Trimmed.{full, shown, IsPart, AddsEmpty, EndsEmpty, IsTrimmed}
-use Rattle.pg_proof.specs.Numbering.{step_count, adds_empty, are_up, AreUsed, AreAtMost, AreEarlier, AreValid, new_number, renumbered, is_next_used, with_kept, with_number}
-use Rattle.pg_proof.proofs.WithinLemmas.{both}
+use Rattle.pg_proof.specs.Numbering.{adds_empty, AreAtMost, AreEarlier, AreValid}
 use Rattle.pg_proof.proofs.SoundLemmas.{checked}
 use Rattle.pg_proof.proofs.MarkedLemmas.{same_clause}
 use Rattle.pg_proof.proofs.RemovalLemmas.{length-without, one_of}
@@ -56,7 +51,7 @@ walk-mapped held after at [] trail m e = cc
 walk-mapped held after at (h ∷ hs) trail m e =
     ap (λ b. at_clause (clause_at after (at h)) (λ c. at_reading (reading (has trail) c) b (λ z. walk after (z ∷ trail) (map at hs)))) (is_last-map at hs)
     ∙ mapped_clause (clause_at held h) (clause_at after (at h)) (has trail) (is_last hs) (λ z. walk held (z ∷ trail) hs) (λ z. walk after (z ∷ trail) (map at hs)) m.0
-        (λ z n. walk-mapped held after at hs (z ∷ trail) m.1 n) e
+    (λ z n. walk-mapped held after at hs (z ∷ trail) m.1 n) e
 
 rechecked : (b : Bool) (v w : Option ProofFault) → (v ≡ None → w ≡ None) → (if b then v else Some UnknownLit) ≡ None → (if b then w else Some UnknownLit) ≡ None
 rechecked true v w f e = f e
@@ -93,7 +88,7 @@ unfolding walk
 known_walk held [] trail e = tt
 known_walk held (h ∷ hs) trail e =
     known_clause (clause_at held h) (has trail) (is_last hs) (λ z. walk held (z ∷ trail) hs) (AreKnown held hs) (known_end held hs)
-        (λ z n. known_walk held hs (z ∷ trail) n) e
+    (λ z n. known_walk held hs (z ∷ trail) n) e
 
 pub known_hints : (variables : ℕ) (held : List (Option (List ℤ))) (step : Step) → fault_of variables held step ≡ None → AreKnown held step.hints
 unfolding fault_of
@@ -226,14 +221,15 @@ valid_act : {act : Act} (acts : List Act) (state after : State) (all : List (Opt
     ((next : List (Option (List ℤ))) → IsSub after.held next → length after.held ≡ length next → AreValid after.variables next acts) → AreValid state.variables all (act ∷ acts)
 valid_act acts state after all (added step f m) s l rest =
     let moved : (next : List (Option (List ℤ))) → IsSub (state.held ++ Some step.lits ∷ []) next → length (state.held ++ Some step.lits ∷ []) ≡ length next → AreValid state.variables next acts =
-        subst (λ x. (next : List (Option (List ℤ))) → IsSub x.held next → length x.held ≡ length next → AreValid x.variables next acts) m rest in
-    let here = fault_of-mapped state.variables state.held all (λ h. h) step.lits step.hints (mapped_sub state.held all step.hints s) f in
-    (ap (λ hs. fault_of state.variables all (record { lits = step.lits; hints = hs })) (sym (map-id step.hints)) ∙ here,
-     moved (all ++ Some step.lits ∷ []) (IsSub-push state.held all step.lits l s)
-        (length-append state.held (Some step.lits ∷ []) ∙ ap (λ n. n + 1) l ∙ sym (length-append all (Some step.lits ∷ []))))
+    subst (λ x. (next : List (Option (List ℤ))) → IsSub x.held next → length x.held ≡ length next → AreValid x.variables next acts) m rest in
+    let here = fault_of-mapped state.variables state.held all (λ h. h) step.lits step.hints (mapped_sub state.held all step.hints s) f in (
+      ap (λ hs. fault_of state.variables all (record { lits = step.lits; hints = hs })) (sym (map-id step.hints)) ∙ here,
+      moved (all ++ Some step.lits ∷ []) (IsSub-push state.held all step.lits l s)
+          (length-append state.held (Some step.lits ∷ []) ∙ ap (λ n. n + 1) l ∙ sym (length-append all (Some step.lits ∷ []))),
+    )
 valid_act acts state after all (gone ns held w m) s l rest =
     let moved : (next : List (Option (List ℤ))) → IsSub held next → length held ≡ length next → AreValid state.variables next acts =
-        subst (λ x. (next : List (Option (List ℤ))) → IsSub x.held next → length x.held ≡ length next → AreValid x.variables next acts) m rest in
+    subst (λ x. (next : List (Option (List ℤ))) → IsSub x.held next → length x.held ≡ length next → AreValid x.variables next acts) m rest in
     moved all (IsSub-without ns state.held held all w s) (length-without ns state.held held w ∙ l)
 
 pub valid_from : (acts : List Act) (state final : State) (all : List (Option (List ℤ))) → after_acts_from state acts ≡ Some final → IsSub state.held all →
@@ -257,9 +253,10 @@ closed_after (act ∷ acts) state final e =
 -- each hint of a valid step is an earlier number
 pub earlier_from : (acts : List Act) (variables n : ℕ) (all : List (Option (List ℤ))) → length all ≡ n → AreValid variables all acts → AreEarlier n acts
 earlier_from [] variables n all l v = tt
-earlier_from (Add step ∷ acts) variables n all l v =
-    (subst (λ m. AreAtMost m step.hints) l (known_at_most all step.hints (known_hints variables all step v.0)),
-     earlier_from acts variables (n + 1) (all ++ Some step.lits ∷ []) (length-append all (Some step.lits ∷ []) ∙ ap (λ m. m + 1) l) v.1)
+earlier_from (Add step ∷ acts) variables n all l v = (
+  subst (λ m. AreAtMost m step.hints) l (known_at_most all step.hints (known_hints variables all step v.0)),
+  earlier_from acts variables (n + 1) (all ++ Some step.lits ∷ []) (length-append all (Some step.lits ∷ []) ∙ ap (λ m. m + 1) l) v.1,
+)
 earlier_from (Remove ns ∷ acts) variables n all l v = earlier_from acts variables n all l v
 
 -- what a closed log gives

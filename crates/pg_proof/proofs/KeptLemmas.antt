@@ -1,11 +1,11 @@
 -- What a checker keeps, from the start on and from step to step.
-use Rattle.std.proofs.Common.{◌≡◌, ℕ, ◌+◌, ◌*◌, ◌<◌, ◌≤◌, max, Bool, true, false, List, [], ◌∷◌, ◌++◌, length, get_or, map, Option, Some, None, refl, sym, ap, subst, ◌∙◌, arith, ℤ, nat_abs, ◌||◌}
+use Rattle.std.proofs.Common.{◌≡◌, ℕ, ◌+◌, ◌*◌, ◌<◌, ◌≤◌, Bool, List, [], ◌∷◌, ◌++◌, length, get_or, map, Option, Some, None, sym, ap, subst, ◌∙◌, arith, ℤ}
 use Rattle.pg_proof.specs.declared.step.Step.{Step}
 use Rattle.pg_cnf.specs.Literals.{AreLiterals, AreClauses}
 use Rattle.pg_proof.specs.Places.{AreWithin}
-use Rattle.pg_proof.specs.State.{State, AreHeldWithin, variables_of_clause, variables_of, is_empty, with_clause}
+use Rattle.pg_proof.specs.State.{AreHeldWithin, variables_of_clause, variables_of}
 use Rattle.pg_proof.specs.Refutation.{fault_of}
-use Rattle.pg_proof.specs.Kept.{state_of, IsKept}
+use Rattle.pg_proof.specs.Kept.{IsKept}
 use Rattle.pg_proof.proofs.WithinLemmas.{AreHeldWithin-push}
 use Rattle.std.proofs.lemmas.List.{length-append, length-set}
 use Rattle.pg_proof.specs.Covered.{home, with_hung, AreHung}
@@ -42,10 +42,10 @@ IsKept-added variables held after flags marked standing numbers more hung lists 
       standing_places = k.standing_places;
       lists = ap length hangs ∙ length-set hung (home step.lits) (get_or hung (home step.lits) [] ++ (length held + 1) ∷ []) ∙ k.lists;
       hangs = subst (λ x. x) (λ i. AreHung (sym hangs i) (sym made i))
-        (AreHung-added hung held step.lits (home_of_valid variables held flags standing numbers hung step valid k) k.hangs);
+          (AreHung-added hung held step.lits (home_of_valid variables held flags standing numbers hung step valid k) k.hangs);
       numbered = omega (arith, room, ap length made, length-append held (Some step.lits ∷ []));
       within = subst (AreHeldWithin (2 * variables + 2)) (sym made)
-        (AreHeldWithin-push (2 * variables + 2) held step.lits k.within (valid_within variables held step valid));
+          (AreHeldWithin-push (2 * variables + 2) held step.lits k.within (valid_within variables held step valid));
     }
 
 pub IsKept-without : (variables : ℕ) (held after : List (Option (List ℤ))) (flags standing numbers seen : List Bool) (hung : List (List ℕ)) (ns : List ℕ) →

@@ -1,5 +1,5 @@
 -- Flags that show a list of literals, and the walk by flags as by the list.
-use Rattle.std.proofs.Common.{◌≡◌, ℕ, zero, suc, ◌+◌, ◌*◌, ◌<◌, ◌≤◌, Bool, true, false, ◌||◌, List, [], ◌∷◌, length, get_or, set, replicate, Option, Some, None, slice_get, refl, sym, ap, subst, ◌∙◌, arith, ℤ, pos, negsuc, neg_ℤ, nat_abs, map}
+use Rattle.std.proofs.Common.{◌≡◌, ℕ, zero, suc, ◌+◌, ◌*◌, ◌<◌, Bool, true, false, ◌||◌, List, [], ◌∷◌, length, get_or, set, replicate, Option, Some, None, slice_get, refl, sym, ap, subst, ◌∙◌, arith, ℤ, pos, negsuc, neg_ℤ, nat_abs}
 use Rattle.std.specs.Option.{option_and_then}
 use Rattle.std.specs.Ordering.{int_eq}
 use Rattle.std.proofs.lemmas.List.{length-set, length-replicate, get_or-set_same, get_or-set_other}
@@ -67,8 +67,8 @@ pub is_marked-marked : (zs : List ℤ) (flags : List Bool) (f : ℤ → Bool) �
 is_marked-marked [] flags f h e = e
 is_marked-marked (z ∷ zs) flags f h e =
     is_marked-marked zs (set flags (place z) true) (λ y. int_eq z y || f y)
-        (subst (λ n. AreWithin n zs) (sym (length-set flags (place z) true)) h.1)
-        (is_marked-set flags z (place-below (length flags) z h.0) ∙ ap (λ (g : ℤ → Bool). λ y. int_eq z y || g y) e)
+    (subst (λ n. AreWithin n zs) (sym (length-set flags (place z) true)) h.1)
+    (is_marked-set flags z (place-below (length flags) z h.0) ∙ ap (λ (g : ℤ → Bool). λ y. int_eq z y || g y) e)
     ∙ (λ i y. swapped (int_eq z y) (has zs y) (f y) i)
 
 pub none_up : (n k : ℕ) → get_or (replicate n false) k false ≡ false
@@ -124,9 +124,9 @@ unfolding walk_marked walk
 walk-same held [] flags trail w s = refl
 walk-same held (h ∷ hs) flags trail w s =
     at_same_clause (clause_at held h) flags trail (is_last hs) (λ z. walk_marked held (set flags (place z) true) hs) (λ z. walk held (z ∷ trail) hs)
-        (λ c e. AreHeldWithin-clause (length flags) held h c e w) s
-        (λ z lt. walk-same held hs (set flags (place z) true) (z ∷ trail)
-            (subst (λ n. AreHeldWithin n held) (sym (length-set flags (place z) true)) w) (shown flags trail z lt s))
+    (λ c e. AreHeldWithin-clause (length flags) held h c e w) s
+    (λ z lt. walk-same held hs (set flags (place z) true) (z ∷ trail)
+    (subst (λ n. AreHeldWithin n held) (sym (length-set flags (place z) true)) w) (shown flags trail z lt s))
 
 pub fault_of-unknown : (variables : ℕ) (held : List (Option (List ℤ))) (step : Step) → are_ascending variables 0 step.lits ≡ false →
     fault_of variables held step ≡ Some UnknownLit
@@ -140,5 +140,5 @@ unfolding fault_of
 fault_of-walked variables n held step h w e =
     rw e
     (walk-same held step.hints (marked (replicate n false) (negations step.lits)) (negations step.lits)
-        (subst (λ m. AreHeldWithin m held) (sym (length-marked (negations step.lits) (replicate n false) ∙ length-replicate n false)) h)
-        (shows-marked n (negations step.lits) (AreWithin-negations n step.lits w)))
+    (subst (λ m. AreHeldWithin m held) (sym (length-marked (negations step.lits) (replicate n false) ∙ length-replicate n false)) h)
+    (shows-marked n (negations step.lits) (AreWithin-negations n step.lits w)))

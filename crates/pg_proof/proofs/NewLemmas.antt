@@ -1,11 +1,10 @@
 -- A clause that is part of literals of which one is unset and the others are false is unit or falsified.
-use Rattle.std.proofs.Common.{◌≡◌, ◌≢◌, ℕ, Bool, true, false, not, cond, ◌||◌, ◌&&◌, List, [], ◌∷◌, refl, sym, ap, subst, ◌∙◌, ℤ, neg_ℤ}
+use Rattle.std.proofs.Common.{◌≡◌, ◌≢◌, ℕ, Bool, true, false, not, cond, ◌||◌, List, [], ◌∷◌, refl, sym, ap, subst, ◌∙◌, ℤ, neg_ℤ}
 use Rattle.std.specs.List.{list_any, list_all}
 use Rattle.std.specs.Ordering.{int_eq}
 use Rattle.std.proofs.lemmas.Bool.Decides.{Decides-int_eq}
 use Rattle.pg_cnf.specs.Literals.{IsAbsent, AreDistinct, AreClauses}
-use Rattle.pg_proof.specs.declared.propagation.Reading.{Reading}
-use Rattle.pg_proof.specs.declared.propagation.Reading.TheVariants.{Falsified, Unit, Neither}
+use Rattle.pg_proof.specs.declared.propagation.Reading.TheVariants.{Unit, Neither}
 use Rattle.pg_proof.specs.Places.{has}
 use Rattle.pg_proof.specs.Reading.{open_of, reading_of, reading}
 use Rattle.pg_proof.specs.New.{AreQuiet, IsNew}
@@ -73,5 +72,5 @@ new_uncovered variables clauses lits are new = rest clauses are new.quiet
     rest [] a q = refl
     rest (c ∷ cs) a q =
         no_part (list_all (has lits) c) (list_any (λ d. list_all (has lits) d) cs)
-            (λ h. at_most_one lits new.trail new.unset new.others c h a.0.distinct new.not_false new.not_true q.0)
-            (rest cs a.1 q.1)
+        (λ h. at_most_one lits new.trail new.unset new.others c h a.0.distinct new.not_false new.not_true q.0)
+        (rest cs a.1 q.1)

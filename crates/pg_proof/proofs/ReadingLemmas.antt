@@ -1,5 +1,5 @@
 -- A clause that is read literal by literal.
-use Rattle.std.proofs.Common.{◌≡◌, ℕ, ◌+◌, ◌*◌, ◌<◌, Bool, true, false, not, if◌then◌else◌, cond, ℤ, pos, neg_ℤ, nat_abs, List, [], ◌∷◌, length, get_or, drop, refl, sym, ap, subst, ◌∙◌}
+use Rattle.std.proofs.Common.{◌≡◌, ℕ, ◌+◌, ◌<◌, Bool, true, false, not, if◌then◌else◌, cond, ℤ, pos, neg_ℤ, List, [], ◌∷◌, length, get_or, drop, refl, sym, ap, subst, ◌∙◌}
 use Rattle.std.proofs.lemmas.List.{at_drop_more}
 use Rattle.pg_proof.specs.Places.{IsWithin, AreWithin}
 use Rattle.pg_proof.proofs.WithinLemmas.{AreWithin-drop}

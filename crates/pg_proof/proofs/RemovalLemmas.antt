@@ -2,9 +2,8 @@
 use Rattle.std.proofs.Common.{◌≡◌, ℕ, zero, suc, ◌+◌, ◌-◌, ◌<◌, ◌≤◌, Bool, true, false, List, [], ◌∷◌, length, get_or, set, drop, replicate, Option, Some, None, is_some, slice_get, refl, sym, ap, subst, ◌∙◌, arith, ℤ, ◌&&◌, if◌then◌else◌, IsTrue}
 use Rattle.std.specs.Option.{option_and_then}
 use Rattle.std.proofs.lemmas.List.{drop_more, drop_all, length-set, length-replicate}
-use Rattle.pg_cnf.specs.Truth.{clause_true, clauses_true}
 use Rattle.pg_proof.specs.State.{State, clause_at, AreHeldWithin}
-use Rattle.pg_proof.specs.Removal.{without, after_removal, unflagged}
+use Rattle.pg_proof.specs.Removal.{without, unflagged}
 use Rattle.pg_proof.specs.Sound.{held_true, all_held_true, IsSound}
 use Rattle.pg_proof.proofs.WithinLemmas.{both}
 
@@ -93,15 +92,15 @@ module _ (held : List (Option (List ℤ))) (flags : List Bool) (ns : List ℕ) (
   pub AreSeen-gone : is_some (clause_at held (get_or ns i 0)) ≡ false → false ≡ is_some (without held ns)
   AreSeen-gone e =
       sym (ap is_some (without-drop (unflagged held flags) ns i lt
-          ∙ ap (λ b. (if b then without (set (unflagged held flags) (get_or ns i 0 - 1) None) (drop (i + 1) ns) else None))
-              (ap is_some (clause_at-unflagged-gone held flags (get_or ns i 0) (none_there (clause_at held (get_or ns i 0)) e)))))
+      ∙ ap (λ b. (if b then without (set (unflagged held flags) (get_or ns i 0 - 1) None) (drop (i + 1) ns) else None))
+      (ap is_some (clause_at-unflagged-gone held flags (get_or ns i 0) (none_there (clause_at held (get_or ns i 0)) e)))))
       ∙ h.rest
 
   pub AreSeen-twice : get_or flags (get_or ns i 0 - 1) false ≡ true → false ≡ is_some (without held ns)
   AreSeen-twice e =
       sym (ap is_some (without-drop (unflagged held flags) ns i lt
-          ∙ ap (λ b. (if b then without (set (unflagged held flags) (get_or ns i 0 - 1) None) (drop (i + 1) ns) else None))
-              (ap is_some (clause_at-unflagged-up held flags (get_or ns i 0) e))))
+      ∙ ap (λ b. (if b then without (set (unflagged held flags) (get_or ns i 0 - 1) None) (drop (i + 1) ns) else None))
+      (ap is_some (clause_at-unflagged-up held flags (get_or ns i 0) e))))
       ∙ h.rest
 
   pub AreSeen-room : is_some (clause_at held (get_or ns i 0)) ≡ true → get_or ns i 0 - 1 < length flags
@@ -114,8 +113,8 @@ module _ (held : List (Option (List ℤ))) (flags : List Bool) (ns : List ℕ) (
       let bounds = clause_at-bounds held n some in
       let here : is_some (clause_at (unflagged held flags) n) ≡ true = ap is_some (clause_at-unflagged-down held flags n down) ∙ some in
       let step : without (unflagged held flags) (drop i ns) ≡ without (set (unflagged held flags) (n - 1) None) (drop (i + 1) ns) =
-          (without-drop (unflagged held flags) ns i lt
-          ∙ ap (λ b. (if b then without (set (unflagged held flags) (n - 1) None) (drop (i + 1) ns) else None)) here) in
+      (without-drop (unflagged held flags) ns i lt
+      ∙ ap (λ b. (if b then without (set (unflagged held flags) (n - 1) None) (drop (i + 1) ns) else None)) here) in
       let room : n - 1 < length flags = omega (arith, bounds.1, h.places) in
       let made_held : unflagged held after ≡ set (unflagged held flags) (n - 1) None = ap (unflagged held) made ∙ unflagged-set held flags (n - 1) room in
       record {
@@ -146,8 +145,8 @@ module _ (start held : List (Option (List ℤ))) (ns : List ℕ) (i : ℕ) (lt :
   AreTaken-next after made =
       record {
         rest = ap (λ x. without x (drop (i + 1) ns)) made
-          ∙ sym (without-drop held ns i lt ∙ ap (λ b. (if b then without (set held (get_or ns i 0 - 1) None) (drop (i + 1) ns) else None)) here)
-          ∙ h.rest;
+            ∙ sym (without-drop held ns i lt ∙ ap (λ b. (if b then without (set held (get_or ns i 0 - 1) None) (drop (i + 1) ns) else None)) here)
+            ∙ h.rest;
         some = h.some;
       }
 

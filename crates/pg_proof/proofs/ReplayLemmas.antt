@@ -1,15 +1,14 @@
 -- A log that is replayed act by act.
-use Rattle.std.proofs.Common.{◌≡◌, ◌≢◌, ℕ, ◌+◌, ◌<◌, ◌≤◌, Bool, true, false, List, [], ◌∷◌, length, get_or, drop, Option, Some, None, Err, is_none, if◌then◌else◌, map, refl, sym, ap, subst, ◌∙◌, arith, ℤ, IsTrue}
+use Rattle.std.proofs.Common.{◌≡◌, ◌≢◌, ℕ, ◌+◌, ◌<◌, ◌≤◌, List, [], ◌∷◌, length, get_or, drop, Option, Some, None, Err, is_none, if◌then◌else◌, refl, sym, ap, subst, ◌∙◌, arith, ℤ, IsTrue}
 use Rattle.std.specs.Prelude.{◌↔◌, ⊤, Result, Ok, OnOk, OnErr, IsSomeAnd}
 use Rattle.std.specs.Option.{option_and_then, option_map}
 use Rattle.std.proofs.lemmas.List.{drop_more, drop_all, length-map, length-append}
 use Rattle.std.proofs.lemmas.Option.{same_Some}
-use Rattle.pg_cnf.specs.Truth.{clauses_true}
 use Rattle.pg_proof.specs.declared.step.ProofFault.{ProofFault}
 use Rattle.pg_proof.specs.declared.step.ProofFault.TheVariants.{UnknownLit, UnknownHint, NotUnit, NoConflict, UnknownClause, Memory}
 use Rattle.pg_proof.specs.declared.step.Step.{Step}
 use Rattle.pg_proof.specs.declared.step.Act.{Act}
-use Rattle.pg_proof.specs.declared.step.Act.TheVariants.{Add, Remove}
+use Rattle.pg_proof.specs.declared.step.Act.TheVariants.{Add}
 use Rattle.pg_proof.specs.State.{State, begun, with_clause}
 use Rattle.pg_proof.specs.Refutation.{fault_of, told}
 use Rattle.pg_proof.specs.Removal.{without, after_removal}
@@ -49,7 +48,7 @@ pub refused_log : (question : List (List ℤ)) (acts : List Act) (state : State)
 refused_log question acts state i act lt is e h c =
     let d : drop i acts ≡ act ∷ drop (i + 1) acts = drop_more acts i act lt ∙ ap (λ a. a ∷ drop (i + 1) acts) (sym is) in
     let none : after_acts question acts ≡ None =
-        sym h.rest ∙ ap (after_acts_from state) d ∙ ap (option_and_then (λ x. after_acts_from x (drop (i + 1) acts))) e in
+    sym h.rest ∙ ap (after_acts_from state) d ∙ ap (option_and_then (λ x. after_acts_from x (drop (i + 1) acts))) e in
     not_closed (after_acts question acts) none c
 
 pub replayed_log : (question : List (List ℤ)) (acts : List Act) (state : State) (i : ℕ) → length acts ≤ i → IsReplayed question acts state i →
@@ -88,7 +87,7 @@ removed_held (Some held) state after n l e =
 pub few_removed : (state after : State) (ns : List ℕ) → after_removal state ns ≡ Some after → length after.held ≤ length state.held + 1
 few_removed state after ns e =
     let same : length after.held ≡ length state.held =
-        removed_held (without state.held ns) state after (length state.held) (λ held w. length-without ns state.held held w) e in
+    removed_held (without state.held ns) state after (length state.held) (λ held w. length-without ns state.held held w) e in
     omega (arith, same)
 
 pub few_either : (r : Result ⊤ ProofFault) (state after : State) (ns : List ℕ) → OnOk r (after_removal state ns ≡ Some after) → OnErr r (after ≡ state) →

@@ -1,6 +1,5 @@
 -- A valid step follows from what is held.
-use Rattle.std.proofs.Common.{◌≡◌, ℕ, zero, suc, ◌+◌, ◌*◌, ◌<◌, ◌≤◌, Bool, true, false, not, cond, ◌||◌, ◌&&◌, ltb, leb, List, [], ◌∷◌, ◌++◌, Option, Some, None, Err, slice_get, refl, sym, ap, subst, ◌∙◌, arith, ℤ, pos, negsuc, neg_ℤ, nat_abs, map, if◌then◌else◌, IsTrue}
-use Rattle.std.specs.List.{list_any, list_all}
+use Rattle.std.proofs.Common.{◌≡◌, ℕ, zero, suc, ◌+◌, ◌*◌, ◌<◌, Bool, true, false, not, cond, ◌||◌, ◌&&◌, ltb, leb, List, [], ◌∷◌, ◌++◌, Option, Some, None, Err, slice_get, refl, sym, ap, subst, ◌∙◌, arith, ℤ, pos, negsuc, neg_ℤ, nat_abs, map, if◌then◌else◌}
 use Rattle.std.specs.Ordering.{int_eq}
 use Rattle.std.proofs.lemmas.List.Folds.{list_all-append}
 use Rattle.std.proofs.lemmas.Bool.Decides.{Decides-int_eq}
@@ -138,7 +137,7 @@ unfolding walk
 walk_ends a held [] trail h t n = cc
 walk_ends a held (k ∷ hs) trail h t n =
     at_held a trail (clause_at held k) (is_last hs) (λ z. walk held (z ∷ trail) hs) t (λ c e. held_true-at a held k c e h)
-        (λ z e m. walk_ends a held hs (z ∷ trail) h (AreTrue-more a trail z e t) m) n
+    (λ z e m. walk_ends a held hs (z ∷ trail) h (AreTrue-more a trail z e t) m) n
 
 -- where no literal of a step is true, each negation is
 negations_true : (a : List Bool) (variables above : ℕ) (lits : List ℤ) → are_ascending variables above lits ≡ true → clause_true a lits ≡ false →
@@ -186,7 +185,7 @@ pub IsSound-added : (question : List (List ℤ)) (state : State) (step : Step) �
     IsSound question (with_clause state step.lits)
 IsSound-added question state step valid s =
     let follows : (a : List Bool) → clauses_true a question ≡ true → clause_true a step.lits ≡ true =
-        (λ a q. valid_follows state.variables state.held step a valid (s.follows a q)) in
+    (λ a q. valid_follows state.variables state.held step a valid (s.follows a q)) in
     record {
       follows = λ a q. all_held_true-push a state.held step.lits (s.follows a q) (follows a q);
       refuted = λ h. closes question state step.lits state.closed refl s follows h;
@@ -234,4 +233,4 @@ pub told_fault : (variables : ℕ) (held : List (Option (List ℤ))) (step : Ste
 unfolding fault_of
 told_fault variables held step f e =
     sym e ∙ sym (told_checked (are_ascending variables 0 step.lits) (walk held (negations step.lits) step.hints) f
-        (told_walk held step.hints (negations step.lits) f) (sym e))
+    (told_walk held step.hints (negations step.lits) f) (sym e))

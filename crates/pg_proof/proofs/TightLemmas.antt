@@ -1,8 +1,8 @@
 -- Tight steps by flags: a literal that is set can stand negated in no earlier clause.
-use Rattle.std.proofs.Common.{◌≡◌, ℕ, zero, suc, ◌+◌, ◌*◌, ◌<◌, ◌≤◌, Bool, true, false, not, cond, ◌||◌, ◌&&◌, List, [], ◌∷◌, ◌++◌, length, set, replicate, map, Option, Some, None, is_none, unwrap_or, refl, sym, ap, subst, ◌∙◌, arith, ℤ, pos, negsuc, neg_ℤ, nat_abs, if◌then◌else◌, append_assoc}
+use Rattle.std.proofs.Common.{◌≡◌, ℕ, zero, suc, ◌+◌, ◌*◌, ◌<◌, Bool, true, false, not, cond, ◌||◌, ◌&&◌, List, [], ◌∷◌, ◌++◌, length, set, replicate, Option, Some, None, is_none, unwrap_or, refl, sym, ap, subst, ◌∙◌, arith, ℤ, pos, negsuc, neg_ℤ, nat_abs, if◌then◌else◌, append_assoc}
 use Rattle.std.specs.List.{list_all}
 use Rattle.std.specs.Ordering.{int_eq}
-use Rattle.std.proofs.lemmas.List.{length-set, length-replicate, append-nil}
+use Rattle.std.proofs.lemmas.List.{length-set, length-replicate}
 use Rattle.std.proofs.lemmas.List.Folds.{list_any-append}
 use Rattle.std.proofs.lemmas.Bool.Decides.{Decides-int_eq}
 use Rattle.pg_proof.specs.declared.propagation.Reading.{Reading}
@@ -121,7 +121,7 @@ not_before : (trail : List ℤ) (pre : List (List ℤ)) (c : List ℤ) (z : ℤ)
 not_before trail pre c z false s e h = refl
 not_before trail pre c z true s e h =
     absurd (neither_value (has trail (neg_ℤ z)) (has trail (neg_ℤ (neg_ℤ z))) (negation_unset (has trail) c z e)
-        (ap (has trail) (neg_neg z) ∙ set_unset (has trail) c z e) (s (neg_ℤ z) h))
+    (ap (has trail) (neg_neg z) ∙ set_unset (has trail) c z e) (s (neg_ℤ z) h))
 
 pub only_later : (trail : List ℤ) (pre cs : List (List ℤ)) (c : List ℤ) (z : ℤ) → 0 < nat_abs z → AreSet trail pre → reading (has trail) c ≡ Unit z →
     stands_in (pre ++ c ∷ cs) (neg_ℤ z) ≡ stands_in cs (neg_ℤ z)
@@ -173,17 +173,17 @@ pub sets_same : (cs pre : List (List ℤ)) (standing flags : List Bool) (trail :
 sets_same [] pre standing flags trail w m s a = refl
 sets_same (c ∷ cs) pre standing flags trail w m s a =
     at_set_same (reading (is_marked flags) c) (reading (has trail) c) _ _ (ap (λ (t : ℤ → Bool). reading t c) s)
-        (λ z e.
-            let here : IsWithin (length flags) z = subst (IsReadWithin (length flags)) e (IsReadWithin-reading (has trail) (length flags) c w.0) in
-            let later : is_marked standing (neg_ℤ z) ≡ stands_in cs (neg_ℤ z) =
-                ap (λ (t : ℤ → Bool). t (neg_ℤ z)) m ∙ only_later trail pre cs c z here.nonzero a e in
-            let rest : sets_marked standing (set flags (place z) true) cs ≡ sets_used (z ∷ trail) cs =
-                sets_same cs (pre ++ c ∷ []) standing (set flags (place z) true) (z ∷ trail)
-                    (subst (λ n. AreAllWithin n cs) (sym (length-set flags (place z) true)) w.1)
-                    (m ∙ ap stands_in (sym (append_assoc pre (c ∷ []) cs)))
-                    (shown flags trail z (place-below (length flags) z here) s)
-                    (AreSet-more trail pre c z a e) in
-            λ i. later i && rest i)
+    (λ z e.
+    let here : IsWithin (length flags) z = subst (IsReadWithin (length flags)) e (IsReadWithin-reading (has trail) (length flags) c w.0) in
+    let later : is_marked standing (neg_ℤ z) ≡ stands_in cs (neg_ℤ z) =
+    ap (λ (t : ℤ → Bool). t (neg_ℤ z)) m ∙ only_later trail pre cs c z here.nonzero a e in
+    let rest : sets_marked standing (set flags (place z) true) cs ≡ sets_used (z ∷ trail) cs =
+    sets_same cs (pre ++ c ∷ []) standing (set flags (place z) true) (z ∷ trail)
+    (subst (λ n. AreAllWithin n cs) (sym (length-set flags (place z) true)) w.1)
+    (m ∙ ap stands_in (sym (append_assoc pre (c ∷ []) cs)))
+    (shown flags trail z (place-below (length flags) z here) s)
+    (AreSet-more trail pre c z a e) in
+    λ i. later i && rest i)
 
 -- the answer, as the code finds it
 pub is_tight-invalid : (variables : ℕ) (held : List (Option (List ℤ))) (step : Step) → is_none (fault_of variables held step) ≡ false →
@@ -211,7 +211,7 @@ module _ (variables n : ℕ) (held : List (Option (List ℤ))) (step : Step) (wi
       let cs = hint_clauses held step.hints in
       when_valid variables held step valid
       ∙ ap (λ b. b && sets_used (negations step.lits) cs)
-          (ap (λ (t : ℤ → Bool). list_all t step.lits) (sym (shows-marked_all n cs (AreAllWithin-hints n held step.hints within))) ∙ e)
+      (ap (λ (t : ℤ → Bool). list_all t step.lits) (sym (shows-marked_all n cs (AreAllWithin-hints n held step.hints within))) ∙ e)
 
   pub is_tight-sets : list_all (is_marked (marked_all (replicate n false) (hint_clauses held step.hints))) step.lits ≡ true → AreWithin n step.lits →
       is_tight variables held step
@@ -224,4 +224,4 @@ module _ (variables n : ℕ) (held : List (Option (List ℤ))) (step : Step) (wi
       when_valid variables held step valid
       ∙ ap (λ b. b && sets_used (negations step.lits) cs) (ap (λ (t : ℤ → Bool). list_all t step.lits) (sym (shows-marked_all n cs all)) ∙ e)
       ∙ sym (sets_same cs [] (marked_all (replicate n false) cs) flags (negations step.lits) (subst (λ m. AreAllWithin m cs) (sym places) all)
-          (shows-marked_all n cs all) (shows-marked n (negations step.lits) (AreWithin-negations n step.lits w)) (λ y h. cc))
+      (shows-marked_all n cs all) (shows-marked n (negations step.lits) (AreWithin-negations n step.lits w)) (λ y h. cc))

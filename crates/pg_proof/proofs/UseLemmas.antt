@@ -1,7 +1,6 @@
 -- Which clauses are used, found backward.
-use Rattle.std.proofs.Common.{◌≡◌, ◌≢◌, ℕ, zero, suc, ◌+◌, ◌-◌, ◌<◌, ◌≤◌, Bool, true, false, ◌&&◌, eqb, if◌then◌else◌, List, [], ◌∷◌, ◌++◌, length, get_or, take, drop, set, replicate, refl, sym, ap, subst, ◌∙◌, arith}
+use Rattle.std.proofs.Common.{◌≡◌, ◌≢◌, ℕ, zero, suc, ◌+◌, ◌-◌, ◌<◌, ◌≤◌, Bool, true, false, ◌&&◌, eqb, List, [], ◌∷◌, ◌++◌, length, get_or, take, drop, set, replicate, refl, sym, ap, subst, ◌∙◌, arith}
 use Rattle.std.proofs.lemmas.List.{length-set, length-replicate, take-append-drop, get_or-set_same, get_or-set_other, drop_more, take_more, take_all, drop_all}
-use Rattle.std.proofs.lemmas.Bool.Decides.{nat_tests}
 use Rattle.pg_proof.proofs.WithinLemmas.{both}
 use Rattle.pg_proof.specs.declared.step.Step.{Step}
 use Rattle.pg_proof.specs.declared.step.Act.{Act}
@@ -39,8 +38,8 @@ raised_itself [] flags n a lt = refl
 raised_itself (p ∷ ps) flags n a lt =
     let room : p < length flags = omega (arith, a.0) in
     both_up (get_or (raised (set flags p true) ps) p false) (are_up (raised (set flags p true) ps) ps)
-        (raised_keeps ps (set flags p true) p (get_or-set_same flags p true false room))
-        (raised_itself ps (set flags p true) n a.1 (subst (λ m. n < m) (sym (length-set flags p true)) lt))
+    (raised_keeps ps (set flags p true) p (get_or-set_same flags p true false room))
+    (raised_itself ps (set flags p true) n a.1 (subst (λ m. n < m) (sym (length-set flags p true)) lt))
 
 -- a flag past those that are raised stays
 raised_past : (ps : List ℕ) (flags : List Bool) (n q : ℕ) → AreAtMost n ps → n < q → get_or (raised flags ps) q false ≡ get_or flags q false
@@ -51,9 +50,10 @@ raised_past (p ∷ ps) flags n q a lt =
 
 AreUsed-raised : (acts : List Act) (flags : List Bool) (ps : List ℕ) (m n : ℕ) → AreAtMost m ps → m ≤ n → AreUsed flags n acts → AreUsed (raised flags ps) n acts
 AreUsed-raised [] flags ps m n a le u = tt
-AreUsed-raised (Add step ∷ acts) flags ps m n a le u =
-    ((λ h. are_up_keeps step.hints ps flags (u.0 (sym (raised_past ps flags m (n + 1) a (omega arith)) ∙ h))),
-     AreUsed-raised acts flags ps m (n + 1) a (omega arith) u.1)
+AreUsed-raised (Add step ∷ acts) flags ps m n a le u = (
+  (λ h. are_up_keeps step.hints ps flags (u.0 (sym (raised_past ps flags m (n + 1) a (omega arith)) ∙ h))),
+  AreUsed-raised acts flags ps m (n + 1) a (omega arith) u.1,
+)
 AreUsed-raised (Remove numbers ∷ acts) flags ps m n a le u = AreUsed-raised acts flags ps m n a le u
 
 -- one step, from its own flag on
@@ -128,15 +128,16 @@ AreFlagged-add question acts flags after number left k step l d early made h =
     let both_parts = step_used (get_or flags (n + 1) false) flags step.hints (drop (k + 1) acts) n refl hints room used in
     let same : after ≡ raised_if (get_or flags (n + 1) false) flags step.hints = made ∙ ap (λ x. raised_if (get_or flags x false) flags step.hints) counted in
     let less : n ≡ number - 1 = omega (arith, counted) in
-    let here : AreUsed (raised_if (get_or flags (n + 1) false) flags step.hints) n (Add step ∷ drop (k + 1) acts) = both_parts in
-    (omega (arith, counted),
-     record {
-       used = subst (λ x. x) (λ i. AreUsed (sym same i) (less i) (sym d i)) here;
-       counted = sym less;
-       within = omega (arith, lt);
-       last = ap (λ fs. get_or fs (question + step_count acts) false) made ∙ kept (get_or flags number false) flags step.hints (question + step_count acts) h.last;
-       places = ap length made ∙ same_places (get_or flags number false) flags step.hints ∙ h.places;
-     })
+    let here : AreUsed (raised_if (get_or flags (n + 1) false) flags step.hints) n (Add step ∷ drop (k + 1) acts) = both_parts in (
+      omega (arith, counted),
+      record {
+        used = subst (λ x. x) (λ i. AreUsed (sym same i) (less i) (sym d i)) here;
+        counted = sym less;
+        within = omega (arith, lt);
+        last = ap (λ fs. get_or fs (question + step_count acts) false) made ∙ kept (get_or flags number false) flags step.hints (question + step_count acts) h.last;
+        places = ap length made ∙ same_places (get_or flags number false) flags step.hints ∙ h.places;
+      },
+    )
 
 pub AreFlagged-remove : (question : ℕ) (acts : List Act) (flags : List Bool) (number left k : ℕ) (gone : List ℕ) → left ≡ k + 1 →
     drop k acts ≡ Remove gone ∷ drop (k + 1) acts → AreFlagged question acts flags number left → AreFlagged question acts flags number k

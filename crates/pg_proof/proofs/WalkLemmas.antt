@@ -1,10 +1,8 @@
 -- The walk along hints, one hint at a time, and by flags as by a list.
-use Rattle.std.proofs.Common.{◌≡◌, ℕ, zero, suc, ◌+◌, ◌*◌, ◌<◌, ◌≤◌, ◌-◌, Bool, true, false, eqb, eq-eqb, List, [], ◌∷◌, length, get_or, drop, set, Option, Some, None, refl, sym, ap, subst, ◌∙◌, arith, ℤ, if◌then◌else◌}
+use Rattle.std.proofs.Common.{◌≡◌, ℕ, ◌+◌, ◌<◌, ◌≤◌, ◌-◌, Bool, true, false, eqb, eq-eqb, List, [], ◌∷◌, length, get_or, drop, set, Option, Some, None, refl, sym, ap, ◌∙◌, arith, ℤ}
 use Rattle.std.proofs.lemmas.List.{drop_more, drop_all, length-drop, length-set}
 use Rattle.std.proofs.lemmas.Bool.Decides.{nat_tests}
-use Rattle.pg_proof.specs.declared.propagation.Reading.{Reading}
 use Rattle.pg_proof.specs.declared.propagation.Reading.TheVariants.{Falsified, Unit, Neither}
-use Rattle.pg_proof.specs.declared.step.ProofFault.{ProofFault}
 use Rattle.pg_proof.specs.declared.step.ProofFault.TheVariants.{UnknownHint, NotUnit, NoConflict}
 use Rattle.pg_proof.specs.Places.{place, is_marked}
 use Rattle.pg_proof.specs.Reading.{reading}
@@ -30,12 +28,12 @@ apart a b n = grind (arith, nat_tests)
 pub walk_marked-drop : (held : List (Option (List ℤ))) (flags : List Bool) (hs : List ℕ) (i : ℕ) → i < length hs →
     walk_marked held flags (drop i hs)
     ≡ at_clause (clause_at held (get_or hs i 0))
-        (λ c. at_reading (reading (is_marked flags) c) (eqb (i + 1) (length hs)) (λ z. walk_marked held (set flags (place z) true) (drop (i + 1) hs)))
+    (λ c. at_reading (reading (is_marked flags) c) (eqb (i + 1) (length hs)) (λ z. walk_marked held (set flags (place z) true) (drop (i + 1) hs)))
 unfolding walk_marked
 walk_marked-drop held flags hs i lt =
     ap (walk_marked held flags) (drop_more hs i 0 lt)
     ∙ ap (λ b. at_clause (clause_at held (get_or hs i 0)) (λ c. at_reading (reading (is_marked flags) c) b (λ z. walk_marked held (set flags (place z) true) (drop (i + 1) hs))))
-        (is_last-drop hs i lt)
+    (is_last-drop hs i lt)
 
 pub walk_marked-end : (held : List (Option (List ℤ))) (flags : List Bool) (hs : List ℕ) (i : ℕ) → length hs ≤ i →
     walk_marked held flags (drop i hs) ≡ Some NoConflict

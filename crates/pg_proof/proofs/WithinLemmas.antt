@@ -1,9 +1,9 @@
 -- Literals whose places are among so many.
-use Rattle.std.proofs.Common.{◌≡◌, ℕ, zero, suc, ◌+◌, ◌*◌, ◌<◌, ◌≤◌, Bool, true, false, ◌&&◌, ltb, leb, ℤ, nat_abs, List, [], ◌∷◌, ◌++◌, length, get_or, drop, Option, Some, None, slice_get, refl, sym, ap, subst, ◌∙◌, arith}
+use Rattle.std.proofs.Common.{◌≡◌, ℕ, zero, suc, ◌+◌, ◌*◌, ◌<◌, ◌≤◌, Bool, true, false, ◌&&◌, ltb, leb, ℤ, nat_abs, List, [], ◌∷◌, ◌++◌, length, get_or, drop, Option, Some, None, slice_get, refl, subst, arith}
 use Rattle.std.proofs.lemmas.List.{drop_more}
 use Rattle.std.proofs.lemmas.Bool.Decides.{nat_tests}
 use Rattle.pg_proof.specs.Places.{IsWithin, AreWithin}
-use Rattle.pg_proof.specs.State.{AreHeldWithin, clause_at}
+use Rattle.pg_proof.specs.State.{AreHeldWithin}
 use Rattle.pg_proof.specs.Refutation.{are_ascending}
 
 pub AreWithin-drop : (n : ℕ) (c : List ℤ) (i : ℕ) (d : ℤ) → i < length c → AreWithin n (drop i c) →

@@ -1,5 +1,5 @@
 -- Clauses that are part of others: what is covered says no more than a clause that is held.
-use Rattle.std.specs.Prelude.{◌≡◌, ℕ, zero, suc, ◌+◌, Bool, true, false, ◌||◌, nat_eq, ℤ, List, [], ◌∷◌, Option, None, Some, slice_get, slice_index_or, slice_set, ◌++◌}
+use Rattle.std.specs.Prelude.{◌≡◌, ℕ, ◌+◌, Bool, true, false, ◌||◌, nat_eq, ℤ, List, [], ◌∷◌, Option, None, Some, slice_get, slice_index_or, slice_set, ◌++◌}
 use Rattle.std.specs.List.{list_any, list_all}
 use Rattle.pg_proof.specs.Places.{has, place}
 use Rattle.pg_proof.specs.State.{clause_at}

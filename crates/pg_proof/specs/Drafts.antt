@@ -26,4 +26,3 @@ pub record AreKept (question : List (List ℤ)) (flags : List Bool) (log : List 
   pub draft : IsDraft question flags (take k log) numbers made
   pub few_made : length made ≤ k
   pub few_numbers : length numbers ≤ k
-

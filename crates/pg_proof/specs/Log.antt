@@ -1,5 +1,5 @@
 -- Logs: acts one after another, from a question on.
-use Rattle.std.specs.Prelude.{◌≡◌, ℕ, zero, suc, ⊤, Bool, true, false, if◌then◌else◌, IsTrue, ℤ, List, [], ◌∷◌, Option, None, Some, is_none, IsSomeAnd}
+use Rattle.std.specs.Prelude.{◌≡◌, ℕ, zero, suc, ⊤, true, false, if◌then◌else◌, IsTrue, ℤ, List, [], ◌∷◌, Option, None, Some, is_none, IsSomeAnd}
 use Rattle.std.specs.Option.{option_and_then}
 use Rattle.pg_proof.specs.declared.step.Step.{Step}
 use Rattle.pg_proof.specs.declared.step.Act.{Act}

@@ -1,5 +1,5 @@
 -- The same by flags: what the code computes where the literals set true are marked, and not listed.
-use Rattle.std.specs.Prelude.{◌≡◌, ℕ, ◌+◌, ◌*◌, ◌<◌, ⊤, Bool, true, ◌&&◌, if◌then◌else◌, ℤ, neg_ℤ, nat_abs, List, [], ◌∷◌, slice_set, Option, None, Some}
+use Rattle.std.specs.Prelude.{ℕ, ⊤, Bool, true, ◌&&◌, if◌then◌else◌, ℤ, neg_ℤ, List, [], ◌∷◌, slice_set, Option, Some}
 use Rattle.pg_proof.specs.declared.propagation.Reading.{Reading}
 use Rattle.pg_proof.specs.declared.propagation.Reading.TheVariants.{Falsified, Unit, Neither}
 use Rattle.pg_proof.specs.declared.step.ProofFault.{ProofFault}
@@ -39,7 +39,7 @@ unfoldable pub walk_marked : List (Option (List ℤ)) → List Bool → List ℕ
 walk_marked held flags [] = Some NoConflict
 walk_marked held flags (h ∷ hs) =
     at_clause (clause_at held h)
-        (λ c. at_reading (reading (is_marked flags) c) (is_last hs) (λ z. walk_marked held (slice_set flags (place z) true) hs))
+    (λ c. at_reading (reading (is_marked flags) c) (is_last hs) (λ z. walk_marked held (slice_set flags (place z) true) hs))
 
 -- flags with those of all literals of some clauses put up
 abbrev pub marked_all : List Bool → List (List ℤ) → List Bool

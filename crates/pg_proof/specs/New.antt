@@ -1,5 +1,5 @@
 -- Clauses that unit propagation does not see.
-use Rattle.std.specs.Prelude.{◌≡◌, ◌≢◌, ℕ, ⊤, Bool, true, false, ℤ, neg_ℤ, List, [], ◌∷◌}
+use Rattle.std.specs.Prelude.{◌≡◌, ◌≢◌, ℕ, ⊤, true, false, ℤ, neg_ℤ, List, [], ◌∷◌}
 use Rattle.std.specs.List.{list_any, list_all}
 use Rattle.pg_cnf.specs.Literals.{AreClauses}
 use Rattle.pg_proof.specs.declared.propagation.Reading.TheVariants.{Neither}

@@ -1,5 +1,5 @@
 -- Which clauses are used, and their numbers once the others are left out.
-use Rattle.std.specs.Prelude.{◌≡◌, ℕ, zero, suc, ◌+◌, ◌-◌, ◌≤◌, ⊤, Bool, true, false, nat_le, if◌then◌else◌, ◌||◌, ◌&&◌, ◌++◌, map, length, ℤ, List, [], ◌∷◌, Option, None, Some, slice_index_or, slice_set}
+use Rattle.std.specs.Prelude.{◌≡◌, ℕ, suc, ◌+◌, ◌-◌, ◌≤◌, ⊤, Bool, true, false, nat_le, if◌then◌else◌, ◌++◌, map, length, ℤ, List, [], ◌∷◌, Option, None, Some, slice_index_or, slice_set}
 use Rattle.std.specs.List.{list_all}
 use Rattle.pg_proof.specs.declared.step.Step.{Step}
 use Rattle.pg_proof.specs.declared.step.Act.{Act}

@@ -1,5 +1,5 @@
 -- Literals in lists, and their places among flags.
-use Rattle.std.specs.Prelude.{◌≡◌, ℕ, ◌+◌, ◌*◌, ◌<◌, ⊤, Bool, false, if◌then◌else◌, ℤ, pos, negsuc, neg_ℤ, nat_abs, List, [], ◌∷◌, map, slice_index_or}
+use Rattle.std.specs.Prelude.{ℕ, ◌+◌, ◌*◌, ◌<◌, ⊤, Bool, false, ℤ, pos, negsuc, neg_ℤ, nat_abs, List, [], ◌∷◌, map, slice_index_or}
 use Rattle.std.specs.List.{list_any}
 use Rattle.std.specs.Ordering.{int_eq}
 

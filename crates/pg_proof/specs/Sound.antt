@@ -1,5 +1,5 @@
 -- What a checker's state shows of the question that it began with.
-use Rattle.std.specs.Prelude.{◌≡◌, ℕ, Bool, true, IsTrue, ℤ, List, [], ◌∷◌, ◌&&◌, Option, None, Some}
+use Rattle.std.specs.Prelude.{◌≡◌, ℕ, Bool, true, IsTrue, ℤ, List, Option, None, Some}
 use Rattle.std.specs.List.{list_all}
 use Rattle.pg_cnf.specs.Truth.{clause_true, clauses_true}
 use Rattle.pg_proof.specs.declared.step.Step.{Step}

@@ -1,5 +1,5 @@
 -- What a checker holds.
-use Rattle.std.specs.Prelude.{◌≡◌, ℕ, zero, suc, max, ◌<◌, ⊤, Bool, true, false, ◌||◌, ℤ, nat_abs, List, [], ◌∷◌, ◌++◌, map, Option, None, Some, slice_get}
+use Rattle.std.specs.Prelude.{ℕ, zero, suc, max, ⊤, Bool, true, false, ◌||◌, ℤ, nat_abs, List, [], ◌∷◌, ◌++◌, map, Option, None, Some, slice_get}
 use Rattle.std.specs.Option.{option_and_then}
 use Rattle.pg_proof.specs.Places.{AreWithin}
 

@@ -1,6 +1,5 @@
 -- Logs that show the same with fewer steps.
-use Rattle.std.specs.Prelude.{◌≡◌, ℕ, zero, suc, ◌+◌, ◌-◌, ⊤, Bool, true, false, nat_le, if◌then◌else◌, ◌⊎◌, ◌||◌, ◌&&◌, ◌++◌, map, length, ℤ, List, [], ◌∷◌, Option, Some, slice_index_or, slice_set}
-use Rattle.pg_proof.specs.declared.step.Step.{Step}
+use Rattle.std.specs.Prelude.{◌≡◌, ⊤, ◌⊎◌, ◌++◌, map, ℤ, List, [], ◌∷◌, Option, Some}
 use Rattle.pg_proof.specs.declared.step.Act.{Act}
 use Rattle.pg_proof.specs.declared.step.Act.TheVariants.{Add, Remove}
 use Rattle.pg_proof.specs.Tight.{hint_clauses}

@@ -97,7 +97,12 @@ impl Checker {
         ensures kept { OnErr result (self.new ≡ self.old) }
         ensures sound { (question : List (List ℤ)) → IsSound question self.old → IsSound question self.new }
     {
-        if let Some(fault) = fault_of(&mut self.literals, self.variables, self.clauses.as_slice(), step) {
+        if let Some(fault) = fault_of(
+            &mut self.literals,
+            self.variables,
+            self.clauses.as_slice(),
+            step,
+        ) {
             return Err(fault);
         }
         let number = self.clauses.len() as u32 + 1;
@@ -159,7 +164,13 @@ impl Checker {
         ensures tight { result ≡ is_tight self.old.variables self.old.held step.now }
         ensures kept { self.new ≡ self.old }
     {
-        is_tight(&mut self.literals, &mut self.standing, self.variables, self.clauses.as_slice(), step)
+        is_tight(
+            &mut self.literals,
+            &mut self.standing,
+            self.variables,
+            self.clauses.as_slice(),
+            step,
+        )
     }
 
     /// Whether some clause held has no literal but these, so that a clause of these says no more than it does.
@@ -169,7 +180,12 @@ impl Checker {
         ensures covered { result ≡ is_covered self.old.held literals.now }
         ensures kept { self.new ≡ self.old }
     {
-        is_covered(&mut self.literals, self.clauses.as_slice(), self.hung.as_slice(), literals)
+        is_covered(
+            &mut self.literals,
+            self.clauses.as_slice(),
+            self.hung.as_slice(),
+            literals,
+        )
     }
 
     /// Whether the empty clause was added: then no assignment makes all clauses of the question true.

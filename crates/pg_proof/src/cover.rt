@@ -49,7 +49,11 @@ pub fn hang(hung: &mut Vec<HintList>, place: usize, number: u32) -> Result<(), A
 }
 
 /// The lists in which some clauses hang, each under its number, from 1 on. The error is want of memory.
-pub fn lists_of(alloc: Global, places: usize, clauses: &[Option<LitList>]) -> Result<Vec<HintList>, AllocError>
+pub fn lists_of(
+    alloc: Global,
+    places: usize,
+    clauses: &[Option<LitList>],
+) -> Result<Vec<HintList>, AllocError>
     requires some { 0 < places }
     requires few { length clauses.now + 1 < 2 ^ 32 }
     requires within { AreHeldWithin places clauses.now }
@@ -116,7 +120,12 @@ fn place_passes(flags: &Marks, clauses: &[Option<LitList>], hung: &[HintList], p
 }
 
 /// Whether one in the lists of these literals does.
-fn any_passes(flags: &Marks, clauses: &[Option<LitList>], hung: &[HintList], literals: &[i32]) -> bool
+fn any_passes(
+    flags: &Marks,
+    clauses: &[Option<LitList>],
+    hung: &[HintList],
+    literals: &[i32],
+) -> bool
     requires { AreHeldWithin (length flags.now) clauses.now }
     ensures { result ≡ list_any (λ z. place_passes (is_marked flags.now) clauses.now hung.now (place z)) literals.now }
 {
@@ -130,7 +139,12 @@ fn any_passes(flags: &Marks, clauses: &[Option<LitList>], hung: &[HintList], lit
 
 /// Whether some clause held has no literal but these. It leaves marks, and nothing else. It costs the number of literals,
 /// and the lengths of the clauses in their lists.
-pub fn is_covered(flags: &mut Marks, clauses: &[Option<LitList>], hung: &[HintList], literals: &[i32]) -> bool
+pub fn is_covered(
+    flags: &mut Marks,
+    clauses: &[Option<LitList>],
+    hung: &[HintList],
+    literals: &[i32],
+) -> bool
     requires held { AreHeldWithin (length flags.old) clauses.now }
     requires hung { AreHung hung.now clauses.now }
     ensures covered { result ≡ is_covered clauses.now literals.now }

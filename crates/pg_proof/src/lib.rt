@@ -20,6 +20,6 @@ mod tight;
 mod trimming;
 
 pub use checker::Checker;
-pub use trimming::{ActList, trim};
 pub use replay::is_refutation;
 pub use step::{Act, HintList, LitList, ProofFault, Step};
+pub use trimming::{ActList, trim};

@@ -32,7 +32,11 @@ pub fn place(literal: i32) -> usize
     ensures { result ≡ place literal }
 {
     let variable = literal.unsigned_abs() as usize;
-    if literal < 0 { 2 * variable + 1 } else { 2 * variable }
+    if literal < 0 {
+        2 * variable + 1
+    } else {
+        2 * variable
+    }
 }
 
 /// The place of a literal's negation.
@@ -40,7 +44,11 @@ pub fn negation_place(literal: i32) -> usize
     ensures { result ≡ place (neg_ℤ literal) }
 {
     let variable = literal.unsigned_abs() as usize;
-    if literal > 0 { 2 * variable + 1 } else { 2 * variable }
+    if literal > 0 {
+        2 * variable + 1
+    } else {
+        2 * variable
+    }
 }
 
 /// The literals of the clause with a number, if it is held.
@@ -142,7 +150,12 @@ fn walk(flags: &mut Marks, clauses: &[Option<LitList>], hints: &[u32]) -> Option
 
 /// The first fault of a step, or none where it is valid: its literals are looked at first, then its hints in order. It
 /// leaves marks, and nothing else. It costs the length of the step and of its hints' clauses.
-pub fn fault_of(flags: &mut Marks, variables: u32, clauses: &[Option<LitList>], step: &Step) -> Option<ProofFault>
+pub fn fault_of(
+    flags: &mut Marks,
+    variables: u32,
+    clauses: &[Option<LitList>],
+    step: &Step,
+) -> Option<ProofFault>
     requires held { AreHeldWithin (length flags.old) clauses.now }
     requires places { length flags.old ≡ 2 * variables + 2 }
     ensures fault { result ≡ fault_of variables clauses.now step.now }

@@ -13,7 +13,9 @@ ghost use Rattle.pg_proof.specs.Tight.{literals_at, hint_clauses, is_tight};
 ghost use Rattle.pg_proof.specs.Marked.{marked, marked_all, sets_marked};
 
 use crate::marks::Marks;
-use crate::propagation::{Reading, clause_at, fault_of, mark_negations, negation_place, place, read};
+use crate::propagation::{
+    Reading, clause_at, fault_of, mark_negations, negation_place, place, read,
+};
 use crate::step::{LitList, Step};
 
 /// The literals of the clause with a number, or none where it is not held.
@@ -64,7 +66,12 @@ pub fn are_marked(flags: &Marks, literals: &[i32]) -> bool
 }
 
 /// Whether the negation of each literal that a hint sets is marked among those that stand in clauses.
-fn sets_are_marked(standing: &Marks, flags: &mut Marks, clauses: &[Option<LitList>], hints: &[u32]) -> bool
+fn sets_are_marked(
+    standing: &Marks,
+    flags: &mut Marks,
+    clauses: &[Option<LitList>],
+    hints: &[u32],
+) -> bool
     requires held { AreHeldWithin (length flags.old) clauses.now }
     requires places { length standing.now ≡ length flags.old }
     ensures marked { result ≡ sets_marked standing.now flags.old (hint_clauses clauses.now hints.now) }
@@ -96,7 +103,13 @@ fn is_valid(flags: &mut Marks, variables: u32, clauses: &[Option<LitList>], step
 }
 
 /// Whether a step is tight. It leaves marks, and nothing else, and costs the length of the step and of its hints' clauses.
-pub fn is_tight(flags: &mut Marks, standing: &mut Marks, variables: u32, clauses: &[Option<LitList>], step: &Step) -> bool
+pub fn is_tight(
+    flags: &mut Marks,
+    standing: &mut Marks,
+    variables: u32,
+    clauses: &[Option<LitList>],
+    step: &Step,
+) -> bool
     requires held { AreHeldWithin (2 * variables + 2) clauses.now }
     requires places { length flags.old ≡ 2 * variables + 2 }
     requires standing_places { length standing.old ≡ 2 * variables + 2 }

@@ -76,7 +76,12 @@ fn new_number(question: usize, numbers: &[u32], hint: u32) -> u32
 }
 
 /// Hints under the numbers of the log that is kept. The error is want of memory.
-fn renumbered_hints(alloc: Global, question: usize, numbers: &[u32], hints: &[u32]) -> Result<HintList, AllocError>
+fn renumbered_hints(
+    alloc: Global,
+    question: usize,
+    numbers: &[u32],
+    hints: &[u32],
+) -> Result<HintList, AllocError>
     ensures { IfOk result (λ made. made ≡ map (new_number question numbers.now) hints.now) }
 {
     let mut made = HintList::new(alloc);
@@ -87,7 +92,12 @@ fn renumbered_hints(alloc: Global, question: usize, numbers: &[u32], hints: &[u3
 }
 
 /// A step with such hints. The error is want of memory.
-fn renumbered(alloc: Global, question: usize, numbers: &[u32], step: &Step) -> Result<Step, AllocError>
+fn renumbered(
+    alloc: Global,
+    question: usize,
+    numbers: &[u32],
+    step: &Step,
+) -> Result<Step, AllocError>
     ensures { IfOk result (λ made. made ≡ renumbered question numbers.now step.now) }
 {
     let lits = LitList::from_slice(alloc, step.lits.as_slice())?;
@@ -200,7 +210,13 @@ struct Draft {
 }
 
 /// What is kept of the acts of a log before the one at a place. The error is want of memory.
-fn kept_before(alloc: Global, cnf: &Cnf, used: &Marks, log: &[Act], end: usize) -> Result<Draft, AllocError>
+fn kept_before(
+    alloc: Global,
+    cnf: &Cnf,
+    used: &Marks,
+    log: &[Act],
+    end: usize,
+) -> Result<Draft, AllocError>
     requires within { end < length log.now }
     requires few { length cnf.now.clauses + length log.now + 1 < 2 ^ 32 }
     requires valid { AreValid (variables_of cnf.now.clauses) (map Some cnf.now.clauses) log.now }
@@ -230,7 +246,10 @@ pub fn trim(alloc: Global, cnf: &Cnf, acts: &[Act]) -> Result<ActList, AllocErro
     let end = end_of(acts);
     let log = &acts[..end + 1];
     let used = used_clauses(alloc, question, log)?;
-    let Draft { mut made, mut numbers } = kept_before(alloc, cnf, &used, log, end)?;
+    let Draft {
+        mut made,
+        mut numbers,
+    } = kept_before(alloc, cnf, &used, log, end)?;
     keep(alloc, question, &used, &mut made, &mut numbers, &log[end])?;
     Ok(ActList::from_vec(made))
 }

@@ -6,12 +6,12 @@ use Rattle.pg_proof.proofs.cover.is_covered.Goals as goal
 pub returns-then-place_passes-clause-covered : goal.returns-then-place_passes-clause-covered
 returns-then-place_passes-clause-covered c =
     covered_first (length c.args.flags.now) c.mark_known.new.flags c.args.clauses.now c.args.hung.now c.args.literals.now
-        (c.mark_known.ensures.marked ∙ ap (λ fs. marked fs c.args.literals.now) c.clear.ensures.down) c.requires.held c.requires.hung
-        (sym c.place_passes.ensures ∙ c.if-place_passes.true)
+    (c.mark_known.ensures.marked ∙ ap (λ fs. marked fs c.args.literals.now) c.clear.ensures.down) c.requires.held c.requires.hung
+    (sym c.place_passes.ensures ∙ c.if-place_passes.true)
 
 pub returns-clause-covered : goal.returns-clause-covered
 returns-clause-covered c =
     c.any_passes.ensures
     ∙ covered_rest (length c.args.flags.now) c.mark_known.new.flags c.args.clauses.now c.args.hung.now c.args.literals.now
-        (c.mark_known.ensures.marked ∙ ap (λ fs. marked fs c.args.literals.now) c.clear.ensures.down) c.requires.held c.requires.hung
-        (sym c.place_passes.ensures ∙ c.if-place_passes.false)
+    (c.mark_known.ensures.marked ∙ ap (λ fs. marked fs c.args.literals.now) c.clear.ensures.down) c.requires.held c.requires.hung
+    (sym c.place_passes.ensures ∙ c.if-place_passes.false)

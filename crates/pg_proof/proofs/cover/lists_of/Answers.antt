@@ -15,8 +15,8 @@ hang-requires c = rw c.home.ensures (room (goal.at.hang-requires c).In-Some)
 pub loop-i-preserved : goal.loop-i-preserved
 loop-i-preserved c =
     AreListed-next c.args.places c.loop-i.hung.items c.args.clauses.now c.loop-i.i c.loop-i-test.true c.loop-i.invariant c.in-Some.clause.now c.hang.new.hung.items
-        (sym c.in-Some.ensures.clause) (room (goal.at.loop-i-preserved c).In-Some)
-        (c.in_ok-hang-in-Some.ensures.hung ∙ ap (λ p. with_hung c.loop-i.hung.items p (c.loop-i.i + 1)) c.home.ensures)
+    (sym c.in-Some.ensures.clause) (room (goal.at.loop-i-preserved c).In-Some)
+    (c.in_ok-hang-in-Some.ensures.hung ∙ ap (λ p. with_hung c.loop-i.hung.items p (c.loop-i.i + 1)) c.home.ensures)
 
 pub loop-i-preserved-in-None : goal.loop-i-preserved-in-None
 loop-i-preserved-in-None c =

@@ -8,4 +8,4 @@ returns-in-Some-Some-clause-within c =
     λ places held.
     rw c.as_slice.ensures
     (AreHeldWithin-at places c.args.clauses.now (c.args.number - 1) c.in-Some-Some.clause
-        (sym c.at.ensures ∙ ap option_copied c.in-Some-Some.is ∙ ap Some c.in-Some-Some.field-0-is) held)
+    (sym c.at.ensures ∙ ap option_copied c.in-Some-Some.is ∙ ap Some c.in-Some-Some.field-0-is) held)

@@ -1,8 +1,7 @@
-use Rattle.std.proofs.Common.{◌≡◌, ◌+◌, ◌*◌, Bool, true, false, length, replicate, subst, sym, ap, ◌∙◌}
+use Rattle.std.proofs.Common.{◌≡◌, ◌+◌, ◌*◌, Bool, true, false, replicate, sym, ap, ◌∙◌}
 use Rattle.std.specs.Prelude.{is_none}
 use Rattle.std.specs.List.{list_all}
 use Rattle.pg_proof.specs.Places.{negations, is_marked, AreWithin}
-use Rattle.pg_proof.specs.State.{AreHeldWithin}
 use Rattle.pg_proof.specs.Refutation.{fault_of}
 use Rattle.pg_proof.specs.Tight.{hint_clauses}
 use Rattle.pg_proof.specs.Marked.{marked, marked_all, sets_marked}
@@ -41,7 +40,7 @@ pub returns-then-not-are_marked-clause-tight : goal.returns-then-not-are_marked-
 returns-then-not-are_marked-clause-tight c =
     let at = goal.at.returns-then-not-are_marked-clause-tight c in
     sym (is_tight-loose c.args.variables (2 * c.args.variables + 2) c.args.clauses.now c.args.step.now c.requires.held (valid at.Else-not-is_valid)
-        (stand at.After-mark_clauses c.are_marked.result false c.are_marked.ensures c.if-not-are_marked.true))
+    (stand at.After-mark_clauses c.are_marked.result false c.are_marked.ensures c.if-not-are_marked.true))
 
 pub mark_negations-requires : goal.mark_negations-requires
 mark_negations-requires c =
@@ -53,10 +52,10 @@ returns-clause-tight c =
     let at = goal.at.returns-clause-tight c in
     let v = c.args.variables in
     let flags : c.mark_negations.new.flags ≡ marked (replicate (2 * v + 2) false) (negations c.args.step.now.lits) =
-        (c.mark_negations.ensures.marked
-        ∙ ap (λ fs. marked fs (negations c.as_slice-literals.result.now)) (c.clear.ensures.down ∙ ap (λ n. replicate n false) (c.is_valid.ensures.places ∙ c.requires.places))
-        ∙ ap (λ zs. marked (replicate (2 * v + 2) false) (negations zs)) c.as_slice-literals.ensures) in
+    (c.mark_negations.ensures.marked
+    ∙ ap (λ fs. marked fs (negations c.as_slice-literals.result.now)) (c.clear.ensures.down ∙ ap (λ n. replicate n false) (c.is_valid.ensures.places ∙ c.requires.places))
+    ∙ ap (λ zs. marked (replicate (2 * v + 2) false) (negations zs)) c.as_slice-literals.ensures) in
     c.sets_are_marked.ensures.marked
     ∙ (λ i. sets_marked (standing at.After-mark_clauses i) (flags i) (hint_clauses c.args.clauses.now (c.as_slice-hints.ensures i)))
     ∙ sym (is_tight-sets v (2 * v + 2) c.args.clauses.now c.args.step.now c.requires.held (valid at.Else-not-is_valid)
-        (stand at.After-mark_clauses c.are_marked.result true c.are_marked.ensures c.if-not-are_marked.false) (within at.Else-not-is_valid))
+    (stand at.After-mark_clauses c.are_marked.result true c.are_marked.ensures c.if-not-are_marked.false) (within at.Else-not-is_valid))

@@ -1,4 +1,3 @@
-use Rattle.std.proofs.Common.{subst, sym}
 use Rattle.std.proofs.lemmas.List.Sums.{passes_at_first}
 use Rattle.pg_proof.specs.Numbering.{adds_empty}
 use Rattle.pg_proof.proofs.DraftLemmas.{any_place}

@@ -10,7 +10,7 @@ loop-i-preserved c =
     let made = c.loop-i.made.items in let numbers = c.loop-i.numbers.items in
     let lt : i < length log = omega (arith, c.loop-i-test.true, c.requires.within) in
     AreKept-next c.args.cnf.now.clauses c.args.used.now log made c.keep.new.made.items numbers c.keep.new.numbers.items i act lt
-        (drop_more log i act lt ∙ ap (λ a. a ∷ drop (i + 1) log) (sym c.index-log-i.is)) c.requires.valid c.requires.used
-        (c.in_ok-keep.ensures.made ∙ ap (λ q. with_kept q c.args.used.now numbers made act) c.len-question.ensures)
-        (c.in_ok-keep.ensures.numbers ∙ ap (λ q. with_number q c.args.used.now numbers made act) c.len-question.ensures)
-        c.loop-i.invariant
+    (drop_more log i act lt ∙ ap (λ a. a ∷ drop (i + 1) log) (sym c.index-log-i.is)) c.requires.valid c.requires.used
+    (c.in_ok-keep.ensures.made ∙ ap (λ q. with_kept q c.args.used.now numbers made act) c.len-question.ensures)
+    (c.in_ok-keep.ensures.numbers ∙ ap (λ q. with_number q c.args.used.now numbers made act) c.len-question.ensures)
+    c.loop-i.invariant

@@ -18,7 +18,7 @@ used_clauses-requires-clause-earlier c =
 pub kept_before-requires-clause-valid : goal.kept_before-requires-clause-valid
 kept_before-requires-clause-valid c =
     valid_take (c.end_of-end.result + 1) (variables_of c.args.cnf.now.clauses) c.args.acts.now (map Some c.args.cnf.now.clauses)
-        (given_log c.args.cnf.now.clauses c.args.acts.now c.requires.closed).valid
+    (given_log c.args.cnf.now.clauses c.args.acts.now c.requires.closed).valid
 
 pub returns : goal.returns
 returns c =
@@ -30,9 +30,9 @@ returns c =
     let empty : adds_empty act ≡ true = ap adds_empty (c.index-log-end.is ∙ get_or-take (k + 1) acts k act (omega arith)) ∙ c.end_of-end.ensures.empty act in
     subst (IsTrimmed question acts) (sym c.from_vec.ensures)
     (trimmed_end question flags acts made c.keep.new.made.items numbers k act lt
-        (drop_more (take (k + 1) acts) k act within ∙ ap (λ a. a ∷ drop (k + 1) (take (k + 1) acts)) (sym c.index-log-end.is)) empty
-        (valid_take (k + 1) (variables_of question) acts (map Some question) given.valid)
-        (subst (λ n. AreUsed flags n (take (k + 1) acts)) c.len-question.ensures c.in_ok-used.ensures.used)
-        (ap (λ n. get_or flags (n + step_count (take (k + 1) acts)) false) (sym c.len-question.ensures) ∙ c.in_ok-used.ensures.last)
-        c.in_ok-made.ensures.draft
-        (c.in_ok-keep.ensures.made ∙ ap (λ q. with_kept q flags numbers made act) c.len-question.ensures))
+    (drop_more (take (k + 1) acts) k act within ∙ ap (λ a. a ∷ drop (k + 1) (take (k + 1) acts)) (sym c.index-log-end.is)) empty
+    (valid_take (k + 1) (variables_of question) acts (map Some question) given.valid)
+    (subst (λ n. AreUsed flags n (take (k + 1) acts)) c.len-question.ensures c.in_ok-used.ensures.used)
+    (ap (λ n. get_or flags (n + step_count (take (k + 1) acts)) false) (sym c.len-question.ensures) ∙ c.in_ok-used.ensures.last)
+    c.in_ok-made.ensures.draft
+    (c.in_ok-keep.ensures.made ∙ ap (λ q. with_kept q flags numbers made act) c.len-question.ensures))

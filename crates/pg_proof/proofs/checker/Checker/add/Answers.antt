@@ -1,5 +1,4 @@
-use Rattle.std.proofs.Common.{◌≡◌, None, rules, subst, sym, ap, ◌∙◌}
-use Rattle.pg_proof.specs.State.{with_clause}
+use Rattle.std.proofs.Common.{◌≡◌, None, rules, subst}
 use Rattle.pg_proof.specs.Refutation.{fault_of}
 use Rattle.pg_proof.specs.Sound.{IsSound}
 use Rattle.pg_proof.proofs.KeptLemmas.{home_of_valid, IsKept-added}
@@ -21,7 +20,7 @@ pub invariant_of-self-2 : goal.invariant_of-self-2
 invariant_of-self-2 c =
     let s = c.self.inside in
     IsKept-added s.variables s.clauses.items c.hold.new.clauses.items s.literals c.fault_of.new.flags s.standing s.numbers c.make_room.new.flags s.hung.items c.hold.new.hung.items
-        c.args.step.now (search rules) c.fault_of.ensures.places (search rules) (search rules) (search rules) c.self.invariant
+    c.args.step.now (search rules) c.fault_of.ensures.places (search rules) (search rules) (search rules) c.self.invariant
 
 pub returns-clause-sound : goal.returns-clause-sound
 returns-clause-sound c =

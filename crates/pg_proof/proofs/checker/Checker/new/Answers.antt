@@ -1,6 +1,6 @@
-use Rattle.std.proofs.Common.{◌≡◌, ◌+◌, ◌*◌, false, length, map, Some, arith, subst, sym, ap, ◌∙◌}
+use Rattle.std.proofs.Common.{◌+◌, ◌*◌, false, length, map, Some, arith, subst, sym, ap, ◌∙◌}
 use Rattle.std.proofs.lemmas.List.{length-replicate}
-use Rattle.pg_proof.specs.State.{AreHeldWithin, variables_of, begun}
+use Rattle.pg_proof.specs.State.{AreHeldWithin, variables_of}
 use Rattle.pg_proof.specs.Kept.{state_of}
 use Rattle.pg_proof.specs.Sound.{IsSound}
 use Rattle.pg_proof.proofs.KeptLemmas.{AreHeldWithin-begun}
@@ -31,5 +31,5 @@ invariant_of-result c = record {
 pub returns-clause-sound : goal.returns-clause-sound
 returns-clause-sound c =
     subst (IsSound c.args.cnf.now.clauses)
-        (λ i. state_of (sym (c.greatest_variable-variables.ensures ∙ ap variables_of c.as_slice-2.ensures) i) (sym (c.in_ok-clauses.ensures ∙ ap (map Some) c.as_slice.ensures) i) false)
-        (IsSound-begun c.args.cnf.now.clauses)
+    (λ i. state_of (sym (c.greatest_variable-variables.ensures ∙ ap variables_of c.as_slice-2.ensures) i) (sym (c.in_ok-clauses.ensures ∙ ap (map Some) c.as_slice.ensures) i) false)
+    (IsSound-begun c.args.cnf.now.clauses)
