@@ -1,9 +1,7 @@
 -- A log that is kept step by step: what it shows is part of what was given, and its steps are valid under their new numbers.
-use Rattle.std.proofs.Common.{◌≡◌, ℕ, zero, suc, ◌+◌, ◌-◌, ◌<◌, ◌≤◌, Bool, true, false, not, cond, ◌||◌, leb, if◌then◌else◌, List, [], ◌∷◌, ◌++◌, length, map, get_or, take, drop, Option, Some, None, is_none, unwrap_or, refl, sym, ap, subst, ◌∙◌, arith, ℤ, inl, inr, IsTrue}
-use Rattle.std.specs.Prelude.{IsSomeAnd}
+use Rattle.std.proofs.Common.{◌≡◌, ℕ, zero, suc, ◌+◌, ◌-◌, ◌<◌, ◌≤◌, Bool, true, false, ◌||◌, leb, if◌then◌else◌, List, [], ◌∷◌, ◌++◌, length, map, get_or, take, drop, Option, Some, None, is_none, unwrap_or, refl, sym, ap, subst, ◌∙◌, arith, ℤ, inl, inr}
 use Rattle.std.specs.Option.{option_and_then}
-use Rattle.std.specs.List.{list_any, position_or_len}
-use Rattle.std.proofs.lemmas.List.{length-append, length-map, get_or_at, get_or_append_left, append-nil, take-append-drop, length-take-le, take_all}
+use Rattle.std.proofs.lemmas.List.{length-append, length-map, get_or_at, get_or_append_left, append-nil}
 use Rattle.std.proofs.lemmas.Option.{same_Some}
 use Rattle.std.proofs.lemmas.Bool.Decides.{nat_tests}
 use Rattle.pg_proof.specs.declared.step.ProofFault.{ProofFault}
@@ -15,9 +13,9 @@ use Rattle.pg_proof.specs.Refutation.{fault_of}
 use Rattle.pg_proof.specs.Tight.{literals_at, hint_clauses}
 use Rattle.pg_proof.specs.Kept.{state_of}
 use Rattle.pg_proof.specs.Log.{after_act, after_acts_from, after_acts}
-use Rattle.pg_proof.specs.Trimmed.{full, shown, IsPart, AddsEmpty, EndsEmpty, IsTrimmed}
-use Rattle.pg_proof.specs.Numbering.{step_count, adds_empty, are_up, AreUsed, AreEarlier, AreValid, new_number, renumbered, is_next_used, with_kept, with_number}
-use Rattle.pg_proof.specs.Drafts.{Maps, IsDraft, AreKept}
+use Rattle.pg_proof.specs.Trimmed.{full, shown, IsPart, step_count}
+use Rattle.pg_proof.specs.Numbering.{are_up, AreUsed, AreEarlier, AreValid, new_number, renumbered, is_next_used, with_kept, with_number}
+use Rattle.pg_proof.specs.Drafts.{Maps, IsDraft}
 use Rattle.pg_proof.proofs.WithinLemmas.{both}
 use Rattle.pg_proof.proofs.GivenLemmas.{AreMapped, AreKnown, Numbered, numbered, clause_at-push, clause_at-last, number_below, fault_of-mapped, known_hints}
 use Rattle.pg_proof.proofs.UseLemmas.{step_count-take, step_count-append}
@@ -36,7 +34,7 @@ IsPart-both (w ∷ xs) [] x y e h = absurd h
 IsPart-both (w ∷ xs) (z ∷ ys) x y e (inl p) = inl (p.0, IsPart-both xs ys x y e p.1)
 IsPart-both (w ∷ xs) (z ∷ ys) x y e (inr p) = inr (IsPart-both (w ∷ xs) ys x y e p)
 
-IsPart-more : {A : Type 0} (xs ys zs : List A) → IsPart xs ys → IsPart xs (ys ++ zs)
+pub IsPart-more : {A : Type 0} (xs ys zs : List A) → IsPart xs ys → IsPart xs (ys ++ zs)
 IsPart-more [] ys zs h = tt
 IsPart-more (x ∷ xs) [] zs h = absurd h
 IsPart-more (x ∷ xs) (y ∷ ys) zs (inl p) = inl (p.0, IsPart-more xs ys zs p.1)
@@ -48,7 +46,7 @@ full-append [] more all = refl
 full-append (Add step ∷ front) more all = full-append front more (all ++ Some step.lits ∷ [])
 full-append (Remove ns ∷ front) more all = full-append front more all
 
-shown-append : (front more : List Act) (all : List (Option (List ℤ))) → shown all (front ++ more) ≡ shown all front ++ shown (full all front) more
+pub shown-append : (front more : List Act) (all : List (Option (List ℤ))) → shown all (front ++ more) ≡ shown all front ++ shown (full all front) more
 shown-append [] more all = refl
 shown-append (Add step ∷ front) more all = ap (λ xs. (step.lits, hint_clauses all step.hints) ∷ xs) (shown-append front more (all ++ Some step.lits ∷ []))
 shown-append (Remove ns ∷ front) more all = shown-append front more all
@@ -76,19 +74,19 @@ at_most_question false q numbers x h e le =
     let past : q < h = grind (arith, nat_tests) in
     get_or_append_left numbers (x ∷ []) 0 (h - q - 1) (omega (arith, past, le))
 
-new_number-old : (q : ℕ) (numbers : List ℕ) (x h : ℕ) → h ≤ q + length numbers → new_number q (numbers ++ x ∷ []) h ≡ new_number q numbers h
+pub new_number-old : (q : ℕ) (numbers : List ℕ) (x h : ℕ) → h ≤ q + length numbers → new_number q (numbers ++ x ∷ []) h ≡ new_number q numbers h
 new_number-old q numbers x h le = at_most_question (leb h q) q numbers x h refl le
 
 past_question : (q h : ℕ) → q < h → leb h q ≡ false
 past_question q h lt = grind (arith, nat_tests)
 
-new_number-new : (q : ℕ) (numbers : List ℕ) (x h : ℕ) → h ≡ q + length numbers + 1 → new_number q (numbers ++ x ∷ []) h ≡ x
+pub new_number-new : (q : ℕ) (numbers : List ℕ) (x h : ℕ) → h ≡ q + length numbers + 1 → new_number q (numbers ++ x ∷ []) h ≡ x
 new_number-new q numbers x h e =
     let past : q < h = omega arith in
     let place : length numbers ≡ h - q - 1 = omega arith in
     ap (λ b. if b then h else get_or (numbers ++ x ∷ []) (h - q - 1) 0) (past_question q h past) ∙ get_or_at numbers x [] 0 (h - q - 1) place
 
-or_second : (b c : Bool) → c ≡ true → b || c ≡ true
+pub or_second : (b c : Bool) → c ≡ true → b || c ≡ true
 or_second true c e = refl
 or_second false c e = e
 
@@ -199,7 +197,7 @@ module _ (question : List (List ℤ)) (flags : List Bool) (pre made : List Act) 
     kept_next : full (map Some question) (made ++ Add (renumbered (length question) numbers step) ∷ []) ≡ full (map Some question) made ++ Some step.lits ∷ []
     kept_next = full-append made (Add (renumbered (length question) numbers step) ∷ []) (map Some question)
 
-    kept_reached : after_acts question (made ++ Add (renumbered (length question) numbers step) ∷ [])
+    pub kept_reached : after_acts question (made ++ Add (renumbered (length question) numbers step) ∷ [])
         ≡ Some (state_of (variables_of question) (full (map Some question) (made ++ Add (renumbered (length question) numbers step) ∷ [])) (d.closed || is_empty step.lits))
     kept_reached =
         after-append made (Add (renumbered (length question) numbers step) ∷ []) (begun question) (state_of (variables_of question) (full (map Some question) made) d.closed) d.reached
@@ -209,7 +207,7 @@ module _ (question : List (List ℤ)) (flags : List Bool) (pre made : List Act) 
         (state_of (variables_of question) (full (map Some question) made ++ Some step.lits ∷ []) (d.closed || is_empty step.lits)) kept_valid)
         ∙ ap (λ x. Some (state_of (variables_of question) x (d.closed || is_empty step.lits))) (sym kept_next)
 
-    draft_keep : IsDraft question flags (pre ++ Add step ∷ []) (numbers ++ (length question + length made + 1) ∷ []) (made ++ Add (renumbered (length question) numbers step) ∷ [])
+    pub draft_keep : IsDraft question flags (pre ++ Add step ∷ []) (numbers ++ (length question + length made + 1) ∷ []) (made ++ Add (renumbered (length question) numbers step) ∷ [])
     draft_keep = record {
       closed = d.closed || is_empty step.lits;
       reached = kept_reached;
@@ -286,107 +284,6 @@ IsDraft-step question flags log made numbers k act lt e v u d =
     (sym (step_count-take log k act lt e))
     (IsDraft-next question flags (take k log) made numbers act d (valid_at log k (variables_of question) (map Some question) act lt e v)
     (used_at log k (length question) flags act lt e u))
-
-kept_few : (b : Bool) (made : List Act) (act : Act) → length (if b then made ++ act ∷ [] else made) ≤ length made + 1
-kept_few true made act = omega (arith, length-append made (act ∷ []))
-kept_few false made act = omega arith
-
-with_kept-few : (q : ℕ) (flags : List Bool) (numbers : List ℕ) (made : List Act) (act : Act) → length (with_kept q flags numbers made act) ≤ length made + 1
-with_kept-few q flags numbers made (Add step) = kept_few (is_next_used q flags numbers) made (Add (renumbered q numbers step))
-with_kept-few q flags numbers made (Remove ns) = omega arith
-
-with_number-few : (q : ℕ) (flags : List Bool) (numbers : List ℕ) (made : List Act) (act : Act) → length (with_number q flags numbers made act) ≤ length numbers + 1
-with_number-few q flags numbers made (Add step) = omega (arith, length-append numbers ((if is_next_used q flags numbers then q + length made + 1 else 0) ∷ []))
-with_number-few q flags numbers made (Remove ns) = omega arith
-
-pub AreKept-next : (question : List (List ℤ)) (flags : List Bool) (log made after : List Act) (numbers more : List ℕ) (k : ℕ) (act : Act) → k < length log →
-    drop k log ≡ act ∷ drop (k + 1) log → AreValid (variables_of question) (map Some question) log → AreUsed flags (length question) log →
-    after ≡ with_kept (length question) flags numbers made act → more ≡ with_number (length question) flags numbers made act →
-    AreKept question flags log numbers made k → AreKept question flags log more after (k + 1)
-AreKept-next question flags log made after numbers more k act lt e v u made_is more_is h =
-    record {
-      draft = subst (λ x. x) (λ i. IsDraft question flags (take (k + 1) log) (sym more_is i) (sym made_is i)) (IsDraft-step question flags log made numbers k act lt e v u h.draft);
-      few_made = omega (arith, ap length made_is, with_kept-few (length question) flags numbers made act, h.few_made);
-      few_numbers = omega (arith, ap length more_is, with_number-few (length question) flags numbers made act, h.few_numbers);
-    }
-
-EndsEmpty-last : (acts : List Act) (act : Act) → AddsEmpty act → EndsEmpty (acts ++ act ∷ [])
-EndsEmpty-last [] act h = h
-EndsEmpty-last (a ∷ []) act h = h
-EndsEmpty-last (a ∷ b ∷ acts) act h = EndsEmpty-last (b ∷ acts) act h
-
-no_literals : (lits : List ℤ) → is_empty lits ≡ true → lits ≡ []
-no_literals [] e = refl
-no_literals (z ∷ zs) e = cc
-
--- with the step that adds the empty clause the log is done
-module _ (question : List (List ℤ)) (flags : List Bool) (acts made : List Act) (numbers : List ℕ) (k : ℕ) (step : Step) (lt : k < length acts)
-    (here : drop k (take (k + 1) acts) ≡ Add step ∷ drop (k + 1) (take (k + 1) acts)) (empty : is_empty step.lits ≡ true)
-    (valid : AreValid (variables_of question) (map Some question) (take (k + 1) acts)) (used : AreUsed flags (length question) (take (k + 1) acts))
-    (last : get_or flags (length question + step_count (take (k + 1) acts)) false ≡ true) (d : IsDraft question flags (take k (take (k + 1) acts)) numbers made) where
-  within : k < length (take (k + 1) acts)
-  within = rw (length-take-le (k + 1) acts (omega arith)) (omega arith)
-
-  split : take (k + 1) acts ≡ take k (take (k + 1) acts) ++ Add step ∷ []
-  split = sym (take_all (k + 1) (take (k + 1) acts) (omega (arith, length-take-le (k + 1) acts (omega arith)))) ∙ step_count-take (take (k + 1) acts) k (Add step) within here
-
-  next_used : is_next_used (length question) flags numbers ≡ true
-  next_used =
-      let n : length question + length numbers + 1 ≡ length question + step_count (take (k + 1) acts) =
-      omega (arith, d.counted, ap step_count split, step_count-append (take k (take (k + 1) acts)) (Add step ∷ [])) in
-      ap (λ x. get_or flags x false) n ∙ last
-
-  step_valid : fault_of (variables_of question) (full (map Some question) (take k (take (k + 1) acts))) step ≡ None
-  step_valid = (valid_at (take (k + 1) acts) k (variables_of question) (map Some question) (Add step) within here valid).0
-
-  hints_up : are_up flags step.hints ≡ true
-  hints_up =
-      (used_at (take (k + 1) acts) k (length question) flags (Add step) within here used).0
-      (ap (λ n. get_or flags (length question + n + 1) false) (sym d.counted) ∙ next_used)
-
-  kept_last : with_kept (length question) flags numbers made (Add step) ≡ made ++ Add (renumbered (length question) numbers step) ∷ []
-  kept_last = ap (λ b. if b then made ++ Add (renumbered (length question) numbers step) ∷ [] else made) next_used
-
-  done : IsTrimmed question acts (made ++ Add (renumbered (length question) numbers step) ∷ [])
-  done =
-      let kept = draft_keep question flags (take k (take (k + 1) acts)) made numbers step d step_valid hints_up in
-      let reached = kept_reached question flags (take k (take (k + 1) acts)) made numbers step d step_valid hints_up in
-      record {
-        closed = subst (λ o. IsSomeAnd o (λ after. IsTrue after.closed)) (sym reached) (or_second d.closed (is_empty step.lits) empty);
-        part = subst (IsPart (shown (map Some question) (made ++ Add (renumbered (length question) numbers step) ∷ [])))
-            (sym (ap (shown (map Some question)) (sym (take-append-drop (k + 1) acts)) ∙ shown-append (take (k + 1) acts) (drop (k + 1) acts) (map Some question)))
-            (IsPart-more (shown (map Some question) (made ++ Add (renumbered (length question) numbers step) ∷ [])) (shown (map Some question) (take (k + 1) acts))
-            (shown (full (map Some question) (take (k + 1) acts)) (drop (k + 1) acts))
-            (subst (λ x. IsPart (shown (map Some question) (made ++ Add (renumbered (length question) numbers step) ∷ [])) (shown (map Some question) x)) (sym split) kept.part));
-        last = EndsEmpty-last made (Add (renumbered (length question) numbers step)) (no_literals step.lits empty);
-      }
-
-  pub trimmed_last : (after : List Act) → after ≡ with_kept (length question) flags numbers made (Add step) → IsTrimmed question acts after
-  trimmed_last after e = subst (IsTrimmed question acts) (sym (e ∙ kept_last)) done
-
--- the act at the first place of an empty clause
-empty_act : (act : Act) → adds_empty act ≡ true → (step : Step) × (act ≡ Add step) × (is_empty step.lits ≡ true)
-empty_act (Add step) e = (step, refl, e)
-empty_act (Remove ns) e = cc
-
-first_place : (b : Bool) (acts : List Act) → b || list_any adds_empty acts ≡ true → (list_any adds_empty acts ≡ true → position_or_len adds_empty acts < length acts) →
-    cond (not b) (1 + position_or_len adds_empty acts) 0 < suc (length acts)
-first_place true acts e down = omega arith
-first_place false acts e down = let r = down e in omega (arith, r)
-
-pub any_place : (acts : List Act) → list_any adds_empty acts ≡ true → position_or_len adds_empty acts < length acts
-any_place [] e = cc
-any_place (act ∷ acts) e = first_place (adds_empty act) acts e (any_place acts)
-
-pub trimmed_end : (question : List (List ℤ)) (flags : List Bool) (acts made after : List Act) (numbers : List ℕ) (k : ℕ) (act : Act) → k < length acts →
-    drop k (take (k + 1) acts) ≡ act ∷ drop (k + 1) (take (k + 1) acts) → adds_empty act ≡ true →
-    AreValid (variables_of question) (map Some question) (take (k + 1) acts) → AreUsed flags (length question) (take (k + 1) acts) →
-    get_or flags (length question + step_count (take (k + 1) acts)) false ≡ true → IsDraft question flags (take k (take (k + 1) acts)) numbers made →
-    after ≡ with_kept (length question) flags numbers made act → IsTrimmed question acts after
-trimmed_end question flags acts made after numbers k act lt here empty valid used last d made_is =
-    let p = empty_act act empty in
-    trimmed_last question flags acts made numbers k p.0 lt (here ∙ ap (λ a. a ∷ drop (k + 1) (take (k + 1) acts)) p.1) p.2 valid used last d after
-    (made_is ∙ ap (with_kept (length question) flags numbers made) p.1)
 
 -- the front of a log
 pub valid_take : (k variables : ℕ) (acts : List Act) (all : List (Option (List ℤ))) → AreValid variables all acts → AreValid variables all (take k acts)

@@ -13,3 +13,5 @@ pub mod UseLemmas
 pub mod GivenLemmas
 pub mod DraftLemmas
 pub mod ReplayLemmas
+pub mod NamedLemmas
+pub mod TrimLemmas

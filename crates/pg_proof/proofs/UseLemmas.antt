@@ -1,11 +1,15 @@
 -- Which clauses are used, found backward.
-use Rattle.std.proofs.Common.{◌≡◌, ◌≢◌, ℕ, zero, suc, ◌+◌, ◌-◌, ◌<◌, ◌≤◌, Bool, true, false, ◌&&◌, eqb, List, [], ◌∷◌, ◌++◌, length, get_or, take, drop, set, replicate, refl, sym, ap, subst, ◌∙◌, arith}
+use Rattle.std.proofs.Common.{◌≡◌, ◌≢◌, ℕ, zero, suc, ◌+◌, ◌-◌, ◌<◌, ◌≤◌, Bool, true, false, ◌&&◌, eqb, List, [], ◌∷◌, ◌++◌, length, get_or, take, drop, set, replicate, refl, sym, ap, subst, ◌∙◌, arith, ◌⊎◌, ◌||◌, inl, inr, ⊎_elim}
 use Rattle.std.proofs.lemmas.List.{length-set, length-replicate, take-append-drop, get_or-set_same, get_or-set_other, drop_more, take_more, take_all, drop_all}
+use Rattle.std.proofs.lemmas.Bool.{false≢true}
+use Rattle.std.proofs.lemmas.Bool.Decides.{nat_tests}
+use Rattle.pg_proof.proofs.MarkedLemmas.{none_up}
 use Rattle.pg_proof.proofs.WithinLemmas.{both}
 use Rattle.pg_proof.specs.declared.step.Step.{Step}
 use Rattle.pg_proof.specs.declared.step.Act.{Act}
 use Rattle.pg_proof.specs.declared.step.Act.TheVariants.{Add, Remove}
-use Rattle.pg_proof.specs.Numbering.{step_count, raised, raised_if, are_up, AreUsed, AreAtMost, AreEarlier}
+use Rattle.pg_proof.specs.Numbering.{raised, raised_if, are_up, AreUsed, AreAtMost, AreEarlier, AreNeeded, is_used_hint}
+use Rattle.pg_proof.specs.Trimmed.{step_count, has_hint}
 
 both_up : (a b : Bool) → a ≡ true → b ≡ true → a && b ≡ true
 both_up true b e f = f
@@ -72,6 +76,71 @@ same_places : (b : Bool) (flags : List Bool) (hints : List ℕ) → length (rais
 same_places true flags hints = length-raised hints flags
 same_places false flags hints = refl
 
+pub or_first : (b c : Bool) → b ≡ true → b || c ≡ true
+or_first true c e = refl
+or_first false c e = cc
+
+pub or_later : (b c : Bool) → c ≡ true → b || c ≡ true
+or_later true c e = refl
+or_later false c e = e
+
+-- a flag that is up was up, or is one of those that were put up
+set_from : (flags : List Bool) (p q : ℕ) → get_or (set flags p true) q false ≡ true → (get_or flags q false ≡ true) ⊎ (p ≡ q)
+set_from [] p q h = inl h
+set_from (f ∷ flags) zero zero h = inr refl
+set_from (f ∷ flags) zero (suc q) h = inl h
+set_from (f ∷ flags) (suc p) zero h = inl h
+set_from (f ∷ flags) (suc p) (suc q) h = ⊎_elim (λ k. inl k) (λ e. inr (ap suc e)) (set_from flags p q h)
+
+same_eq : (a b : ℕ) → a ≡ b → eqb a b ≡ true
+same_eq a b e = grind (arith, nat_tests)
+
+raised_from : (ps : List ℕ) (flags : List Bool) (q : ℕ) → get_or (raised flags ps) q false ≡ true → (get_or flags q false ≡ true) ⊎ (has_hint ps q ≡ true)
+raised_from [] flags q h = inl h
+raised_from (p ∷ ps) flags q h =
+    ⊎_elim
+    (λ k. ⊎_elim (λ m. inl m) (λ e. inr (or_first (eqb p q) (has_hint ps q) (same_eq p q e))) (set_from flags p q k))
+    (λ k. inr (or_later (eqb p q) (has_hint ps q) k))
+    (raised_from ps (set flags p true) q h)
+
+raised_if_from : (b : Bool) (flags : List Bool) (hints : List ℕ) (q : ℕ) → get_or (raised_if b flags hints) q false ≡ true →
+    (get_or flags q false ≡ true) ⊎ ((b ≡ true) × (has_hint hints q ≡ true))
+raised_if_from true flags hints q h = ⊎_elim (λ k. inl k) (λ k. inr (refl, k)) (raised_from hints flags q h)
+raised_if_from false flags hints q h = inl h
+
+and_up : (a b : Bool) → a ≡ true → b ≡ true → a && b ≡ true
+and_up true b e f = f
+and_up false b e f = cc
+
+more_hints : (a b c d e : Bool) → (a ≡ true → b ≡ true) → (d ≡ true → e ≡ true) → (a && c) || d ≡ true → (b && c) || e ≡ true
+more_hints true b true d e f g h = or_first (b && true) e (and_up b true (f refl) refl)
+more_hints true b false d e f g h = or_later (b && false) e (g h)
+more_hints false b c d e f g h = or_later (b && c) e (g h)
+
+is_used_hint-more : (acts : List Act) (flags after : List Bool) (h n : ℕ) → ((q : ℕ) → get_or flags q false ≡ true → get_or after q false ≡ true) →
+    is_used_hint flags h n acts ≡ true → is_used_hint after h n acts ≡ true
+is_used_hint-more [] flags after h n up u = u
+is_used_hint-more (Add step ∷ acts) flags after h n up u =
+    more_hints (get_or flags (n + 1) false) (get_or after (n + 1) false) (has_hint step.hints h) (is_used_hint flags h (n + 1) acts) (is_used_hint after h (n + 1) acts)
+    (up (n + 1)) (is_used_hint-more acts flags after h (n + 1) up) u
+is_used_hint-more (Remove numbers ∷ acts) flags after h n up u = is_used_hint-more acts flags after h n up u
+
+AreNeeded-add : (b : Bool) (flags : List Bool) (last n : ℕ) (step : Step) (rest : List Act) → get_or flags (n + 1) false ≡ b → AreNeeded flags last (n + 1) rest →
+    AreNeeded (raised_if b flags step.hints) last n (Add step ∷ rest)
+AreNeeded-add b flags last n step rest e needed h up =
+    ⊎_elim
+    (λ k. ⊎_elim (λ m. inl m)
+    (λ u. inr (or_later (get_or (raised_if b flags step.hints) (n + 1) false && has_hint step.hints h) (is_used_hint (raised_if b flags step.hints) h (n + 1) rest)
+    (is_used_hint-more rest flags (raised_if b flags step.hints) h (n + 1) (kept b flags step.hints) u)))
+    (needed h k))
+    (λ k. inr (or_first (get_or (raised_if b flags step.hints) (n + 1) false && has_hint step.hints h) (is_used_hint (raised_if b flags step.hints) h (n + 1) rest)
+    (and_up (get_or (raised_if b flags step.hints) (n + 1) false) (has_hint step.hints h) (kept b flags step.hints (n + 1) (e ∙ k.0)) k.1)))
+    (raised_if_from b flags step.hints h up)
+
+AreNeeded-begun : (m last : ℕ) (acts : List Act) → AreNeeded (set (replicate m false) last true) last last acts
+AreNeeded-begun m last acts h up =
+    ⊎_elim (λ k. absurd (false≢true (sym (none_up m h) ∙ k))) (λ e. inl (sym e)) (set_from (replicate m false) last h up)
+
 -- what the loop keeps
 pub record AreFlagged (question : ℕ) (acts : List Act) (flags : List Bool) (number left : ℕ) : Type 0 where
   pub used : AreUsed flags number (drop left acts)
@@ -79,6 +148,7 @@ pub record AreFlagged (question : ℕ) (acts : List Act) (flags : List Bool) (nu
   pub within : left ≤ length acts
   pub last : get_or flags (question + step_count acts) false ≡ true
   pub places : length flags ≡ question + step_count acts + 1
+  pub needed : AreNeeded flags (question + step_count acts) number (drop left acts)
 
 pub step_count-append : (front bs : List Act) → step_count (front ++ bs) ≡ step_count front + step_count bs
 step_count-append [] bs = omega arith
@@ -136,6 +206,9 @@ AreFlagged-add question acts flags after number left k step l d early made h =
         within = omega (arith, lt);
         last = ap (λ fs. get_or fs (question + step_count acts) false) made ∙ kept (get_or flags number false) flags step.hints (question + step_count acts) h.last;
         places = ap length made ∙ same_places (get_or flags number false) flags step.hints ∙ h.places;
+        needed = subst (λ x. x) (λ i. AreNeeded (sym same i) (question + step_count acts) (less i) (sym d i))
+            (AreNeeded-add (get_or flags (n + 1) false) flags (question + step_count acts) n step (drop (k + 1) acts) refl
+            (subst (λ x. x) (λ i. AreNeeded flags (question + step_count acts) (counted i) (drop (l i) acts)) h.needed));
       },
     )
 
@@ -152,6 +225,7 @@ AreFlagged-remove question acts flags number left k gone l d h =
       within = omega (arith, lt);
       last = h.last;
       places = h.places;
+      needed = subst (AreNeeded flags (question + step_count acts) number) (sym d) (subst (λ x. AreNeeded flags (question + step_count acts) number (drop x acts)) l h.needed);
     }
 
 pub AreFlagged-begun : (question : ℕ) (acts : List Act) (flags : List Bool) → flags ≡ set (replicate (question + step_count acts + 1) false) (question + step_count acts) true →
@@ -165,7 +239,13 @@ AreFlagged-begun question acts flags made =
       within = omega arith;
       last = ap (λ fs. get_or fs n false) made ∙ get_or-set_same (replicate (n + 1) false) n true false room;
       places = ap length made ∙ length-set (replicate (n + 1) false) n true ∙ length-replicate (n + 1) false;
+      needed = subst (λ fs. AreNeeded fs n n (drop (length acts) acts)) (sym made) (AreNeeded-begun (n + 1) n (drop (length acts) acts));
     }
 
 pub AreFlagged-end : (question : ℕ) (acts : List Act) (flags : List Bool) (number : ℕ) → AreFlagged question acts flags number 0 → AreUsed flags question acts
 AreFlagged-end question acts flags number h = let n : number ≡ question = h.counted ∙ omega arith in subst (λ x. AreUsed flags x acts) n h.used
+
+pub AreFlagged-needed : (question : ℕ) (acts : List Act) (flags : List Bool) (number : ℕ) → AreFlagged question acts flags number 0 →
+    AreNeeded flags (question + step_count acts) question acts
+AreFlagged-needed question acts flags number h =
+    let n : number ≡ question = h.counted ∙ omega arith in subst (λ x. AreNeeded flags (question + step_count acts) x acts) n h.needed

@@ -1,17 +1,12 @@
 -- Which clauses are used, and their numbers once the others are left out.
-use Rattle.std.specs.Prelude.{◌≡◌, ℕ, suc, ◌+◌, ◌-◌, ◌≤◌, ⊤, Bool, true, false, nat_le, if◌then◌else◌, ◌++◌, map, length, ℤ, List, [], ◌∷◌, Option, None, Some, slice_index_or, slice_set}
+use Rattle.std.specs.Prelude.{◌≡◌, ℕ, ◌+◌, ◌-◌, ◌≤◌, ⊤, Bool, true, false, nat_le, if◌then◌else◌, ◌++◌, map, length, ℤ, List, [], ◌∷◌, Option, None, Some, slice_index_or, slice_set, ◌&&◌, ◌||◌, ◌⊎◌}
 use Rattle.std.specs.List.{list_all}
 use Rattle.pg_proof.specs.declared.step.Step.{Step}
 use Rattle.pg_proof.specs.declared.step.Act.{Act}
 use Rattle.pg_proof.specs.declared.step.Act.TheVariants.{Add, Remove}
 use Rattle.pg_proof.specs.State.{is_empty}
+use Rattle.pg_proof.specs.Trimmed.{has_hint}
 use Rattle.pg_proof.specs.Refutation.{fault_of}
-
--- how many steps there are among acts
-abbrev pub step_count : List Act → ℕ
-step_count [] = 0
-step_count (Add step ∷ acts) = suc (step_count acts)
-step_count (Remove numbers ∷ acts) = step_count acts
 
 -- whether an act adds the empty clause
 abbrev pub adds_empty : Act → Bool
@@ -35,6 +30,16 @@ abbrev pub AreUsed : List Bool → ℕ → List Act → Type 0
 AreUsed flags n [] = ⊤
 AreUsed flags n (Add step ∷ acts) = (slice_index_or flags (n + 1) false ≡ true → are_up flags step.hints ≡ true) × AreUsed flags (n + 1) acts
 AreUsed flags n (Remove numbers ∷ acts) = AreUsed flags n acts
+
+-- whether a clause is a hint of a step that is used, of acts after so many clauses
+abbrev pub is_used_hint : List Bool → ℕ → ℕ → List Act → Bool
+is_used_hint flags h n [] = false
+is_used_hint flags h n (Add step ∷ acts) = (slice_index_or flags (n + 1) false && has_hint step.hints h) || is_used_hint flags h (n + 1) acts
+is_used_hint flags h n (Remove numbers ∷ acts) = is_used_hint flags h n acts
+
+-- what is flagged is the last step's clause, or a hint of a step that is used
+abbrev pub AreNeeded : List Bool → ℕ → ℕ → List Act → Type 0
+AreNeeded flags last n acts = (h : ℕ) → slice_index_or flags h false ≡ true → (h ≡ last) ⊎ (is_used_hint flags h n acts ≡ true)
 
 -- each hint is the number of an earlier clause
 abbrev pub AreAtMost : ℕ → List ℕ → Type 0

@@ -9,9 +9,9 @@ ghost use Rattle.std.specs.List.{list_any, position_or_len};
 ghost use Rattle.pg_proof.specs.declared.step.Act.{Act};
 ghost use Rattle.pg_proof.specs.State.{variables_of};
 ghost use Rattle.pg_proof.specs.Log.{IsClosedLog};
-ghost use Rattle.pg_proof.specs.Trimmed.{IsTrimmed};
+ghost use Rattle.pg_proof.specs.Trimmed.{IsTrimmed, step_count};
 ghost use Rattle.pg_proof.specs.Drafts.{AreKept};
-ghost use Rattle.pg_proof.specs.Numbering.{step_count, adds_empty, raised, raised_if, new_number, AreUsed, AreEarlier, AreValid, renumbered, with_kept, with_number};
+ghost use Rattle.pg_proof.specs.Numbering.{adds_empty, raised, raised_if, new_number, AreUsed, AreEarlier, AreNeeded, AreValid, renumbered, with_kept, with_number};
 
 use crate::checker::closes;
 use crate::marks::Marks;
@@ -144,6 +144,7 @@ fn used_clauses(alloc: Global, question: usize, acts: &[Act]) -> Result<Marks, A
     requires few { question + length acts.now + 1 < 2 ^ 32 }
     requires earlier { AreEarlier question acts.now }
     ensures used { IfOk result (λ flags. AreUsed flags question acts.now) }
+    ensures needed { IfOk result (λ flags. AreNeeded flags (question + step_count acts.now) question acts.now) }
     ensures last { IfOk result (λ flags. slice_index_or flags (question + step_count acts.now) false ≡ true) }
 {
     let mut number = question + step_count(acts);
@@ -220,7 +221,9 @@ fn kept_before(
     requires within { end < length log.now }
     requires few { length cnf.now.clauses + length log.now + 1 < 2 ^ 32 }
     requires valid { AreValid (variables_of cnf.now.clauses) (map Some cnf.now.clauses) log.now }
+    requires earlier { AreEarlier (length cnf.now.clauses) log.now }
     requires used { AreUsed used.now (length cnf.now.clauses) log.now }
+    requires needed { AreNeeded used.now (length cnf.now.clauses + step_count log.now) (length cnf.now.clauses) log.now }
     ensures { IfOk result (λ draft. AreKept cnf.now.clauses used.now log.now draft.numbers.items draft.made.items end) }
 {
     let question = cnf.clauses.len();
@@ -232,9 +235,10 @@ fn kept_before(
     Ok(Draft { made, numbers })
 }
 
-/// The log of a closed log with the steps left out that its empty clause is not made of, up to their hints' numbers: each
-/// step that is kept has the same literals, and its hints name the same clauses. Nothing is taken away in it, and its last
-/// act adds the empty clause. It is a closed log of this question too. The error is want of memory.
+/// A closed log without the steps that its empty clause is not made of. Each step that is kept has the same literals, and its
+/// hints name the same clauses under the numbers that are left. The last act adds the empty clause, and each other step is a
+/// hint of a later one. Nothing is taken away in it, and it is a closed log of this question too. The error is want of
+/// memory.
 ///
 /// It costs the length of the log.
 pub fn trim(alloc: Global, cnf: &Cnf, acts: &[Act]) -> Result<ActList, AllocError>

@@ -1,6 +1,6 @@
 use Rattle.std.proofs.lemmas.List.Sums.{passes_at_first}
 use Rattle.pg_proof.specs.Numbering.{adds_empty}
-use Rattle.pg_proof.proofs.DraftLemmas.{any_place}
+use Rattle.pg_proof.proofs.TrimLemmas.{any_place}
 use Rattle.pg_proof.proofs.trimming.end_of.Goals as goal
 
 pub returns-clause-within : goal.returns-clause-within

@@ -1,5 +1,5 @@
 use Rattle.std.proofs.Common.{◌≡◌, ◌+◌, ◌≤◌, drop}
-use Rattle.pg_proof.specs.Numbering.{step_count}
+use Rattle.pg_proof.specs.Trimmed.{step_count}
 use Rattle.pg_proof.proofs.trimming.step_count.Given as goal
 
 abbrev pub invariant-loop-act : goal.invariant-loop-act

@@ -1,10 +1,11 @@
 use Rattle.std.proofs.Common.{◌≡◌, ◌+◌, ◌<◌, ◌∷◌, true, false, length, get_or, map, Some, drop, take, subst, sym, ap, ◌∙◌, arith}
 use Rattle.std.proofs.lemmas.List.{drop_more, length-take-le, get_or-take}
 use Rattle.pg_proof.specs.State.{variables_of}
-use Rattle.pg_proof.specs.Numbering.{step_count, adds_empty, with_kept, AreUsed}
-use Rattle.pg_proof.specs.Trimmed.{IsTrimmed}
+use Rattle.pg_proof.specs.Numbering.{adds_empty, with_kept, AreUsed, AreNeeded}
+use Rattle.pg_proof.specs.Trimmed.{IsTrimmed, step_count}
 use Rattle.pg_proof.proofs.GivenLemmas.{given_log}
-use Rattle.pg_proof.proofs.DraftLemmas.{valid_take, earlier_take, trimmed_end}
+use Rattle.pg_proof.proofs.DraftLemmas.{valid_take, earlier_take}
+use Rattle.pg_proof.proofs.TrimLemmas.{trimmed_end}
 use Rattle.pg_proof.proofs.trimming.trim.Goals as goal
 
 pub end_of-end-requires : goal.end_of-end-requires
@@ -20,6 +21,10 @@ kept_before-requires-clause-valid c =
     valid_take (c.end_of-end.result + 1) (variables_of c.args.cnf.now.clauses) c.args.acts.now (map Some c.args.cnf.now.clauses)
     (given_log c.args.cnf.now.clauses c.args.acts.now c.requires.closed).valid
 
+pub kept_before-requires-clause-earlier : goal.kept_before-requires-clause-earlier
+kept_before-requires-clause-earlier c =
+    earlier_take (c.end_of-end.result + 1) (length c.args.cnf.now.clauses) c.args.acts.now (given_log c.args.cnf.now.clauses c.args.acts.now c.requires.closed).earlier
+
 pub returns : goal.returns
 returns c =
     let question = c.args.cnf.now.clauses in let acts = c.args.acts.now in let k = c.end_of-end.result in let act = c.index-log-end.result in
@@ -34,5 +39,7 @@ returns c =
     (valid_take (k + 1) (variables_of question) acts (map Some question) given.valid)
     (subst (λ n. AreUsed flags n (take (k + 1) acts)) c.len-question.ensures c.in_ok-used.ensures.used)
     (ap (λ n. get_or flags (n + step_count (take (k + 1) acts)) false) (sym c.len-question.ensures) ∙ c.in_ok-used.ensures.last)
-    c.in_ok-made.ensures.draft
+    (earlier_take (k + 1) (length question) acts given.earlier)
+    (subst (λ n. AreNeeded flags (n + step_count (take (k + 1) acts)) n (take (k + 1) acts)) c.len-question.ensures c.in_ok-used.ensures.needed)
+    c.in_ok-made.ensures
     (c.in_ok-keep.ensures.made ∙ ap (λ q. with_kept q flags numbers made act) c.len-question.ensures))
