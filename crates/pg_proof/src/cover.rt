@@ -22,8 +22,7 @@ pub fn no_lists(alloc: Global, places: usize) -> Result<Vec<HintList>, AllocErro
     ensures { IfOk result (λ hung. hung.items ≡ replicate places []) }
 {
     let mut hung = Vec::new(alloc);
-    for place in 0..places {
-        let _ = place;
+    for _place in 0..places {
         hung.push(HintList::new(alloc))?;
     }
     Ok(hung)
