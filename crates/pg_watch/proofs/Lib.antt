@@ -4,5 +4,11 @@ pub mod LookLemmas
 pub mod SpanLemmas
 pub mod Steps
 pub mod Passes
+pub mod Removes
+pub mod WalkLemmas
+pub mod VisitLemmas
+pub mod Keeps
+pub mod Moves
+pub mod ListsLemmas
 pub mod Short
 pub mod WatchedLemmas

@@ -5,4 +5,8 @@ pub mod Table
 pub mod Spans
 pub mod Fixes
 pub mod State
+pub mod Lists
+pub mod Watching
+pub mod Visits
+pub mod Walks
 pub mod Watched

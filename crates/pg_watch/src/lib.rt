@@ -5,8 +5,12 @@ mod arena;
 mod assignment;
 mod fix;
 mod fresh;
+mod lists;
+mod index;
 mod look;
 mod settle;
+mod visit;
+mod walk;
 mod watches;
 
 pub use fix::Fix;

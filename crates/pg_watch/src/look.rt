@@ -3,7 +3,8 @@
 //! A clause with a literal that is true, or with two that are unset, is open: nothing follows from it. Where all but one are
 //! false, that one follows; where all are, the trail contradicts it.
 
-ghost use Rattle.std.specs.Prelude.{◌≡◌, None};
+ghost use Rattle.std.specs.Prelude.{◌≡◌, ◌≢◌, None, Some, false, IfNone, IfSome, Contains};
+ghost use Rattle.pg_watch.specs.Trail.{value_of, AreFalseBut};
 ghost use Rattle.pg_cnf.specs.Literals.{IsClause, AreLiterals};
 ghost use Rattle.pg_watch.specs.Looks.{IsSeen, look_from};
 
@@ -48,4 +49,25 @@ fn look_through(trail: &Assignment, clause: &[i32]) -> Look
         None => Look::Falsified,
         Some(lit) => Look::Unit(lit),
     }
+}
+
+/// The first literal of a clause that is not false, but for one.
+pub fn open_literal(trail: &Assignment, clause: &[i32], but: i32) -> Option<i32>
+    requires { AreLiterals trail.now.variables clause.now }
+    ensures none { IfNone result (AreFalseBut trail.now.literals but clause.now) }
+    ensures there { IfSome result (λ lit. Contains clause.now lit) }
+    ensures other { IfSome result (λ lit. lit ≢ but) }
+    ensures not_false { IfSome result (λ lit. value_of trail.now.literals lit ≢ Some false) }
+{
+    for &lit in clause {
+        match trail.value(lit) {
+            Some(false) => {}
+            _ => {
+                if lit != but {
+                    return Some(lit);
+                }
+            }
+        }
+    }
+    None
 }
