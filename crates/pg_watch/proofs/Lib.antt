@@ -4,6 +4,7 @@ pub mod LookLemmas
 pub mod SpanLemmas
 pub mod Steps
 pub mod Passes
+pub mod RunLemmas
 pub mod Removes
 pub mod WalkLemmas
 pub mod VisitLemmas
@@ -12,3 +13,5 @@ pub mod Moves
 pub mod ListsLemmas
 pub mod Short
 pub mod WatchedLemmas
+pub mod QuietLemmas
+pub mod TrailLemmas

@@ -33,7 +33,7 @@ AreDerived-push [] r h own = (own, tt)
 AreDerived-push (q ∷ rs) r h own = (h.0, AreDerived-push rs r h.1 own)
 
 -- the first so many are all there
-take-length : {A : Type 0} (xs ys : List A) → take (length xs) ys ≡ xs → length xs ≤ length ys
+pub take-length : {A : Type 0} (xs ys : List A) → take (length xs) ys ≡ xs → length xs ≤ length ys
 take-length [] ys e = omega arith
 take-length (x ∷ xs) [] e = cc
 take-length (x ∷ xs) (y ∷ ys) e = omega (arith, take-length xs ys (let f : y ∷ take (length xs) ys ≡ x ∷ xs = e in cc))

@@ -1,18 +1,26 @@
--- The clauses grow, and the trail stays one.
-use Rattle.std.proofs.Common.{◌≡◌, ℕ, zero, suc, ◌+◌, ◌-◌, ◌<◌, ◌≤◌, ◌^◌, ◌⊎◌, inl, inr, Bool, true, false, ℤ, List, [], ◌∷◌, ◌++◌, length, take, get_or, Option, None, Some, refl, sym, ap, subst, ◌∙◌, arith, length-append}
+-- Clauses, trail and watches go on together.
+use Rattle.std.proofs.Common.{◌≡◌, ◌≢◌, ℕ, zero, suc, ◌+◌, ◌-◌, ◌*◌, ◌<◌, ◌≤◌, ◌^◌, ◌⊎◌, inl, inr, Bool, true, false, ℤ, pos, List, [], ◌∷◌, ◌++◌, length, take, drop, get_or, set, replicate, Option, None, Some, slice_get, refl, sym, ap, subst, ◌∙◌, arith, append_assoc, length-append}
 use Rattle.std.specs.Prelude.{⊤, Contains, Result, Ok, Err, OnOk, OnErr}
 use Rattle.std.specs.declared.alloc.AllocError.{AllocError}
 use Rattle.std.proofs.lemmas.Bool.{cases_lt}
-use Rattle.std.proofs.lemmas.List.{get_or_append_left, take_at}
+use Rattle.std.proofs.lemmas.List.{get_or_append_left, get_or_push, get_or-replicate, take_at, take_all, take-take, length-take-le, take-append-drop, take-append-le}
 use Rattle.std.proofs.lemmas.List.Elements.{Contains-append_left, Contains-push}
-use Rattle.pg_cnf.specs.Literals.{IsClause, AreClauses}
+use Rattle.std.proofs.lemmas.Option.{slice_get_within}
+use Rattle.pg_cnf.specs.Literals.{IsLiteral, IsClause, AreClauses}
 use Rattle.pg_cnf.proofs.LiteralLemmas.{AreClauses-push}
-use Rattle.pg_watch.specs.Trail.{cut, pushed, value_of, AreSet, Extends, IsOpen, Trail, HasReason, HaveReasons, IsNumber, IsUnit, clause_at, IsTrail, IsQuiet}
-use Rattle.pg_cnf.specs.Literals.{IsLiteral}
+use Rattle.pg_watch.specs.declared.lists.Watch.{Watch}
+use Rattle.pg_watch.specs.declared.index.Pair.{Pair}
+use Rattle.pg_watch.specs.Trail.{cut, pushed, value_of, AreSet, AreFalse, AreFalseBut, Extends, AreDerived, IsSomeNumber, IsOpen, IsUnit, IsFalsified, Trail, HasReason, HaveReasons, IsReason, IsNumber, clause_at, IsTrail, IsQuiet}
 use Rattle.pg_watch.specs.Fixes.{ArePlaces, AreOpen, Steps}
-use Rattle.pg_watch.proofs.Steps.{length-reasons, IsTrail-push}
+use Rattle.pg_watch.specs.Places.{place_of}
 use Rattle.pg_watch.specs.State.{State}
-use Rattle.pg_watch.specs.Watched.{IsWatched}
+use Rattle.pg_watch.specs.Watching.{no_pair, no_watch, literals_at, pair_at, list_at, entry_at, HasTrue, IsPair, Has, ArePairs, IsEntry, AreEntries, IsListed, IsAttached, Guards, IsGuarded, IsIndex, Keeps}
+use Rattle.pg_watch.specs.Runs.{IsNow, Runs}
+use Rattle.pg_watch.specs.Watched.{IsAssigned, IsKept, IsWatched}
+use Rattle.pg_watch.proofs.Steps.{length-reasons, IsTrail-push, Extends-longer, take-length}
+use Rattle.pg_watch.proofs.Keeps.{take-front, HasTrue-whole, HasTrue-later}
+use Rattle.pg_watch.proofs.Removes.{IsIndex-keeps}
+use Rattle.pg_watch.proofs.RunLemmas.{true_all}
 
 clause_at-more : (cs : List (List ℤ)) (c : List ℤ) (k : ℕ) → IsNumber cs k → clause_at (cs ++ c ∷ []) k ≡ clause_at cs k
 clause_at-more cs c k h = get_or_append_left cs (c ∷ []) [] (k - 1) (omega (arith, h.from_one, h.there))
@@ -43,53 +51,117 @@ ArePlaces-push : (n : ℕ) (ks : List ℕ) (k : ℕ) → ArePlaces n ks → k < 
 ArePlaces-push n [] k h lt = (lt, tt)
 ArePlaces-push n (j ∷ ks) k h lt = (h.0, ArePlaces-push n ks k h.1 lt)
 
-pub one_more : (cs : List (List ℤ)) (t : Trail) (q : Bool) (fresh : List ℕ) (c : List ℤ) → IsWatched cs t q fresh → IsClause t.variables c →
-    length cs + 1 < 2 ^ 32 - 1 → IsWatched (cs ++ c ∷ []) t false (fresh ++ length cs ∷ [])
-one_more cs t q fresh c h clause room = record {
-  clauses_right = AreClauses-push t.variables cs c h.clauses_right clause;
-  few = omega (arith, length-append cs (c ∷ []), room);
-  trail_right = IsTrail-more cs c t h.trail_right;
+AreOpen-at : (cs : List (List ℤ)) (set : List ℤ) (ks : List ℕ) (i d : ℕ) → AreOpen cs set ks → i < length ks → IsOpen set (clause_at cs (get_or ks i d + 1))
+AreOpen-at cs set [] i d h lt = absurd (omega arith)
+AreOpen-at cs set (k ∷ ks) zero d h lt = h.0
+AreOpen-at cs set (k ∷ ks) (suc i) d h lt = AreOpen-at cs set ks i d h.1 (omega arith)
+
+pub AreOpen-contains : (cs : List (List ℤ)) (set : List ℤ) (ks : List ℕ) (k : ℕ) → AreOpen cs set ks → Contains ks k → IsOpen set (get_or cs k [])
+AreOpen-contains cs set ks k h there =
+    let e : get_or ks there.0 k + 1 - 1 ≡ k = omega (arith, there.2) in
+    subst (λ (i : ℕ). IsOpen set (get_or cs i [])) e (AreOpen-at cs set ks there.0 k h there.1)
+
+pub IsQuiet-each : (cs : List (List ℤ)) (set : List ℤ) → ((k : ℕ) → k < length cs → IsOpen set (get_or cs k [])) → IsQuiet cs set
+IsQuiet-each [] set h = tt
+IsQuiet-each (c ∷ cs) set h = (h 0 (omega arith), IsQuiet-each cs set (λ k lt. h (suc k) (omega arith)))
+
+-- a clause more
+literals_at-more : (cs : List (List ℤ)) (c : List ℤ) (k : ℕ) → k < length cs → literals_at (cs ++ c ∷ []) k ≡ literals_at cs k
+literals_at-more cs c k lt = get_or_append_left cs (c ∷ []) [] k lt
+
+pair_at-more : (ps : List Pair) (p : Pair) (k : ℕ) → k < length ps → pair_at (ps ++ p ∷ []) k ≡ pair_at ps k
+pair_at-more ps p k lt = get_or_append_left ps (p ∷ []) no_pair k lt
+
+module _ (cs : List (List ℤ)) (t : Trail) (ls : List (List Watch)) (ps : List Pair) (c : List ℤ) (h : IsIndex cs t ls ps) where
+  entry-more : (w : Watch) → IsEntry cs w → IsEntry (cs ++ c ∷ []) w
+  entry-more w e = record {
+    clause = omega (arith, e.clause, length-append cs (c ∷ []));
+    blocker = subst (λ (xs : List ℤ). Contains xs w.blocker) (sym (literals_at-more cs c w.clause e.clause)) e.blocker;
+  }
+
+  pair_same : (k : ℕ) → k < length cs → pair_at (ps ++ no_pair ∷ []) k ≡ pair_at ps k
+  pair_same k lt = pair_at-more ps no_pair k (omega (arith, h.pairs_long))
+
+  none_has : (w : ℤ) → w ≢ pos 0 → Has no_pair w → ⊥
+  none_has w d (inl e) = d (sym e)
+  none_has w d (inr e) = d (sym e)
+
+  pairs-cases : (k : ℕ) → k < length cs + 1 → (k < length cs) ⊎ (length cs ≤ k) → (w : ℤ) → w ≢ pos 0 → Has (pair_at (ps ++ no_pair ∷ []) k) w →
+      IsPair (literals_at (cs ++ c ∷ []) k) (pair_at (ps ++ no_pair ∷ []) k)
+  pairs-cases k all (inl lt) w d has =
+      let old = h.pairs k lt w d (subst (λ (p : Pair). Has p w) (pair_same k lt) has) in
+      subst (λ (p : Pair). IsPair (literals_at (cs ++ c ∷ []) k) p) (sym (pair_same k lt))
+      (subst (λ (xs : List ℤ). IsPair xs (pair_at ps k)) (sym (literals_at-more cs c k lt)) old)
+  pairs-cases k all (inr le) w d has =
+      let e : length ps ≡ k = omega (arith, h.pairs_long) in
+      absurd (none_has w d (subst (λ (p : Pair). Has p w) (get_or_push ps no_pair no_pair k e) has))
+
+  index-more : IsClause t.variables c → length cs + 1 < 2 ^ 32 - 1 → IsIndex (cs ++ c ∷ []) t ls (ps ++ no_pair ∷ [])
+  index-more clause room = record {
+    right = AreClauses-push t.variables cs c h.right clause;
+    few = omega (arith, length-append cs (c ∷ []), room);
+    trail = IsTrail-more cs c t h.trail;
+    lists_long = h.lists_long;
+    pairs_long = omega (arith, length-append cs (c ∷ []), length-append ps (no_pair ∷ []), h.pairs_long);
+    entries = λ at j lt. entry-more (entry_at ls at j) (h.entries at j lt);
+    pairs = λ k lt. pairs-cases k (omega (arith, lt, length-append cs (c ∷ []))) (cases_lt k (length cs));
+  }
+
+  guarded-more : (a n k : ℕ) → k < length cs → IsGuarded cs t.literals ps a n k → IsGuarded (cs ++ c ∷ []) t.literals (ps ++ no_pair ∷ []) a n k
+  guarded-more a n k lt g =
+      subst (λ (p : Pair). Guards t.literals a n (literals_at (cs ++ c ∷ []) k) p.first × Guards t.literals a n (literals_at (cs ++ c ∷ []) k) p.second) (sym (pair_same k lt))
+      (subst (λ (xs : List ℤ). Guards t.literals a n xs (pair_at ps k).first × Guards t.literals a n xs (pair_at ps k).second) (sym (literals_at-more cs c k lt)) g)
+
+  kept-more : (head k : ℕ) → k < length cs → IsKept cs t ls ps head k → IsKept (cs ++ c ∷ []) t ls (ps ++ no_pair ∷ []) head k
+  kept-more head k lt e = record {
+    attached = record {
+      pair = subst (λ (p : Pair). IsPair (literals_at (cs ++ c ∷ []) k) p) (sym (pair_same k lt))
+          (subst (λ (xs : List ℤ). IsPair xs (pair_at ps k)) (sym (literals_at-more cs c k lt)) e.attached.pair);
+      first = subst (λ (p : Pair). IsListed ls (place_of p.first) k) (sym (pair_same k lt)) e.attached.first;
+      second = subst (λ (p : Pair). IsListed ls (place_of p.second) k) (sym (pair_same k lt)) e.attached.second;
+    };
+    now = guarded-more head (length t.literals) k lt e.now;
+    below = λ d is. guarded-more d d k lt (e.below d is);
+  }
+
+pub one_more : (cs : List (List ℤ)) (t : Trail) (q : Bool) (fresh : List ℕ) (ls : List (List Watch)) (ps : List Pair) (head : ℕ) (c : List ℤ) →
+    IsWatched cs t q fresh ls ps head → IsClause t.variables c → length cs + 1 < 2 ^ 32 - 1 →
+    IsWatched (cs ++ c ∷ []) t false (fresh ++ length cs ∷ []) ls (ps ++ no_pair ∷ []) head
+one_more cs t q fresh ls ps head c h clause room = record {
+  index = index-more cs t ls ps c h.index clause room;
   quiet_right = λ e. cc;
+  quiet_head = λ e. cc;
   places = ArePlaces-push (length (cs ++ c ∷ [])) fresh (length cs)
       (ArePlaces-more (length cs) (length (cs ++ c ∷ [])) fresh (omega (arith, length-append cs (c ∷ []))) h.places)
       (omega (arith, length-append cs (c ∷ [])));
-  all = λ k lt. all_more k lt;
+  within = h.within;
+  assigned = h.assigned;
+  kept = λ k lt. kept_all k (omega (arith, lt, length-append cs (c ∷ []))) (cases_lt k (length cs));
 }
   where
-    all_cases : (k : ℕ) → k < length cs + 1 → (k < length cs) ⊎ (length cs ≤ k) → Contains (fresh ++ length cs ∷ []) k
-    all_cases k in_all (inl lt) = Contains-append_left fresh (length cs ∷ []) k (h.all k lt)
-    all_cases k in_all (inr le) =
+    kept_old : (k : ℕ) → k < length cs → Contains fresh k ⊎ IsKept cs t ls ps head k →
+        Contains (fresh ++ length cs ∷ []) k ⊎ IsKept (cs ++ c ∷ []) t ls (ps ++ no_pair ∷ []) head k
+    kept_old k lt (inl e) = inl (Contains-append_left fresh (length cs ∷ []) k e)
+    kept_old k lt (inr e) = inr (kept-more cs t ls ps c h.index head k lt e)
+    kept_all : (k : ℕ) → k < length cs + 1 → (k < length cs) ⊎ (length cs ≤ k) →
+        Contains (fresh ++ length cs ∷ []) k ⊎ IsKept (cs ++ c ∷ []) t ls (ps ++ no_pair ∷ []) head k
+    kept_all k all (inl lt) = kept_old k lt (h.kept k lt)
+    kept_all k all (inr le) =
         let e : length cs ≡ k = omega arith in
-        subst (Contains (fresh ++ length cs ∷ [])) e (Contains-push fresh (length cs))
+        inl (subst (Contains (fresh ++ length cs ∷ [])) e (Contains-push fresh (length cs)))
 
-    all_more : (k : ℕ) → k < length (cs ++ c ∷ []) → Contains (fresh ++ length cs ∷ []) k
-    all_more k lt = all_cases k (omega (arith, lt, length-append cs (c ∷ []))) (cases_lt k (length cs))
-
-pub not_quiet : (cs : List (List ℤ)) (t : Trail) (q : Bool) (fresh : List ℕ) → IsWatched cs t q fresh → IsWatched cs t false fresh
-not_quiet cs t q fresh h = record {
-  clauses_right = h.clauses_right;
-  few = h.few;
-  trail_right = h.trail_right;
+pub not_quiet : (cs : List (List ℤ)) (t : Trail) (q : Bool) (fresh : List ℕ) (ls : List (List Watch)) (ps : List Pair) (head : ℕ) →
+    IsWatched cs t q fresh ls ps head → IsWatched cs t false fresh ls ps head
+not_quiet cs t q fresh ls ps head h = record {
+  index = h.index;
   quiet_right = λ e. cc;
+  quiet_head = λ e. cc;
   places = h.places;
-  all = h.all;
+  within = h.within;
+  assigned = h.assigned;
+  kept = h.kept;
 }
 
-pub one_more_alone : (cs ds : List (List ℤ)) (t : Trail) (q : Bool) (fresh more : List ℕ) (c : List ℤ) (k : ℕ) (s : State) → IsWatched cs t q fresh →
-    (let inside : State = record { clauses = cs; trail = t; quiet = q } in inside ≡ s) → IsClause s.trail.variables c → length s.clauses + 1 < 2 ^ 32 - 1 → ds ≡ cs ++ c ∷ [] → more ≡ fresh ++ k ∷ [] → k ≡ length cs → IsWatched ds t false more
-one_more_alone cs ds t q fresh more c k s h is clause_of_s room_in_s e f long =
-    let clause : IsClause t.variables c = subst (λ (r : State). IsClause r.trail.variables c) (sym is) clause_of_s in
-    let room : length cs + 1 < 2 ^ 32 - 1 = subst (λ (r : State). length r.clauses + 1 < 2 ^ 32 - 1) (sym is) room_in_s in
-    let g : more ≡ fresh ++ length cs ∷ [] = f ∙ ap (λ (i : ℕ). fresh ++ i ∷ []) long in
-    subst (λ (xs : List (List ℤ)). IsWatched xs t false more) (sym e)
-    (subst (λ (ks : List ℕ). IsWatched (cs ++ c ∷ []) t false ks) (sym g) (one_more cs t q fresh c h clause room))
-
-pub none_more : (cs ds : List (List ℤ)) (t : Trail) (q : Bool) (fresh more less : List ℕ) (k n : ℕ) → IsWatched cs t q fresh → ds ≡ cs →
-    more ≡ fresh ++ k ∷ [] → less ≡ take n more → n ≡ length fresh → IsWatched ds t false less
-none_more cs ds t q fresh more less k n h e f g long =
-    let same : less ≡ fresh = g ∙ (λ i. take (long i) (f i)) ∙ take_at fresh (k ∷ []) (length fresh) refl in
-    subst (λ (xs : List (List ℤ)). IsWatched xs t false less) (sym e)
-    (subst (λ (ks : List ℕ). IsWatched cs t false ks) (sym same) (not_quiet cs t q fresh h))
 
 -- back to where it was
 pub cut-extends : (cs : List (List ℤ)) (t u : Trail) (n : ℕ) → IsTrail cs t → Extends t u → n ≡ length t.literals → cut u n ≡ t
@@ -121,69 +193,138 @@ HaveReasons-take cs before (z ∷ zs) [] k h = absurd h
 HaveReasons-take cs before (z ∷ zs) (r ∷ rs) zero h = refl
 HaveReasons-take cs before (z ∷ zs) (r ∷ rs) (suc k) h = (h.0, HaveReasons-take cs (before ++ z ∷ []) zs rs k h.1)
 
-IsTrail-cut : (cs : List (List ℤ)) (t : Trail) (n : ℕ) → IsTrail cs t → IsTrail cs (cut t n)
+pub IsTrail-cut : (cs : List (List ℤ)) (t : Trail) (n : ℕ) → IsTrail cs t → IsTrail cs (cut t n)
 IsTrail-cut cs t n h = record {
   set = AreSet-take t.variables [] t.literals n h.set;
   reasoned = HaveReasons-take cs [] t.literals t.reasons n h.reasoned;
 }
 
+
+-- which places were assigned
+AreDerived-at : (rs : List (Option ℕ)) (d : ℕ) → AreDerived rs → slice_get rs d ≡ Some None → ⊥
+AreDerived-at [] d h e = cc
+AreDerived-at (None ∷ rs) d h e = h.0
+AreDerived-at (Some n ∷ rs) zero h e = cc
+AreDerived-at (Some n ∷ rs) (suc d) h e = AreDerived-at rs d h.1 e
+
+assigned-front : (rs us : List (Option ℕ)) (d : ℕ) → take (length rs) us ≡ rs → AreDerived (drop (length rs) us) → slice_get us d ≡ Some None →
+    slice_get rs d ≡ Some None
+assigned-front [] us d e h is = absurd (AreDerived-at us d h is)
+assigned-front (r ∷ rs) [] d e h is = cc
+assigned-front (r ∷ rs) (u ∷ us) zero e h is = let f : u ∷ take (length rs) us ≡ r ∷ rs = e in cc
+assigned-front (r ∷ rs) (u ∷ us) (suc d) e h is =
+    assigned-front rs us d (let f : u ∷ take (length rs) us ≡ r ∷ rs = e in cc) h is
+
+pub assigned-before : (t u : Trail) (d : ℕ) → Extends t u → IsAssigned u d → IsAssigned t d
+assigned-before t u d h is = assigned-front t.reasons u.reasons d h.reasons h.derived is
+
+pub record Cut (rs : List (Option ℕ)) (n d : ℕ) : Type 0 where
+  pub before : slice_get rs d ≡ Some None
+  pub below : d < n
+
+pub assigned-take : (rs : List (Option ℕ)) (n d : ℕ) → slice_get (take n rs) d ≡ Some None → Cut rs n d
+assigned-take [] zero d is = cc
+assigned-take [] (suc n) d is = cc
+assigned-take (r ∷ rs) zero d is = cc
+assigned-take (r ∷ rs) (suc n) zero is = record { before = is; below = omega arith }
+assigned-take (r ∷ rs) (suc n) (suc d) is =
+    let h = assigned-take rs n d is in record { before = h.before; below = omega (arith, h.below) }
+
+pub assigned-push : (rs : List (Option ℕ)) (r : Option ℕ) (d : ℕ) → slice_get (rs ++ r ∷ []) d ≡ Some None → (slice_get rs d ≡ Some None) ⊎ (d ≡ length rs)
+assigned-push [] r zero is = inr refl
+assigned-push [] r (suc d) is = cc
+assigned-push (q ∷ rs) r zero is = inl is
+assigned-push (q ∷ rs) r (suc d) is = by (assigned-push rs r d is)
+  where
+    by : (slice_get rs d ≡ Some None) ⊎ (d ≡ length rs) → (slice_get (q ∷ rs) (suc d) ≡ Some None) ⊎ (suc d ≡ length (q ∷ rs))
+    by (inl h) = inl h
+    by (inr h) = inr (ap suc h)
+
+pub assigned-within : (cs : List (List ℤ)) (t : Trail) (d : ℕ) → IsTrail cs t → IsAssigned t d → d < length t.literals
+assigned-within cs t d h is =
+    omega (arith, slice_get_within t.reasons d None is, length-reasons cs [] t.literals t.reasons h.reasoned)
+
+-- the same literals before a place
+pub guarded-same : (cs : List (List ℤ)) (xs ys : List ℤ) (ps : List Pair) (a n k : ℕ) → take a xs ≡ take a ys → take n xs ≡ take n ys →
+    IsGuarded cs xs ps a n k → IsGuarded cs ys ps a n k
+guarded-same cs xs ys ps a n k e f g =
+    let first : Guards ys a n (literals_at cs k) (pair_at ps k).first =
+    λ v. subst (λ (zs : List ℤ). HasTrue zs (literals_at cs k)) f (g.0 (ap (λ (zs : List ℤ). value_of zs (pair_at ps k).first) e ∙ v)) in
+    let second : Guards ys a n (literals_at cs k) (pair_at ps k).second =
+    λ v. subst (λ (zs : List ℤ). HasTrue zs (literals_at cs k)) f (g.1 (ap (λ (zs : List ℤ). value_of zs (pair_at ps k).second) e ∙ v)) in
+    (first, second)
+
+-- propagation went on
+module _ (cs : List (List ℤ)) (t u : Trail) (q : Bool) (fresh : List ℕ) (ls ms : List (List Watch)) (ps qs : List Pair) (h i : ℕ)
+  (w : IsWatched cs t q fresh ls ps h) (r : Runs cs t u ls ms ps qs h i) where
+  kept-run : (k : ℕ) → k < length cs → Contains fresh k ⊎ IsKept cs t ls ps h k → Contains fresh k ⊎ IsKept cs u ms qs i k
+  kept-run k lt (inl e) = inl e
+  kept-run k lt (inr e) = inr (record {
+    attached = r.keeps.attached k lt e.attached;
+    now = r.now k lt e.attached e.now;
+    below = λ d is. (
+      let old = assigned-before t u d r.keeps.steps.extends is in
+      let less = assigned-within cs t d w.index.trail old in
+      r.keeps.guarded k d d lt (omega arith) (omega arith) (e.below d old));
+  })
+
+  pub after_run : IsWatched cs u false fresh ms qs i
+  after_run = record {
+    index = IsIndex-keeps cs t u ls ms ps qs w.index r.keeps;
+    quiet_right = λ e. cc;
+    quiet_head = λ e. cc;
+    places = w.places;
+    within = r.within;
+    assigned = λ d is. omega (arith, w.assigned d (assigned-before t u d r.keeps.steps.extends is), r.rises);
+    kept = λ k lt. kept-run k lt (w.kept k lt);
+  }
+
+  -- and the trail goes back to where it was
+  guarded-back : (a n k : ℕ) → k < length cs → a ≤ length t.literals → n ≤ length t.literals → IsGuarded cs t.literals ps a n k → IsGuarded cs t.literals qs a n k
+  guarded-back a n k lt low high g =
+      let e = r.keeps.steps.extends.literals in
+      guarded-same cs u.literals t.literals qs a n k (take-front a t.literals u.literals e low) (take-front n t.literals u.literals e high)
+      (r.keeps.guarded k a n lt low high g)
+
+  kept-back : (k : ℕ) → k < length cs → Contains fresh k ⊎ IsKept cs t ls ps h k → Contains fresh k ⊎ IsKept cs t ms qs h k
+  kept-back k lt (inl e) = inl e
+  kept-back k lt (inr e) = inr (record {
+    attached = r.keeps.attached k lt e.attached;
+    now = guarded-back h (length t.literals) k lt w.within (omega arith) e.now;
+    below = λ d is. (
+      let less = assigned-within cs t d w.index.trail is in
+      guarded-back d d k lt (omega arith) (omega arith) (e.below d is));
+  })
+
+  pub after_back : IsWatched cs t false fresh ms qs h
+  after_back = record {
+    index = record {
+      right = w.index.right;
+      few = w.index.few;
+      trail = w.index.trail;
+      lists_long = r.keeps.lists_long ∙ w.index.lists_long;
+      pairs_long = r.keeps.pairs_long ∙ w.index.pairs_long;
+      entries = r.keeps.entries w.index.entries;
+      pairs = r.keeps.pairs w.index.pairs;
+    };
+    quiet_right = λ e. cc;
+    quiet_head = λ e. cc;
+    places = w.places;
+    within = w.within;
+    assigned = w.assigned;
+    kept = λ k lt. kept-back k lt (w.kept k lt);
+  }
+
 -- another trail over the same variables
-pub another_trail : (cs : List (List ℤ)) (t u : Trail) (q : Bool) (fresh : List ℕ) → IsWatched cs t q fresh → u.variables ≡ t.variables →
-    IsTrail cs u → IsWatched cs u false fresh
-another_trail cs t u q fresh h e trail = record {
-  clauses_right = subst (λ (n : ℕ). AreClauses n cs) (sym e) h.clauses_right;
+pub index-trail : (cs : List (List ℤ)) (t u : Trail) (ls : List (List Watch)) (ps : List Pair) → IsIndex cs t ls ps → u.variables ≡ t.variables → IsTrail cs u →
+    IsIndex cs u ls ps
+index-trail cs t u ls ps h e trail = record {
+  right = subst (λ (n : ℕ). AreClauses n cs) (sym e) h.right;
   few = h.few;
-  trail_right = trail;
-  quiet_right = λ f. cc;
-  places = h.places;
-  all = h.all;
+  trail = trail;
+  lists_long = omega (arith, h.lists_long, e);
+  pairs_long = h.pairs_long;
+  entries = h.entries;
+  pairs = h.pairs;
 }
 
-pub after_cut : (cs : List (List ℤ)) (t u : Trail) (q : Bool) (fresh : List ℕ) (n : ℕ) → IsWatched cs t q fresh → u ≡ cut t n → IsWatched cs u false fresh
-after_cut cs t u q fresh n h e =
-    another_trail cs t u q fresh h (ap (λ (s : Trail). s.variables) e) (subst (IsTrail cs) (sym e) (IsTrail-cut cs t n h.trail_right))
-
-pub after_push : (cs : List (List ℤ)) (t u : Trail) (q : Bool) (fresh : List ℕ) (z : ℤ) → IsWatched cs t q fresh → IsLiteral t.variables z →
-    value_of t.literals z ≡ None → u ≡ pushed t z None → IsWatched cs u false fresh
-after_push cs t u q fresh z h l unset e =
-    another_trail cs t u q fresh h (ap (λ (s : Trail). s.variables) e)
-    (subst (IsTrail cs) (sym e) (IsTrail-push cs t z None h.trail_right l unset tt))
-
-AreOpen-at : (cs : List (List ℤ)) (set : List ℤ) (ks : List ℕ) (i d : ℕ) → AreOpen cs set ks → i < length ks → IsOpen set (clause_at cs (get_or ks i d + 1))
-AreOpen-at cs set [] i d h lt = absurd (omega arith)
-AreOpen-at cs set (k ∷ ks) zero d h lt = h.0
-AreOpen-at cs set (k ∷ ks) (suc i) d h lt = AreOpen-at cs set ks i d h.1 (omega arith)
-
-AreOpen-contains : (cs : List (List ℤ)) (set : List ℤ) (ks : List ℕ) (k : ℕ) → AreOpen cs set ks → Contains ks k → IsOpen set (get_or cs k [])
-AreOpen-contains cs set ks k h there =
-    let e : get_or ks there.0 k + 1 - 1 ≡ k = omega (arith, there.2) in
-    subst (λ (i : ℕ). IsOpen set (get_or cs i [])) e (AreOpen-at cs set ks there.0 k h there.1)
-
-pub IsQuiet-each : (cs : List (List ℤ)) (set : List ℤ) → ((k : ℕ) → k < length cs → IsOpen set (get_or cs k [])) → IsQuiet cs set
-IsQuiet-each [] set h = tt
-IsQuiet-each (c ∷ cs) set h = (h 0 (omega arith), IsQuiet-each cs set (λ k lt. h (suc k) (omega arith)))
-
--- nothing is left
-pub after_still : (cs : List (List ℤ)) (t u : Trail) (q : Bool) (fresh : List ℕ) → IsWatched cs t q fresh → Steps cs t u → AreOpen cs u.literals fresh →
-    IsQuiet cs u.literals
-after_still cs t u q fresh h s open_all = IsQuiet-each cs u.literals (λ k lt. AreOpen-contains cs u.literals fresh k open_all (h.all k lt))
-
-pub when_quiet : (cs : List (List ℤ)) (t u : Trail) (q : Bool) (fresh : List ℕ) → IsWatched cs t q fresh → Steps cs t u → IsQuiet cs u.literals →
-    IsWatched cs u true fresh
-when_quiet cs t u q fresh h s quiet = record {
-  clauses_right = subst (λ (n : ℕ). AreClauses n cs) (sym s.extends.variables) h.clauses_right;
-  few = h.few;
-  trail_right = s.trail;
-  quiet_right = λ f. quiet;
-  places = h.places;
-  all = h.all;
-}
-
-pub after_push_or_not : (r : Result ⊤ AllocError) (cs : List (List ℤ)) (t u : Trail) (q : Bool) (fresh : List ℕ) (z : ℤ) (s : State) → IsWatched cs t q fresh →
-    (let inside : State = record { clauses = cs; trail = t; quiet = q } in inside ≡ s) → IsLiteral s.trail.variables z → value_of s.trail.literals z ≡ None →
-    OnOk r (u ≡ pushed t z None) → OnErr r (u ≡ t) → IsWatched cs u false fresh
-after_push_or_not (Ok x) cs t u q fresh z s h is l unset ok err =
-    after_push cs t u q fresh z h (subst (λ (r : State). IsLiteral r.trail.variables z) (sym is) l)
-    (subst (λ (r : State). value_of r.trail.literals z ≡ None) (sym is) unset) ok
-after_push_or_not (Err x) cs t u q fresh z s h is l unset ok err =
-    subst (λ (v : Trail). IsWatched cs v false fresh) (sym err) (not_quiet cs t q fresh h)

@@ -9,4 +9,5 @@ pub mod Lists
 pub mod Watching
 pub mod Visits
 pub mod Walks
+pub mod Runs
 pub mod Watched

@@ -4,7 +4,7 @@
 //! a second form of the list: contracts see the list alone, in which a literal is true where it stands, and false where its
 //! negation does. Propagation reads values and pushes; `cut` is what undoes.
 
-ghost use Rattle.std.specs.Prelude.{◌≡◌, ◌+◌, ◌<◌, ◌≤◌, ◌^◌, [], length, take, None, IfOk, OnOk, OnErr, slice_index_or, slice_set, ◌-◌, neg_ℤ};
+ghost use Rattle.std.specs.Prelude.{◌≡◌, ◌+◌, ◌<◌, ◌≤◌, ◌^◌, [], length, take, None, IfOk, OnOk, OnErr, slice_index_or, slice_set, ◌-◌, neg_ℤ, pos};
 ghost use Rattle.pg_cnf.specs.Literals.{IsLiteral};
 ghost use Rattle.pg_watch.specs.Trail.{value_of, pushed, cut, IsAssignment};
 ghost use Rattle.pg_watch.specs.Places.{place_of};
@@ -63,6 +63,15 @@ impl Assignment {
         ensures { result.now ≡ self.now.literals }
     {
         self.literals.as_slice()
+    }
+
+    /// The negation of the literal at a place.
+    pub fn negation_at(&self, place: usize) -> i32
+        requires { place < length self.now.literals }
+        ensures { result ≡ neg_ℤ (slice_index_or self.now.literals place (pos 0)) }
+    {
+        let lit = self.literals[place];
+        negation(lit)
     }
 
     /// The reason of the literal at a place.
@@ -124,6 +133,14 @@ impl Assignment {
     }
 }
 
+/// The negation of a literal.
+fn negation(lit: i32) -> i32
+    requires { IsLiteral 2147483647 lit }
+    ensures { result ≡ neg_ℤ lit }
+{
+    -lit
+}
+
 /// Gives a literal a value, and its negation another.
 fn set_values(values: &mut Vec<Option<bool>>, lit: i32, own: Option<bool>, other: Option<bool>)
     requires literal { IsLiteral 2147483647 lit }
@@ -132,7 +149,7 @@ fn set_values(values: &mut Vec<Option<bool>>, lit: i32, own: Option<bool>, other
     ensures { values.new.items ≡ slice_set (slice_set values.old.items (place_of lit) own) (place_of (neg_ℤ lit)) other }
 {
     values[place_of(lit)] = own;
-    values[place_of(-lit)] = other;
+    values[place_of(negation(lit))] = other;
 }
 
 /// Where the value of a literal stands: two places for each variable.

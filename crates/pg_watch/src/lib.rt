@@ -8,6 +8,7 @@ mod fresh;
 mod lists;
 mod index;
 mod look;
+mod queue;
 mod settle;
 mod visit;
 mod walk;

@@ -2,10 +2,13 @@
 
 ghost use Rattle.std.specs.Prelude.{◌≡◌, ◌+◌, ◌-◌, ◌<◌, ◌≤◌, ◌^◌, ◌++◌, ◌∷◌, [], length, true, false, None, IfOk, OnOk, OnErr, slice_index_or};
 ghost use Rattle.pg_cnf.specs.Literals.{IsClause, IsLiteral};
+ghost use Rattle.pg_watch.specs.Watching.{no_pair};
 
 use crate::arena::Arena;
 use crate::assignment::Assignment;
 use crate::fix::Fix;
+use crate::index::{Index, Pair};
+use crate::lists::Lists;
 use crate::settle::propagate;
 use pg_cnf::{Clause, Cnf};
 use std::alloc::{AllocError, Global};
@@ -16,7 +19,9 @@ use std::marker::Model;
 pub struct Watches {
     clauses: Arena,
     trail: Assignment,
+    index: Index,
     fresh: Vec<u32>,
+    head: usize,
     quiet: bool,
 }
 
@@ -29,7 +34,7 @@ impl Model for Watches {
 
     ghost view = { λ w. record { clauses = w.clauses; trail = w.trail; quiet = w.quiet } };
 
-    ghost invariant = { λ w. IsWatched w.clauses w.trail w.quiet w.fresh.items };
+    ghost invariant = { λ w. IsWatched w.clauses w.trail w.quiet w.fresh.items w.index.lists w.index.pairs.items w.head };
 }
 
 impl Watches {
@@ -46,18 +51,36 @@ impl Watches {
         ensures reasons { IfOk result (λ watches. watches.trail.reasons ≡ []) }
         ensures quiet { IfOk result (λ watches. watches.quiet ≡ false) }
     {
-        let mut watches = Watches {
-            clauses: Arena::new(alloc),
-            trail: Assignment::new(alloc, cnf.variables)?,
-            fresh: Vec::new(alloc),
-            quiet: false,
-        };
+        let mut watches = Watches::empty(alloc, cnf.variables)?;
         for clause in cnf.clauses.as_slice() {
             if let Err(error) = watches.add(clause) {
                 return Err(error);
             }
         }
         Ok(watches)
+    }
+
+    /// No clause, over so many variables. The error is want of memory.
+    fn empty(alloc: Global, variables: u32) -> Result<Watches, AllocError>
+        requires { variables < 2 ^ 31 }
+        ensures clauses { IfOk result (λ watches. watches.clauses ≡ []) }
+        ensures variables { IfOk result (λ watches. watches.trail.variables ≡ variables) }
+        ensures trail { IfOk result (λ watches. watches.trail.literals ≡ []) }
+        ensures reasons { IfOk result (λ watches. watches.trail.reasons ≡ []) }
+        ensures quiet { IfOk result (λ watches. watches.quiet ≡ false) }
+    {
+        let lists = 2 * variables as usize + 2;
+        Ok(Watches {
+            clauses: Arena::new(alloc),
+            trail: Assignment::new(alloc, variables)?,
+            index: Index {
+                pairs: Vec::new(alloc),
+                lists: Lists::new(alloc, lists)?,
+            },
+            fresh: Vec::new(alloc),
+            head: 0,
+            quiet: false,
+        })
     }
 
     /// One more clause, over the variables that there are, and sets nothing. There are fewer than 2^32 - 1 clauses with it.
@@ -72,11 +95,12 @@ impl Watches {
     {
         self.quiet = false;
         let place = self.clauses.len() as u32;
-        self.fresh.push(place)?;
+        register(&mut self.fresh, &mut self.index.pairs, place)?;
         match self.clauses.push(clause.lits()) {
             Ok(()) => Ok(()),
             Err(error) => {
                 let _ = self.fresh.pop();
+                let _ = self.index.pairs.pop();
                 Err(error)
             }
         }
@@ -93,7 +117,14 @@ impl Watches {
     {
         self.quiet = false;
         let len = self.trail.len();
-        match propagate(&self.clauses, &mut self.trail, self.fresh.as_slice()) {
+        let head = self.head;
+        match propagate(
+            &self.clauses,
+            &mut self.trail,
+            &mut self.index,
+            self.fresh.as_slice(),
+            &mut self.head,
+        ) {
             Ok(Fix::Quiet) => {
                 self.quiet = true;
                 Ok(Fix::Quiet)
@@ -101,6 +132,7 @@ impl Watches {
             Ok(Fix::Conflict(number)) => Ok(Fix::Conflict(number)),
             Err(error) => {
                 self.trail.cut(len);
+                self.head = head;
                 Err(error)
             }
         }
@@ -123,7 +155,7 @@ impl Watches {
         match self.settle() {
             Ok(fix) => Ok(fix),
             Err(error) => {
-                self.cut(len);
+                self.undo(len);
                 Err(error)
             }
         }
@@ -131,6 +163,7 @@ impl Watches {
 
     /// Sets a literal that is unset, without a reason, and nothing more. The error is want of memory.
     fn decide(&mut self, lit: i32) -> Result<(), AllocError>
+        requires quiet { self.old.quiet ≡ true }
         requires literal { IsLiteral self.old.trail.variables lit }
         requires unset { value_of self.old.trail.literals lit ≡ None }
         ensures clauses { self.new.clauses ≡ self.old.clauses }
@@ -141,16 +174,6 @@ impl Watches {
         self.trail.push(lit, None)
     }
 
-    /// Cuts the trail to its first literals.
-    fn cut(&mut self, len: usize)
-        ensures clauses { self.new.clauses ≡ self.old.clauses }
-        ensures trail { self.new.trail ≡ cut self.old.trail len }
-        ensures quiet { self.new.quiet ≡ false }
-    {
-        self.quiet = false;
-        self.trail.cut(len);
-    }
-
     /// Cuts the trail to its first `len` literals, at the place of one that was assigned. It takes no memory.
     pub fn undo(&mut self, len: usize)
         requires { slice_get self.old.trail.reasons len ≡ Some None }
@@ -158,7 +181,9 @@ impl Watches {
         ensures trail { self.new.trail ≡ cut self.old.trail len }
         ensures quiet { self.new.quiet ≡ false }
     {
-        self.cut(len);
+        self.quiet = false;
+        self.trail.cut(len);
+        self.head = len;
     }
 
     /// The literals that are set, in order. No variable is there twice, and each reason was unit where it was set.
@@ -206,5 +231,30 @@ impl Watches {
         ensures { IsTrue result ↔ (self.now.clauses ≡ []) }
     {
         self.clauses.len() == 0
+    }
+}
+
+/// A place among the fresh ones, and an empty pair beside it. The error is want of memory, and both stay.
+fn register(
+    fresh: &mut Vec<u32>,
+    pairs: &mut Vec<Pair>,
+    place: u32,
+) -> Result<(), AllocError>
+    ensures fresh { OnOk result (fresh.new.items ≡ fresh.old.items ++ place ∷ []) }
+    ensures pairs { OnOk result (pairs.new.items ≡ pairs.old.items ++ no_pair ∷ []) }
+    ensures same_fresh { OnErr result (fresh.new.items ≡ fresh.old.items) }
+    ensures same_pairs { OnErr result (pairs.new.items ≡ pairs.old.items) }
+{
+    fresh.reserve(1)?;
+    pairs.push(Pair {
+        first: 0,
+        second: 0,
+    })?;
+    match fresh.push(place) {
+        Ok(()) => Ok(()),
+        Err(_) => {
+            let _ = pairs.pop();
+            Err(AllocError)
+        }
     }
 }

@@ -1,18 +1,29 @@
-use Rattle.std.proofs.Common.{arith}
-use Rattle.pg_watch.proofs.Steps.{Steps-more, Extends-longer}
+use Rattle.std.proofs.Common.{arith, subst}
+use Rattle.pg_watch.specs.Runs.{IsTurned, IsTurn}
 use Rattle.pg_watch.proofs.Short.{AreSet-short}
+use Rattle.pg_watch.proofs.Removes.{IsIndex-keeps}
+use Rattle.pg_watch.proofs.RunLemmas.{Runs-more}
 use Rattle.pg_watch.proofs.settle.propagate.Goals as goal
 
-pub loop-trail-smaller : goal.loop-trail-smaller
-loop-trail-smaller c =
-    let s = c.look_at_each.ensures.steps in
-    omega (arith, Extends-longer _ _ s.extends, s.extends.variables, AreSet-short _ _ s.trail.set, c.len.ensures.len, c.len-before.ensures.len, c.if-len-before.false)
+pub returns-then-len-head-clause-runs : goal.returns-then-len-head-clause-runs
+returns-then-len-head-clause-runs c = Runs-more _ _ _ _ _ _ _ _ _ _ _ _ _ c.turns.invariant.runs c.take_turn.ensures.runs
 
-pub loop-trail-preserved : goal.loop-trail-preserved
-loop-trail-preserved c = Steps-more _ _ _ _ c.loop-trail.invariant c.look_at_each.ensures.steps
+pub turns-smaller : goal.turns-smaller
+turns-smaller c =
+    let r = c.take_turn.ensures.runs in
+    let turn : IsTurn c.args.clauses.now c.turns.trail c.take_turn.new.trail c.args.places.now c.take_turn.new.head =
+    subst (IsTurned c.args.clauses.now c.turns.trail c.take_turn.new.trail c.args.places.now c.take_turn.new.head) c.in-Ok-Quiet.field-0-is c.in-Ok-Quiet.ensures.turned in
+    omega (arith, turn.far, r.within, c.len.ensures.len, c.if-len-head.false, r.keeps.steps.extends.variables,
+    AreSet-short c.take_turn.new.trail.variables c.take_turn.new.trail.literals r.keeps.steps.trail.set)
 
-pub returns-in-Ok-Conflict-clause-steps : goal.returns-in-Ok-Conflict-clause-steps
-returns-in-Ok-Conflict-clause-steps c = Steps-more _ _ _ _ c.loop-trail.invariant c.look_at_each.ensures.steps
+pub turns-preserved : goal.turns-preserved
+turns-preserved c = record {
+  index = IsIndex-keeps _ _ _ _ _ _ _ c.turns.invariant.index c.take_turn.ensures.runs.keeps;
+  runs = Runs-more _ _ _ _ _ _ _ _ _ _ _ _ _ c.turns.invariant.runs c.take_turn.ensures.runs;
+}
 
-pub returns-in-Err-clause-steps : goal.returns-in-Err-clause-steps
-returns-in-Err-clause-steps c = Steps-more _ _ _ _ c.loop-trail.invariant c.look_at_each.ensures.steps
+pub returns-in-Ok-Conflict-clause-runs : goal.returns-in-Ok-Conflict-clause-runs
+returns-in-Ok-Conflict-clause-runs c = Runs-more _ _ _ _ _ _ _ _ _ _ _ _ _ c.turns.invariant.runs c.take_turn.ensures.runs
+
+pub returns-in-Err-clause-runs : goal.returns-in-Err-clause-runs
+returns-in-Err-clause-runs c = Runs-more _ _ _ _ _ _ _ _ _ _ _ _ _ c.turns.invariant.runs c.take_turn.ensures.runs
