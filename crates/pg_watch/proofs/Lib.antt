@@ -13,5 +13,6 @@ pub mod Moves
 pub mod ListsLemmas
 pub mod Short
 pub mod WatchedLemmas
+pub mod JoinLemmas
 pub mod QuietLemmas
 pub mod TrailLemmas

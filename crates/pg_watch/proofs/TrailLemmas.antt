@@ -10,7 +10,8 @@ use Rattle.pg_watch.specs.declared.index.Pair.{Pair}
 use Rattle.pg_watch.specs.Trail.{Trail, value_of, cut, pushed, IsTrail, AreSet, HaveReasons}
 use Rattle.pg_watch.specs.Watching.{no_pair, literals_at, pair_at, list_at, HasTrue, Guards, IsGuarded, AreEntries, ArePairs, IsIndex}
 use Rattle.pg_watch.specs.Runs.{IsNow}
-use Rattle.pg_watch.specs.Watched.{IsAssigned, IsKept, IsWatched}
+use Rattle.pg_watch.specs.Assigned.{IsAssigned}
+use Rattle.pg_watch.specs.Watched.{IsKept, IsWatched}
 use Rattle.pg_watch.proofs.Steps.{length-reasons, IsTrail-push}
 use Rattle.pg_watch.proofs.Keeps.{HasTrue-whole}
 use Rattle.pg_watch.proofs.RunLemmas.{true_all}

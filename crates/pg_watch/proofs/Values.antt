@@ -1,12 +1,12 @@
 -- The values of literals under more and under fewer literals that are set.
-use Rattle.std.proofs.Common.{◌≡◌, ◌≢◌, zero, suc, ◌<◌, Bool, true, false, not, cond, ℤ, pos, negsuc, neg_ℤ, nat_abs, List, [], ◌∷◌, ◌++◌, Option, None, Some, refl, sym, ap, ◌∙◌, arith}
+use Rattle.std.proofs.Common.{◌≡◌, ◌≢◌, ℕ, zero, suc, ◌+◌, ◌<◌, ◌⊎◌, inl, inr, length, take, get_or, Bool, true, false, not, cond, ℤ, pos, negsuc, neg_ℤ, nat_abs, List, [], ◌∷◌, ◌++◌, Option, None, Some, refl, sym, ap, ◌∙◌, arith}
 use Rattle.std.specs.Ordering.{int_eq}
 use Rattle.std.specs.Option.{option_map}
 use Rattle.std.proofs.lemmas.Bool.Decides.{Decides-int_eq}
 use Rattle.std.proofs.Math.IntN.{neg_ℤ-neg_ℤ}
 use Rattle.pg_watch.specs.Trail.{value_of}
 
-some≢none : {A : Type 0} (x : A) → Some x ≡ None → ⊥
+pub some≢none : {A : Type 0} (x : A) → Some x ≡ None → ⊥
 some≢none x e = cc
 
 -- one literal more
@@ -93,3 +93,44 @@ value_of-unset_neg xs z h e = value_of-neg xs z h ∙ ap (option_map not) e
 
 pub value_of-push_neg : (xs : List ℤ) (z : ℤ) → 0 < nat_abs z → value_of xs z ≡ None → value_of (xs ++ z ∷ []) (neg_ℤ z) ≡ Some false
 value_of-push_neg xs z h e = value_of-after_none xs (z ∷ []) (neg_ℤ z) (value_of-unset_neg xs z h e) ∙ value_of-one_neg z h
+
+-- what is found is found at a place
+pub rest-none : (a b : Bool) (o : Option Bool) → cond a (Some true) (cond b (Some false) o) ≡ None → o ≡ None
+rest-none true b o e = absurd (some≢none true e)
+rest-none false true o e = absurd (some≢none false e)
+rest-none false false o e = e
+
+nat_abs-neg_ℤ : (z : ℤ) → nat_abs (neg_ℤ z) ≡ nat_abs z
+nat_abs-neg_ℤ (pos zero) = refl
+nat_abs-neg_ℤ (pos (suc n)) = refl
+nat_abs-neg_ℤ (negsuc n) = refl
+
+pub record FoundAt (zs : List ℤ) (z : ℤ) (n : ℕ) : Type 0 where
+  pub place : ℕ
+  pub within : place < length zs
+  pub below : place < n
+  pub same : nat_abs (get_or zs place (pos 0)) ≡ nat_abs z
+
+found-step : (a b : Bool) (x : ℤ) (xs : List ℤ) (z : ℤ) (n : ℕ) (v : Bool) → (a ≡ true → x ≡ z) → (b ≡ true → x ≡ neg_ℤ z) →
+    cond a (Some true) (cond b (Some false) (value_of (take n xs) z)) ≡ Some v → (value_of (take n xs) z ≡ Some v → FoundAt xs z n) →
+    FoundAt (x ∷ xs) z (suc n)
+found-step true b x xs z n v h k e go = record { place = 0; within = omega arith; below = omega arith; same = ap nat_abs (h refl) }
+found-step false true x xs z n v h k e go =
+    record { place = 0; within = omega arith; below = omega arith; same = ap nat_abs (k refl) ∙ nat_abs-neg_ℤ z }
+found-step false false x xs z n v h k e go =
+    let at = go e in
+    record { place = suc at.place; within = omega (arith, at.within); below = omega (arith, at.below); same = at.same }
+
+pub found_at : (zs : List ℤ) (z : ℤ) (n : ℕ) (v : Bool) → value_of (take n zs) z ≡ Some v → FoundAt zs z n
+found_at [] z zero v e = cc
+found_at [] z (suc n) v e = cc
+found_at (x ∷ xs) z zero v e = cc
+found_at (x ∷ xs) z (suc n) v e =
+    found-step (int_eq x z) (int_eq x (neg_ℤ z)) x xs z n v ((Decides-int_eq x z).0) ((Decides-int_eq x (neg_ℤ z)).0) e (found_at xs z n v)
+
+pub same_variable : (y z : ℤ) → nat_abs y ≡ nat_abs z → (y ≡ z) ⊎ (y ≡ neg_ℤ z)
+same_variable (pos m) (pos n) e = inl (ap pos e)
+same_variable (pos m) (negsuc n) e = inr (ap pos e)
+same_variable (negsuc m) (pos zero) e = absurd (omega arith)
+same_variable (negsuc m) (pos (suc n)) e = inr (ap negsuc (omega arith))
+same_variable (negsuc m) (negsuc n) e = inl (ap negsuc (omega arith))

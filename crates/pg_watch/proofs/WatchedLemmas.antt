@@ -16,7 +16,8 @@ use Rattle.pg_watch.specs.Places.{place_of}
 use Rattle.pg_watch.specs.State.{State}
 use Rattle.pg_watch.specs.Watching.{no_pair, no_watch, literals_at, pair_at, list_at, entry_at, HasTrue, IsPair, Has, ArePairs, IsEntry, AreEntries, IsListed, IsAttached, Guards, IsGuarded, IsIndex, Keeps}
 use Rattle.pg_watch.specs.Runs.{IsNow, Runs}
-use Rattle.pg_watch.specs.Watched.{IsAssigned, IsKept, IsWatched}
+use Rattle.pg_watch.specs.Assigned.{IsAssigned}
+use Rattle.pg_watch.specs.Watched.{IsKept, IsWatched}
 use Rattle.pg_watch.proofs.Steps.{length-reasons, IsTrail-push, Extends-longer, take-length}
 use Rattle.pg_watch.proofs.Keeps.{take-front, HasTrue-whole, HasTrue-later}
 use Rattle.pg_watch.proofs.Removes.{IsIndex-keeps}

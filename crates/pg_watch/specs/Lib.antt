@@ -2,6 +2,7 @@ pub mod Trail
 pub mod Looks
 pub mod Places
 pub mod Table
+pub mod Assigned
 pub mod Spans
 pub mod Fixes
 pub mod State
@@ -10,4 +11,5 @@ pub mod Watching
 pub mod Visits
 pub mod Walks
 pub mod Runs
+pub mod Joins
 pub mod Watched

@@ -3,17 +3,14 @@
 -- Each clause watches two of its literals, or stands among the fresh ones, which each settling looks at. Where a literal that
 -- a clause watches is false and was propagated, the clause has one that is true: under the trail as it stands, and under each
 -- shorter one that an undoing can leave, which ends before a literal that was assigned.
-use Rattle.std.specs.Prelude.{◌≡◌, ◌⊎◌, ℕ, ◌<◌, ◌≤◌, Bool, true, ℤ, List, length, Contains, None, Some, slice_get}
+use Rattle.std.specs.Prelude.{◌≡◌, ◌⊎◌, ℕ, ◌<◌, ◌≤◌, Bool, true, ℤ, List, length, Contains}
 use Rattle.pg_watch.specs.declared.lists.Watch.{Watch}
 use Rattle.pg_watch.specs.declared.index.Pair.{Pair}
 use Rattle.pg_watch.specs.Trail.{Trail, IsQuiet}
+use Rattle.pg_watch.specs.Assigned.{IsAssigned}
 use Rattle.pg_watch.specs.Fixes.{ArePlaces}
 use Rattle.pg_watch.specs.Watching.{IsAttached, IsGuarded, IsIndex}
 use Rattle.pg_watch.specs.Runs.{IsNow}
-
--- a literal was assigned at the place
-abbrev pub IsAssigned : Trail → ℕ → Type 0
-IsAssigned trail d = (slice_get trail.reasons d ≡ Some None)
 
 pub record IsKept (clauses : List (List ℤ)) (trail : Trail) (lists : List (List Watch)) (pairs : List Pair) (head k : ℕ) : Type 0 where
   pub attached : IsAttached clauses lists pairs k

@@ -4,7 +4,8 @@
 //! a second form of the list: contracts see the list alone, in which a literal is true where it stands, and false where its
 //! negation does. Propagation reads values and pushes; `cut` is what undoes.
 
-ghost use Rattle.std.specs.Prelude.{◌≡◌, ◌+◌, ◌<◌, ◌≤◌, ◌^◌, [], length, take, None, IfOk, OnOk, OnErr, slice_index_or, slice_set, ◌-◌, neg_ℤ, pos};
+ghost use Rattle.std.specs.Prelude.{◌≡◌, ◌+◌, ◌<◌, ◌≤◌, ◌^◌, [], length, take, None, IfOk, OnOk, OnErr, slice_index_or, slice_set, ◌-◌, neg_ℤ, pos, ℕ};
+ghost use Rattle.pg_watch.specs.Assigned.{IsAssigned};
 ghost use Rattle.pg_cnf.specs.Literals.{IsLiteral};
 ghost use Rattle.pg_watch.specs.Trail.{value_of, pushed, cut, IsAssignment};
 ghost use Rattle.pg_watch.specs.Places.{place_of};
@@ -19,6 +20,7 @@ pub struct Assignment {
     literals: Vec<i32>,
     reasons: Vec<Option<u32>>,
     values: Vec<Option<bool>>,
+    wheres: Vec<u32>,
 }
 
 impl Model for Assignment {
@@ -30,7 +32,7 @@ impl Model for Assignment {
 
     ghost view = { λ a. record { variables = a.variables; literals = a.literals.items; reasons = a.reasons.items } };
 
-    ghost invariant = { λ a. IsTable a.variables a.values.items a.literals.items a.reasons.items };
+    ghost invariant = { λ a. IsTable a.variables a.values.items a.wheres.items a.literals.items a.reasons.items };
 }
 
 impl Assignment {
@@ -47,6 +49,7 @@ impl Assignment {
             literals: Vec::new(alloc),
             reasons: Vec::new(alloc),
             values: Vec::from_elem(alloc, None, places)?,
+            wheres: Vec::from_elem(alloc, 0, variables as usize + 1)?,
         })
     }
 
@@ -90,6 +93,28 @@ impl Assignment {
         self.values[place_of(lit)]
     }
 
+    /// A place before which neither a literal nor its negation stands: its own where it is set.
+    pub fn place(&self, lit: i32) -> usize
+        requires { IsLiteral self.now.variables lit }
+        ensures { (n : ℕ) → n ≤ result → value_of (take n self.now.literals) lit ≡ None }
+    {
+        self.wheres[lit.unsigned_abs() as usize] as usize
+    }
+
+    /// The place of the last literal that has no reason, or 0. It takes time in the literals behind it.
+    pub fn last_assigned(&self) -> usize
+        ensures { (d : ℕ) → IsAssigned self.now d → d ≤ result }
+    {
+        let mut place = self.reasons.len();
+        while place > 0 {
+            place -= 1;
+            if self.reasons[place].is_none() {
+                return place;
+            }
+        }
+        0
+    }
+
     /// Sets a literal that is unset. The error is want of memory, and nothing is set.
     pub fn push(&mut self, lit: i32, reason: Option<u32>) -> Result<(), AllocError>
         requires literal { IsLiteral self.old.variables lit }
@@ -97,11 +122,13 @@ impl Assignment {
         ensures ok { OnOk result (self.new ≡ pushed self.old lit reason) }
         ensures err { OnErr result (self.new ≡ self.old) }
     {
+        let place = self.literals.len() as u32;
         self.literals.reserve(1)?;
         self.reasons.push(reason)?;
         match self.literals.push(lit) {
             Ok(()) => {
                 set_values(&mut self.values, lit, Some(true), Some(false));
+                self.wheres[lit.unsigned_abs() as usize] = place;
                 Ok(())
             }
             Err(_) => {

@@ -3,6 +3,7 @@
 
 mod arena;
 mod assignment;
+mod attach;
 mod fix;
 mod fresh;
 mod lists;

@@ -6,6 +6,7 @@ ghost use Rattle.pg_watch.specs.Watching.{no_pair};
 
 use crate::arena::Arena;
 use crate::assignment::Assignment;
+use crate::attach::attach_each;
 use crate::fix::Fix;
 use crate::index::{Index, Pair};
 use crate::lists::Lists;
@@ -127,9 +128,13 @@ impl Watches {
         ) {
             Ok(Fix::Quiet) => {
                 self.quiet = true;
+                attach_each(&self.clauses, &self.trail, &mut self.index, &mut self.fresh);
                 Ok(Fix::Quiet)
             }
-            Ok(Fix::Conflict(number)) => Ok(Fix::Conflict(number)),
+            Ok(Fix::Conflict(number)) => {
+                attach_each(&self.clauses, &self.trail, &mut self.index, &mut self.fresh);
+                Ok(Fix::Conflict(number))
+            }
             Err(error) => {
                 self.trail.cut(len);
                 self.head = head;

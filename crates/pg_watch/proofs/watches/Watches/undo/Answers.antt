@@ -1,6 +1,6 @@
 use Rattle.std.proofs.Common.{subst, sym}
 use Rattle.pg_watch.specs.State.{State}
-use Rattle.pg_watch.specs.Watched.{IsAssigned}
+use Rattle.pg_watch.specs.Assigned.{IsAssigned}
 use Rattle.pg_watch.proofs.TrailLemmas.{after_undo}
 use Rattle.pg_watch.proofs.watches.Watches.undo.Goals as goal
 
