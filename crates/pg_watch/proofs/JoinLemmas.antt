@@ -1,25 +1,24 @@
 -- Clauses leave the fresh ones.
-use Rattle.std.proofs.Common.{◌≡◌, ◌≢◌, ℕ, zero, suc, ◌+◌, ◌-◌, ◌*◌, ◌<◌, ◌≤◌, ◌⊎◌, inl, inr, Bool, true, false, ℤ, pos, List, [], ◌∷◌, ◌++◌, length, take, drop, get_or, set, Option, None, Some, refl, sym, ap, subst, ◌∙◌, arith}
-use Rattle.std.specs.Prelude.{⊤, Contains}
+use Rattle.std.proofs.Common.{◌≡◌, ◌≢◌, ℕ, zero, suc, ◌-◌, ◌<◌, ◌≤◌, ◌⊎◌, inl, inr, Bool, true, false, ℤ, pos, List, [], ◌∷◌, ◌++◌, length, take, get_or, set, None, Some, refl, sym, ap, subst, ◌∙◌, arith}
+use Rattle.std.specs.Prelude.{Contains}
 use Rattle.std.specs.List.{swap_remove}
 use Rattle.std.proofs.lemmas.Bool.{cases_lt}
-use Rattle.std.proofs.lemmas.List.{get_or-set_same, get_or-set_other, get_or-take, length-take-le, take_all}
+use Rattle.std.proofs.lemmas.List.{get_or-set_same, get_or-set_other, get_or-take, length-take-le}
 use Rattle.std.proofs.Math.ListN.{length-set}
 use Rattle.pg_watch.specs.declared.lists.Watch.{Watch}
 use Rattle.pg_watch.specs.declared.index.Pair.{Pair}
 use Rattle.pg_watch.specs.Trail.{Trail, value_of}
 use Rattle.pg_watch.specs.Fixes.{ArePlaces}
 use Rattle.pg_watch.specs.Places.{place_of}
-use Rattle.pg_watch.specs.Watching.{no_pair, literals_at, pair_at, list_at, HasTrue, IsPair, Has, IsEntry, IsListed, IsAttached, Guards, IsGuarded, IsIndex}
+use Rattle.pg_watch.specs.Watching.{no_pair, literals_at, pair_at, list_at, IsPair, Has, IsEntry, IsListed, IsAttached, Guards, IsGuarded, IsIndex}
 use Rattle.pg_watch.specs.Joins.{MayWatch, IsChoice, KeepsOthers, IsJoined}
-use Rattle.pg_watch.specs.Runs.{IsNow}
 use Rattle.pg_watch.specs.Assigned.{IsAssigned}
 use Rattle.pg_watch.specs.Watched.{IsKept, IsWatched}
 use Rattle.pg_watch.proofs.Keeps.{value_of-whole}
 use Rattle.pg_watch.proofs.RunLemmas.{true_all}
 use Rattle.pg_watch.proofs.Tables.{place_of-lt}
 use Rattle.pg_watch.proofs.VisitLemmas.{literal_there}
-use Rattle.pg_watch.proofs.Moves.{same_number, pushed_to, IsListed-push, IsListed-own, AreEntries-push}
+use Rattle.pg_watch.proofs.Moves.{same_number, IsListed-push, IsListed-own, AreEntries-push}
 
 -- literals that may be watched
 pub may_open : (zs c : List ℤ) (low : ℕ) (w : ℤ) → value_of zs w ≢ Some false → MayWatch zs c low w
@@ -50,7 +49,7 @@ choice_late zs c low y z f g d a holds unset = record {
 
 -- an entry more
 module _ (cs : List (List ℤ)) (t : Trail) (ls ms : List (List Watch)) (ps : List Pair) (at : ℕ) (w : Watch) (h : IsIndex cs t ls ps)
-  (lt : at < length ls) (own : IsEntry cs w) (e : ms ≡ set ls at (list_at ls at ++ w ∷ [])) where
+    (lt : at < length ls) (own : IsEntry cs w) (e : ms ≡ set ls at (list_at ls at ++ w ∷ [])) where
   pub index_entry : IsIndex cs t ms ps
   index_entry = record {
     right = h.right;
@@ -71,7 +70,7 @@ module _ (cs : List (List ℤ)) (t : Trail) (ls ms : List (List Watch)) (ps : Li
 
 -- another pair
 module _ (cs : List (List ℤ)) (t : Trail) (ls : List (List Watch)) (ps qs : List Pair) (k : ℕ) (p : Pair) (h : IsIndex cs t ls ps)
-  (lt : k < length cs) (pair : IsPair (literals_at cs k) p) (e : qs ≡ set ps k p) where
+    (lt : k < length cs) (pair : IsPair (literals_at cs k) p) (e : qs ≡ set ps k p) where
   pub pair_own : pair_at qs k ≡ p
   pair_own = ap (λ (xs : List Pair). pair_at xs k) e ∙ get_or-set_same ps k p no_pair (omega (arith, lt, h.pairs_long))
 
@@ -174,7 +173,7 @@ joined_below : (zs c : List ℤ) (low d : ℕ) (w : ℤ) → MayWatch zs c low w
 joined_below zs c low d w may le e = absurd (may.below d le e)
 
 module _ (cs : List (List ℤ)) (t : Trail) (q : Bool) (fresh : List ℕ) (ls ms : List (List Watch)) (ps qs : List Pair) (h k : ℕ)
-  (w : IsWatched cs t q fresh ls ps h) (index : IsIndex cs t ms qs) (others : KeepsOthers cs ls ms ps qs k) where
+    (w : IsWatched cs t q fresh ls ps h) (index : IsIndex cs t ms qs) (others : KeepsOthers cs ls ms ps qs k) where
   guarded_other : (j a n : ℕ) → j ≢ k → IsGuarded cs t.literals ps a n j → IsGuarded cs t.literals qs a n j
   guarded_other j a n d g =
       subst (λ (p : Pair). Guards t.literals a n (literals_at cs j) p.first × Guards t.literals a n (literals_at cs j) p.second) (sym (others.pairs j d)) g

@@ -1,13 +1,11 @@
 -- Steps of propagation keep the watches.
-use Rattle.std.proofs.Common.{◌≡◌, ◌≢◌, ℕ, zero, suc, ◌+◌, ◌-◌, ◌*◌, ◌<◌, ◌≤◌, ◌⊎◌, inl, inr, Bool, true, false, ℤ, pos, List, [], ◌∷◌, ◌++◌, length, take, drop, get_or, set, Option, None, Some, refl, sym, ap, subst, ◌∙◌, arith}
-use Rattle.std.specs.Prelude.{⊤, Contains}
+use Rattle.std.proofs.Common.{◌≡◌, ℕ, ◌≤◌, Bool, true, false, ℤ, List, ◌++◌, length, take, drop, Some, refl, sym, ap, subst, ◌∙◌, arith}
 use Rattle.std.proofs.lemmas.List.{take-append-drop, take-take}
 use Rattle.pg_watch.specs.declared.lists.Watch.{Watch}
 use Rattle.pg_watch.specs.declared.index.Pair.{Pair}
-use Rattle.pg_watch.specs.Trail.{Trail, value_of, IsTrail, Extends}
+use Rattle.pg_watch.specs.Trail.{Trail, value_of, IsTrail}
 use Rattle.pg_watch.specs.Fixes.{Steps}
-use Rattle.pg_watch.specs.Places.{place_of}
-use Rattle.pg_watch.specs.Watching.{no_pair, no_watch, literals_at, pair_at, list_at, entry_at, HasTrue, IsPair, Has, ArePairs, IsEntry, AreEntries, IsListed, IsAttached, Guards, IsGuarded, IsSettled, Keeps}
+use Rattle.pg_watch.specs.Watching.{literals_at, pair_at, HasTrue, Guards, Keeps}
 use Rattle.pg_watch.proofs.Values.{value_of-after_some}
 use Rattle.pg_watch.proofs.Steps.{Steps-same, Steps-more, Extends-longer}
 
@@ -41,11 +39,11 @@ module _ (cs : List (List ℤ)) where
     pairs = λ h. h;
     attached = λ k lt h. h;
     guarded = λ k h n lt low high guard. (
-      let e = sym (take-front h s.literals t.literals steps.extends.literals low) in
-      let f = sym (take-front n s.literals t.literals steps.extends.literals high) in
-      let first : Guards t.literals h n (literals_at cs k) (pair_at ps k).first = λ v. subst (λ (xs : List ℤ). HasTrue xs (literals_at cs k)) f (guard.0 (ap (λ (xs : List ℤ). value_of xs (pair_at ps k).first) e ∙ v)) in
-      let second : Guards t.literals h n (literals_at cs k) (pair_at ps k).second = λ v. subst (λ (xs : List ℤ). HasTrue xs (literals_at cs k)) f (guard.1 (ap (λ (xs : List ℤ). value_of xs (pair_at ps k).second) e ∙ v)) in
-      (first, second));
+        let e = sym (take-front h s.literals t.literals steps.extends.literals low) in
+        let f = sym (take-front n s.literals t.literals steps.extends.literals high) in
+        let first : Guards t.literals h n (literals_at cs k) (pair_at ps k).first = λ v. subst (λ (xs : List ℤ). HasTrue xs (literals_at cs k)) f (guard.0 (ap (λ (xs : List ℤ). value_of xs (pair_at ps k).first) e ∙ v)) in
+        let second : Guards t.literals h n (literals_at cs k) (pair_at ps k).second = λ v. subst (λ (xs : List ℤ). HasTrue xs (literals_at cs k)) f (guard.1 (ap (λ (xs : List ℤ). value_of xs (pair_at ps k).second) e ∙ v)) in
+        (first, second));
     settled = λ k w lt false_before h has. HasTrue-later s.literals t.literals (literals_at cs k) steps.extends.literals (h has);
   }
 
@@ -62,7 +60,7 @@ module _ (cs : List (List ℤ)) where
     pairs = λ e. k.pairs (h.pairs e);
     attached = λ i lt e. k.attached i lt (h.attached i lt e);
     guarded = λ i a n lt low high e. (
-      let longer = Extends-longer r s h.steps.extends in
-      k.guarded i a n lt (omega arith) (omega arith) (h.guarded i a n lt low high e));
+        let longer = Extends-longer r s h.steps.extends in
+        k.guarded i a n lt (omega arith) (omega arith) (h.guarded i a n lt low high e));
     settled = λ i w lt e f. k.settled i w lt (value_of-later r.literals s.literals w false h.steps.extends.literals e) (h.settled i w lt e f);
   }

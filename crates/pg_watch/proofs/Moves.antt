@@ -1,15 +1,13 @@
 -- A clause watches another literal.
-use Rattle.std.proofs.Common.{◌≡◌, ◌≢◌, ℕ, zero, suc, ◌+◌, ◌-◌, ◌*◌, ◌<◌, ◌≤◌, ◌⊎◌, inl, inr, Bool, true, false, ℤ, pos, List, [], ◌∷◌, ◌++◌, length, take, drop, get_or, set, eqb, Option, None, Some, refl, sym, ap, subst, ◌∙◌, arith, length-append}
-use Rattle.std.specs.Prelude.{⊤, Contains, nat_eq}
-use Rattle.std.specs.List.{swap_remove}
+use Rattle.std.proofs.Common.{◌≡◌, ◌≢◌, ℕ, ◌+◌, ◌<◌, ◌≤◌, ◌⊎◌, inl, inr, true, false, ℤ, pos, List, [], ◌∷◌, ◌++◌, length, get_or, set, eqb, Some, refl, sym, ap, subst, ◌∙◌, arith, length-append}
+use Rattle.std.specs.Prelude.{Contains}
 use Rattle.std.proofs.lemmas.Bool.{cases_lt}
 use Rattle.std.proofs.lemmas.Bool.Decides.{eqb_tells}
-use Rattle.std.proofs.lemmas.List.{take-append-drop, take-take, get_or-set_same, get_or-set_other, get_or_append_left, get_or_push, get_or-take, length-take}
+use Rattle.std.proofs.lemmas.List.{get_or-set_same, get_or-set_other, get_or_append_left, get_or_push}
 use Rattle.std.proofs.Math.ListN.{length-set}
 use Rattle.pg_watch.specs.declared.lists.Watch.{Watch}
 use Rattle.pg_watch.specs.declared.index.Pair.{Pair}
-use Rattle.pg_watch.specs.Trail.{Trail, value_of, IsTrail, Extends}
-use Rattle.pg_watch.specs.Fixes.{Steps}
+use Rattle.pg_watch.specs.Trail.{Trail, value_of, IsTrail}
 use Rattle.pg_watch.specs.Places.{place_of}
 use Rattle.pg_watch.specs.Watching.{no_pair, no_watch, literals_at, pair_at, list_at, entry_at, HasTrue, IsPair, Has, ArePairs, IsEntry, AreEntries, IsListed, IsAttached, Guards, IsGuarded, IsSettled, Keeps}
 use Rattle.pg_watch.proofs.Keeps.{value_of-whole}
@@ -113,7 +111,7 @@ has_same p v w (inl e) f = inl (e ∙ f)
 has_same p v w (inr e) f = inr (e ∙ f)
 
 module _ (cs : List (List ℤ)) (zs : List ℤ) (ls ms : List (List Watch)) (ps qs : List Pair) (k : ℕ) (gone other next : ℤ)
-  (m : IsMove cs zs ls ms ps qs k gone other next) where
+    (m : IsMove cs zs ls ms ps qs k gone other next) where
   abbrev entry : Watch
   entry = record { clause = k; blocker = other }
 

@@ -1,6 +1,6 @@
 -- Where the head is at the end of the trail, a clause that is watched is open.
-use Rattle.std.proofs.Common.{◌≡◌, ◌≢◌, ℕ, zero, suc, ◌+◌, ◌-◌, ◌<◌, ◌≤◌, ◌⊎◌, inl, inr, Bool, true, false, ℤ, List, [], ◌∷◌, length, take, get_or, Option, None, Some, refl, sym, ap, subst, ◌∙◌, arith}
-use Rattle.std.specs.Prelude.{⊤, Contains}
+use Rattle.std.proofs.Common.{◌≡◌, ◌≢◌, ℕ, zero, suc, ◌<◌, ◌⊎◌, inl, inr, Bool, true, false, ℤ, List, [], ◌∷◌, length, take, get_or, None, Some, sym, ap, subst, ◌∙◌, arith}
+use Rattle.std.specs.Prelude.{Contains}
 use Rattle.std.proofs.lemmas.List.{take_all}
 use Rattle.pg_watch.specs.declared.lists.Watch.{Watch}
 use Rattle.pg_watch.specs.declared.index.Pair.{Pair}
@@ -39,7 +39,7 @@ not_but_one zs c z h unset others =
 
 -- one that watches two literals, and has a true one where one of these is false
 module _ (zs c : List ℤ) (p : Pair) (pair : IsPair c p) (first : value_of zs p.first ≡ Some false → HasTrue zs c)
-  (second : value_of zs p.second ≡ Some false → HasTrue zs c) where
+    (second : value_of zs p.second ≡ Some false → HasTrue zs c) where
   never_falsified : IsFalsified zs c → ⊥
   never_falsified all = not_all_false zs c (first (false_there zs c p.first all pair.first)) all
 

@@ -1,6 +1,5 @@
 -- A clause leaves a list.
-use Rattle.std.proofs.Common.{◌≡◌, ◌≢◌, ℕ, zero, suc, ◌+◌, ◌-◌, ◌*◌, ◌<◌, ◌≤◌, ◌⊎◌, inl, inr, Bool, true, false, ℤ, pos, List, [], ◌∷◌, ◌++◌, length, take, drop, get_or, set, Option, None, Some, refl, sym, ap, subst, ◌∙◌, arith}
-use Rattle.std.specs.Prelude.{⊤, Contains}
+use Rattle.std.proofs.Common.{◌≡◌, ◌≢◌, ℕ, zero, suc, ◌-◌, ◌<◌, ◌≤◌, ◌⊎◌, inl, inr, ℤ, List, [], ◌∷◌, length, get_or, set, refl, sym, ap, subst, ◌∙◌, arith}
 use Rattle.std.specs.List.{swap_remove}
 use Rattle.std.proofs.lemmas.Bool.{cases_lt}
 use Rattle.std.proofs.lemmas.List.{get_or-set_same, get_or-set_other, get_or-take, length-take-le, get_or_read}
@@ -8,9 +7,9 @@ use Rattle.std.proofs.Math.ListN.{length-set}
 use Rattle.pg_cnf.specs.Literals.{IsLiteral, AreClauses}
 use Rattle.pg_watch.specs.declared.lists.Watch.{Watch}
 use Rattle.pg_watch.specs.declared.index.Pair.{Pair}
-use Rattle.pg_watch.specs.Trail.{Trail, value_of}
+use Rattle.pg_watch.specs.Trail.{Trail}
 use Rattle.pg_watch.specs.Places.{place_of}
-use Rattle.pg_watch.specs.Watching.{no_watch, literals_at, pair_at, list_at, entry_at, Has, IsEntry, AreEntries, IsListed, IsAttached, IsSettled, IsIndex, Keeps}
+use Rattle.pg_watch.specs.Watching.{no_watch, pair_at, list_at, entry_at, Has, IsEntry, AreEntries, IsListed, IsIndex, Keeps}
 use Rattle.pg_watch.specs.Walks.{HasLeft}
 use Rattle.pg_watch.specs.Visits.{HasMoved, HasStayed}
 use Rattle.pg_watch.proofs.Tables.{place_of-same, place_of-lt}
@@ -36,7 +35,7 @@ get_or-default (x ∷ xs) zero d e lt = refl
 get_or-default (x ∷ xs) (suc i) d e lt = get_or-default xs i d e (omega arith)
 
 module _ (ls ms : List (List Watch)) (at i : ℕ) (w : Watch) (within : at < length ls) (lt : i < length (list_at ls at))
-  (e : ms ≡ set ls at (swap_remove (list_at ls at) i w)) where
+    (e : ms ≡ set ls at (swap_remove (list_at ls at) i w)) where
   abbrev xs : List Watch
   xs = list_at ls at
 
@@ -121,14 +120,14 @@ Keeps-remove cs s t ls ms ns ps qs gone i w h within lt away e = record {
   entries = λ all. entries-remove ms ns (place_of gone) i w within lt e cs (h.entries all);
   pairs = h.pairs;
   attached = λ k less old. (
-    let a = h.attached k less old in
-    let leaves : (z : ℤ) → Has (pair_at qs k) z → place_of z ≡ place_of gone → k ≡ (entry_at ms (place_of gone) i).clause → ⊥ =
-    λ z has f g. away (subst (λ (j : ℕ). Has (pair_at qs j) gone) g (subst (Has (pair_at qs k)) (place_of-same z gone f) has)) in
-    record {
-      pair = a.pair;
-      first = listed-remove ms ns (place_of gone) i w within lt e (place_of (pair_at qs k).first) k (leaves (pair_at qs k).first (inl refl)) a.first;
-      second = listed-remove ms ns (place_of gone) i w within lt e (place_of (pair_at qs k).second) k (leaves (pair_at qs k).second (inr refl)) a.second;
-    });
+      let a = h.attached k less old in
+      let leaves : (z : ℤ) → Has (pair_at qs k) z → place_of z ≡ place_of gone → k ≡ (entry_at ms (place_of gone) i).clause → ⊥ =
+      λ z has f g. away (subst (λ (j : ℕ). Has (pair_at qs j) gone) g (subst (Has (pair_at qs k)) (place_of-same z gone f) has)) in
+      record {
+        pair = a.pair;
+        first = listed-remove ms ns (place_of gone) i w within lt e (place_of (pair_at qs k).first) k (leaves (pair_at qs k).first (inl refl)) a.first;
+        second = listed-remove ms ns (place_of gone) i w within lt e (place_of (pair_at qs k).second) k (leaves (pair_at qs k).second (inr refl)) a.second;
+      });
   guarded = h.guarded;
   settled = h.settled;
 }

@@ -1,6 +1,5 @@
 -- A run over the literals that were set.
-use Rattle.std.proofs.Common.{◌≡◌, ◌≢◌, ℕ, zero, suc, ◌+◌, ◌-◌, ◌<◌, ◌≤◌, ◌⊎◌, inl, inr, Bool, true, false, not, ℤ, pos, neg_ℤ, List, [], ◌∷◌, ◌++◌, length, take, drop, get_or, Option, None, Some, refl, sym, ap, subst, ◌∙◌, arith, append_assoc}
-use Rattle.std.specs.Prelude.{⊤}
+use Rattle.std.proofs.Common.{◌≡◌, ◌≢◌, ℕ, zero, suc, ◌+◌, ◌<◌, ◌≤◌, ◌⊎◌, inl, inr, true, false, not, ℤ, pos, neg_ℤ, List, [], ◌∷◌, ◌++◌, length, take, get_or, None, Some, refl, sym, ap, subst, ◌∙◌, arith, append_assoc}
 use Rattle.std.specs.Option.{option_map}
 use Rattle.std.proofs.lemmas.List.{take_all, take_more, append-nil, length-take, get_or-take}
 use Rattle.std.proofs.Math.IntN.{neg_ℤ-neg_ℤ}
@@ -8,13 +7,12 @@ use Rattle.pg_cnf.specs.Literals.{IsLiteral}
 use Rattle.pg_watch.specs.declared.lists.Watch.{Watch}
 use Rattle.pg_watch.specs.declared.index.Pair.{Pair}
 use Rattle.pg_watch.specs.Trail.{Trail, value_of, AreSet}
-use Rattle.pg_watch.specs.Fixes.{Steps}
-use Rattle.pg_watch.specs.Watching.{literals_at, pair_at, HasTrue, Has, IsAttached, Guards, IsGuarded, IsSettled, IsIndex, Keeps}
+use Rattle.pg_watch.specs.Watching.{literals_at, pair_at, HasTrue, Has, IsAttached, Guards, IsSettled, IsIndex, Keeps}
 use Rattle.pg_watch.specs.Runs.{IsNow, Runs}
 use Rattle.pg_watch.proofs.Values.{value_of-push_same, value_of-push_other, value_of-neg}
 use Rattle.pg_watch.proofs.Tables.{same_or_not, IsLiteral-neg}
 use Rattle.pg_watch.proofs.Steps.{Extends-longer}
-use Rattle.pg_watch.proofs.Keeps.{value_of-whole, HasTrue-whole, Keeps-same, Keeps-more, Keeps-trail}
+use Rattle.pg_watch.proofs.Keeps.{value_of-whole, HasTrue-whole, Keeps-same, Keeps-more}
 
 -- a place of the trail
 unset_after : (n : ℕ) (before zs : List ℤ) (i : ℕ) (d : ℤ) → AreSet n before zs → i < length zs → value_of (before ++ take i zs) (get_or zs i d) ≡ None
@@ -65,7 +63,7 @@ module _ (cs : List (List ℤ)) where
       (first, second)
 
   module _ (n : ℕ) (zs : List ℤ) (ps : List Pair) (h k : ℕ) (p : ℤ) (next : IsNextLiteral n zs h p)
-    (settled : IsSettled cs zs ps (neg_ℤ p) k) where
+      (settled : IsSettled cs zs ps (neg_ℤ p) k) where
     other-cases : (w : ℤ) → (p ≡ w) ⊎ (p ≢ w) → (w ≡ neg_ℤ p → ⊥) → value_of (take (h + 1) zs) w ≡ Some false → value_of (take h zs) w ≡ Some false
     other-cases w (inl same) d e =
         let own : value_of (take (h + 1) zs) p ≡ Some true = ap (λ (xs : List ℤ). value_of xs p) next.more ∙ value_of-push_same (take h zs) p next.unset in

@@ -1,14 +1,15 @@
 -- A literal is assigned, and an assigned one is undone.
-use Rattle.std.proofs.Common.{◌≡◌, ◌≢◌, ℕ, zero, suc, ◌+◌, ◌-◌, ◌*◌, ◌<◌, ◌≤◌, ◌⊎◌, inl, inr, Bool, true, false, ℤ, List, [], ◌∷◌, ◌++◌, length, take, get_or, Option, None, Some, slice_get, length-append, refl, sym, ap, subst, ◌∙◌, arith}
+use Rattle.std.proofs.Common.{◌≡◌, ℕ, zero, suc, ◌+◌, ◌-◌, ◌*◌, ◌<◌, ◌≤◌, ◌⊎◌, inl, inr, Bool, true, false, ℤ, List, [], ◌∷◌, ◌++◌, length, take, get_or, Option, None, Some, slice_get, length-append, refl, sym, ap, subst, ◌∙◌, arith}
 use Rattle.std.specs.Prelude.{⊤, Contains, replicate, ◌^◌, Result, Ok, Err, OnOk, OnErr}
 use Rattle.std.specs.declared.alloc.AllocError.{AllocError}
+use Rattle.std.proofs.lemmas.Option.{slice_get-get_or}
 use Rattle.pg_watch.specs.State.{State}
-use Rattle.std.proofs.lemmas.List.{take_all, take-take, length-take-le, take-append-le, get_or-replicate}
+use Rattle.std.proofs.lemmas.List.{take_all, take-take, length-take-le, take-append-le}
 use Rattle.pg_cnf.specs.Literals.{IsLiteral, IsClause}
 use Rattle.pg_watch.specs.declared.lists.Watch.{Watch}
 use Rattle.pg_watch.specs.declared.index.Pair.{Pair}
 use Rattle.pg_watch.specs.Trail.{Trail, value_of, cut, pushed, IsTrail, AreSet, HaveReasons}
-use Rattle.pg_watch.specs.Watching.{no_pair, literals_at, pair_at, list_at, HasTrue, Guards, IsGuarded, AreEntries, ArePairs, IsIndex}
+use Rattle.pg_watch.specs.Watching.{no_pair, literals_at, pair_at, list_at, HasTrue, Guards, IsGuarded}
 use Rattle.pg_watch.specs.Runs.{IsNow}
 use Rattle.pg_watch.specs.Assigned.{IsAssigned}
 use Rattle.pg_watch.specs.Watched.{IsKept, IsWatched}
@@ -19,7 +20,7 @@ use Rattle.pg_watch.proofs.WatchedLemmas.{IsTrail-cut, Cut, assigned-take, assig
 
 -- guards under a longer trail
 module _ (cs : List (List ℤ)) (xs ys : List ℤ) (ps : List Pair) (a k : ℕ) (front : take a xs ≡ take a ys)
-  (more : HasTrue xs (literals_at cs k) → HasTrue ys (literals_at cs k)) where
+    (more : HasTrue xs (literals_at cs k) → HasTrue ys (literals_at cs k)) where
   now-more : IsNow cs xs ps a k → IsNow cs ys ps a k
   now-more g =
       let c = literals_at cs k in
@@ -30,7 +31,7 @@ module _ (cs : List (List ℤ)) (xs ys : List ℤ) (ps : List Pair) (a k : ℕ) 
       (first, second)
 
 module _ (cs : List (List ℤ)) (t u : Trail) (fresh : List ℕ) (ls : List (List Watch)) (ps : List Pair) (h : ℕ) (z : ℤ)
-  (w : IsWatched cs t true fresh ls ps h) (is : u ≡ pushed t z None) where
+    (w : IsWatched cs t true fresh ls ps h) (is : u ≡ pushed t z None) where
   same_front : (a : ℕ) → a ≤ length t.literals → take a t.literals ≡ take a u.literals
   same_front a le = sym (ap (λ (s : Trail). take a s.literals) is ∙ take-append-le a t.literals (z ∷ []) le)
 
@@ -79,7 +80,7 @@ module _ (cs : List (List ℤ)) (t u : Trail) (fresh : List ℕ) (ls : List (Lis
 
 -- an assigned literal, and all after it, are undone
 module _ (cs : List (List ℤ)) (t u : Trail) (q : Bool) (fresh : List ℕ) (ls : List (List Watch)) (ps : List Pair) (h n : ℕ)
-  (w : IsWatched cs t q fresh ls ps h) (at : IsAssigned t n) (is : u ≡ cut t n) where
+    (w : IsWatched cs t q fresh ls ps h) (at : IsAssigned t n) (is : u ≡ cut t n) where
   under : n < length t.literals
   under = assigned-within cs t n w.index.trail at
 
@@ -99,8 +100,8 @@ module _ (cs : List (List ℤ)) (t u : Trail) (q : Bool) (fresh : List ℕ) (ls 
     now = subst (λ (m : ℕ). IsGuarded cs u.literals ps n m k) (sym long)
         (guarded-same cs t.literals u.literals ps n n k (cut_front n (omega arith)) (cut_front n (omega arith)) (e.below n at));
     below = λ d a. (
-      let before = old d a in
-      guarded-same cs t.literals u.literals ps d d k (cut_front d (omega (arith, before.below))) (cut_front d (omega (arith, before.below))) (e.below d before.before));
+        let before = old d a in
+        guarded-same cs t.literals u.literals ps d d k (cut_front d (omega (arith, before.below))) (cut_front d (omega (arith, before.below))) (e.below d before.before));
   })
 
   pub after_undo : IsWatched cs u false fresh ls ps n
@@ -168,3 +169,12 @@ one_more_alone cs ds t q fresh more ls ps qs h c k s w is clause_of_s room_in_s 
     subst (λ (xs : List (List ℤ)). IsWatched xs t false more ls qs h) (sym e)
     (subst (λ (ks : List ℕ). IsWatched (cs ++ c ∷ []) t false ks ls qs h) (sym all)
     (subst (λ (rs : List Pair). IsWatched (cs ++ c ∷ []) t false (fresh ++ length cs ∷ []) ls rs h) (sym g) (one_more cs t q fresh ls ps h c w clause room)))
+
+-- what a caller knows of a place
+pub is_assigned : (cs : List (List ℤ)) (t : Trail) (q : Bool) (s : State) (n : ℕ) → IsTrail cs t →
+    (let inside : State = record { clauses = cs; trail = t; quiet = q } in inside ≡ s) → n < length s.trail.literals →
+    get_or s.trail.reasons n None ≡ None → IsAssigned t n
+is_assigned cs t q s n h is lt none =
+    let within : n < length t.reasons =
+    omega (arith, subst (λ (r : State). n < length r.trail.literals) (sym is) lt, length-reasons cs [] t.literals t.reasons h.reasoned) in
+    slice_get-get_or t.reasons n None within ∙ ap (λ (r : Option ℕ). Some r) (subst (λ (r : State). get_or r.trail.reasons n None ≡ None) (sym is) none)

@@ -1,12 +1,11 @@
 -- What a visit finds of a clause.
-use Rattle.std.proofs.Common.{◌≡◌, ◌≢◌, ℕ, zero, suc, ◌+◌, ◌-◌, ◌*◌, ◌<◌, ◌≤◌, ◌⊎◌, inl, inr, Bool, true, false, ℤ, pos, List, [], ◌∷◌, ◌++◌, length, take, drop, get_or, set, Option, None, Some, refl, sym, ap, subst, ◌∙◌, arith, nat_abs}
-use Rattle.std.specs.Prelude.{⊤, Contains}
+use Rattle.std.proofs.Common.{◌≡◌, ◌≢◌, ℕ, ◌+◌, ◌-◌, ◌<◌, ◌⊎◌, inl, inr, false, ℤ, pos, List, [], ◌∷◌, length, get_or, None, Some, sym, ap, subst, ◌∙◌, arith, nat_abs}
+use Rattle.std.specs.Prelude.{Contains}
 use Rattle.pg_cnf.specs.Literals.{IsLiteral, AreClauses}
-use Rattle.pg_watch.specs.declared.lists.Watch.{Watch}
 use Rattle.pg_watch.specs.declared.index.Pair.{Pair}
-use Rattle.pg_watch.specs.Trail.{Trail, value_of, AreFalse, AreFalseBut, IsUnit, IsConflict, clause_at, pushed, IsTrail}
+use Rattle.pg_watch.specs.Trail.{Trail, value_of, AreFalse, AreFalseBut, IsConflict, pushed, IsTrail}
 use Rattle.pg_watch.specs.Fixes.{Steps}
-use Rattle.pg_watch.specs.Watching.{literals_at, pair_at, HasTrue, IsPair, Has, ArePairs, no_pair, IsIndex}
+use Rattle.pg_watch.specs.Watching.{literals_at, pair_at, HasTrue, IsPair, Has, ArePairs, no_pair}
 use Rattle.std.proofs.lemmas.List.{get_or_read}
 use Rattle.pg_watch.proofs.Values.{value_of-push_same}
 use Rattle.pg_watch.proofs.Tables.{same_or_not}

@@ -1,13 +1,12 @@
 -- A walk over the clauses that watch a literal.
-use Rattle.std.proofs.Common.{◌≡◌, ◌≢◌, ℕ, zero, suc, ◌+◌, ◌-◌, ◌<◌, ◌≤◌, ◌⊎◌, inl, inr, Bool, true, false, ℤ, pos, List, length, get_or, Option, None, Some, refl, sym, ap, subst, ◌∙◌, arith}
-use Rattle.std.specs.Prelude.{⊤}
+use Rattle.std.proofs.Common.{◌≡◌, ℕ, ◌+◌, ◌<◌, ◌≤◌, ◌⊎◌, inl, inr, false, ℤ, pos, List, length, get_or, Some, sym, ap, subst, arith}
 use Rattle.std.proofs.lemmas.Bool.{cases_lt}
 use Rattle.pg_cnf.specs.Literals.{IsLiteral}
 use Rattle.pg_watch.specs.declared.lists.Watch.{Watch}
 use Rattle.pg_watch.specs.declared.index.Pair.{Pair}
 use Rattle.pg_watch.specs.Trail.{Trail, value_of}
 use Rattle.pg_watch.specs.Places.{place_of}
-use Rattle.pg_watch.specs.Watching.{pair_at, list_at, entry_at, Has, IsEntry, IsListed, IsAttached, IsSettled, IsIndex, Keeps}
+use Rattle.pg_watch.specs.Watching.{list_at, entry_at, IsAttached, IsSettled, IsIndex, Keeps}
 use Rattle.pg_watch.specs.Visits.{HasStayed}
 use Rattle.pg_watch.specs.Walks.{HasLeft}
 use Rattle.pg_watch.proofs.Keeps.{Keeps-same, Keeps-more, value_of-later}
@@ -39,7 +38,7 @@ walking-none cs s ls ps gone h l f = record {
 }
 
 module _ (cs : List (List ℤ)) (r s t : Trail) (ks ls ms : List (List Watch)) (os ps qs : List Pair) (gone : ℤ) (at : ℕ)
-  (h : IsWalking cs r s ks ls os ps gone at) (k : Keeps cs s t ls ms ps qs) where
+    (h : IsWalking cs r s ks ls os ps gone at) (k : Keeps cs s t ls ms ps qs) where
   later_false : value_of t.literals gone ≡ Some false
   later_false = value_of-later s.literals t.literals gone false k.steps.extends.literals h.gone_false
 

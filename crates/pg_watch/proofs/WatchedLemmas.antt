@@ -1,27 +1,24 @@
 -- Clauses, trail and watches go on together.
-use Rattle.std.proofs.Common.{◌≡◌, ◌≢◌, ℕ, zero, suc, ◌+◌, ◌-◌, ◌*◌, ◌<◌, ◌≤◌, ◌^◌, ◌⊎◌, inl, inr, Bool, true, false, ℤ, pos, List, [], ◌∷◌, ◌++◌, length, take, drop, get_or, set, replicate, Option, None, Some, slice_get, refl, sym, ap, subst, ◌∙◌, arith, append_assoc, length-append}
-use Rattle.std.specs.Prelude.{⊤, Contains, Result, Ok, Err, OnOk, OnErr}
-use Rattle.std.specs.declared.alloc.AllocError.{AllocError}
+use Rattle.std.proofs.Common.{◌≡◌, ◌≢◌, ℕ, zero, suc, ◌+◌, ◌-◌, ◌<◌, ◌≤◌, ◌^◌, ◌⊎◌, inl, inr, Bool, false, ℤ, pos, List, [], ◌∷◌, ◌++◌, length, take, drop, get_or, set, Option, None, Some, slice_get, refl, sym, ap, subst, ◌∙◌, arith, length-append}
+use Rattle.std.specs.Prelude.{Contains}
 use Rattle.std.proofs.lemmas.Bool.{cases_lt}
-use Rattle.std.proofs.lemmas.List.{get_or_append_left, get_or_push, get_or-replicate, take_at, take_all, take-take, length-take-le, take-append-drop, take-append-le}
+use Rattle.std.proofs.lemmas.List.{get_or_append_left, get_or_push, take_at}
 use Rattle.std.proofs.lemmas.List.Elements.{Contains-append_left, Contains-push}
 use Rattle.std.proofs.lemmas.Option.{slice_get_within}
-use Rattle.pg_cnf.specs.Literals.{IsLiteral, IsClause, AreClauses}
+use Rattle.pg_cnf.specs.Literals.{IsClause, AreClauses}
 use Rattle.pg_cnf.proofs.LiteralLemmas.{AreClauses-push}
 use Rattle.pg_watch.specs.declared.lists.Watch.{Watch}
 use Rattle.pg_watch.specs.declared.index.Pair.{Pair}
-use Rattle.pg_watch.specs.Trail.{cut, pushed, value_of, AreSet, AreFalse, AreFalseBut, Extends, AreDerived, IsSomeNumber, IsOpen, IsUnit, IsFalsified, Trail, HasReason, HaveReasons, IsReason, IsNumber, clause_at, IsTrail, IsQuiet}
-use Rattle.pg_watch.specs.Fixes.{ArePlaces, AreOpen, Steps}
+use Rattle.pg_watch.specs.Trail.{cut, pushed, value_of, AreSet, Extends, AreDerived, IsOpen, IsUnit, Trail, HasReason, HaveReasons, IsNumber, clause_at, IsTrail, IsQuiet}
+use Rattle.pg_watch.specs.Fixes.{ArePlaces, AreOpen}
 use Rattle.pg_watch.specs.Places.{place_of}
-use Rattle.pg_watch.specs.State.{State}
-use Rattle.pg_watch.specs.Watching.{no_pair, no_watch, literals_at, pair_at, list_at, entry_at, HasTrue, IsPair, Has, ArePairs, IsEntry, AreEntries, IsListed, IsAttached, Guards, IsGuarded, IsIndex, Keeps}
-use Rattle.pg_watch.specs.Runs.{IsNow, Runs}
+use Rattle.pg_watch.specs.Watching.{no_pair, literals_at, pair_at, entry_at, HasTrue, IsPair, Has, IsEntry, IsListed, Guards, IsGuarded, IsIndex}
+use Rattle.pg_watch.specs.Runs.{Runs}
 use Rattle.pg_watch.specs.Assigned.{IsAssigned}
 use Rattle.pg_watch.specs.Watched.{IsKept, IsWatched}
-use Rattle.pg_watch.proofs.Steps.{length-reasons, IsTrail-push, Extends-longer, take-length}
-use Rattle.pg_watch.proofs.Keeps.{take-front, HasTrue-whole, HasTrue-later}
+use Rattle.pg_watch.proofs.Steps.{length-reasons}
+use Rattle.pg_watch.proofs.Keeps.{take-front}
 use Rattle.pg_watch.proofs.Removes.{IsIndex-keeps}
-use Rattle.pg_watch.proofs.RunLemmas.{true_all}
 
 clause_at-more : (cs : List (List ℤ)) (c : List ℤ) (k : ℕ) → IsNumber cs k → clause_at (cs ++ c ∷ []) k ≡ clause_at cs k
 clause_at-more cs c k h = get_or_append_left cs (c ∷ []) [] (k - 1) (omega (arith, h.from_one, h.there))
@@ -144,6 +141,7 @@ one_more cs t q fresh ls ps head c h clause room = record {
         Contains (fresh ++ length cs ∷ []) k ⊎ IsKept (cs ++ c ∷ []) t ls (ps ++ no_pair ∷ []) head k
     kept_old k lt (inl e) = inl (Contains-append_left fresh (length cs ∷ []) k e)
     kept_old k lt (inr e) = inr (kept-more cs t ls ps c h.index head k lt e)
+
     kept_all : (k : ℕ) → k < length cs + 1 → (k < length cs) ⊎ (length cs ≤ k) →
         Contains (fresh ++ length cs ∷ []) k ⊎ IsKept (cs ++ c ∷ []) t ls (ps ++ no_pair ∷ []) head k
     kept_all k all (inl lt) = kept_old k lt (h.kept k lt)
@@ -162,7 +160,6 @@ not_quiet cs t q fresh ls ps head h = record {
   assigned = h.assigned;
   kept = h.kept;
 }
-
 
 -- back to where it was
 pub cut-extends : (cs : List (List ℤ)) (t u : Trail) (n : ℕ) → IsTrail cs t → Extends t u → n ≡ length t.literals → cut u n ≡ t
@@ -199,7 +196,6 @@ IsTrail-cut cs t n h = record {
   set = AreSet-take t.variables [] t.literals n h.set;
   reasoned = HaveReasons-take cs [] t.literals t.reasons n h.reasoned;
 }
-
 
 -- which places were assigned
 AreDerived-at : (rs : List (Option ℕ)) (d : ℕ) → AreDerived rs → slice_get rs d ≡ Some None → ⊥
@@ -257,16 +253,16 @@ guarded-same cs xs ys ps a n k e f g =
 
 -- propagation went on
 module _ (cs : List (List ℤ)) (t u : Trail) (q : Bool) (fresh : List ℕ) (ls ms : List (List Watch)) (ps qs : List Pair) (h i : ℕ)
-  (w : IsWatched cs t q fresh ls ps h) (r : Runs cs t u ls ms ps qs h i) where
+    (w : IsWatched cs t q fresh ls ps h) (r : Runs cs t u ls ms ps qs h i) where
   kept-run : (k : ℕ) → k < length cs → Contains fresh k ⊎ IsKept cs t ls ps h k → Contains fresh k ⊎ IsKept cs u ms qs i k
   kept-run k lt (inl e) = inl e
   kept-run k lt (inr e) = inr (record {
     attached = r.keeps.attached k lt e.attached;
     now = r.now k lt e.attached e.now;
     below = λ d is. (
-      let old = assigned-before t u d r.keeps.steps.extends is in
-      let less = assigned-within cs t d w.index.trail old in
-      r.keeps.guarded k d d lt (omega arith) (omega arith) (e.below d old));
+        let old = assigned-before t u d r.keeps.steps.extends is in
+        let less = assigned-within cs t d w.index.trail old in
+        r.keeps.guarded k d d lt (omega arith) (omega arith) (e.below d old));
   })
 
   pub after_run : IsWatched cs u false fresh ms qs i
@@ -293,8 +289,8 @@ module _ (cs : List (List ℤ)) (t u : Trail) (q : Bool) (fresh : List ℕ) (ls 
     attached = r.keeps.attached k lt e.attached;
     now = guarded-back h (length t.literals) k lt w.within (omega arith) e.now;
     below = λ d is. (
-      let less = assigned-within cs t d w.index.trail is in
-      guarded-back d d k lt (omega arith) (omega arith) (e.below d is));
+        let less = assigned-within cs t d w.index.trail is in
+        guarded-back d d k lt (omega arith) (omega arith) (e.below d is));
   })
 
   pub after_back : IsWatched cs t false fresh ms qs h
@@ -328,4 +324,3 @@ index-trail cs t u ls ps h e trail = record {
   entries = h.entries;
   pairs = h.pairs;
 }
-

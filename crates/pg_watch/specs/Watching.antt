@@ -1,5 +1,5 @@
 -- What the watches of clauses keep.
-use Rattle.std.specs.Prelude.{◌≡◌, ◌≢◌, ◌⊎◌, ℕ, ◌+◌, ◌-◌, ◌*◌, ◌^◌, ◌<◌, ◌≤◌, ⊤, Bool, true, false, ℤ, pos, List, [], ◌∷◌, length, take, drop, Option, None, Some, Contains, slice_index_or, slice_get}
+use Rattle.std.specs.Prelude.{◌≡◌, ◌≢◌, ◌⊎◌, ℕ, ◌+◌, ◌-◌, ◌*◌, ◌^◌, ◌<◌, ◌≤◌, true, false, ℤ, pos, List, [], length, take, Some, Contains, slice_index_or}
 use Rattle.pg_watch.specs.declared.lists.Watch.{Watch}
 use Rattle.pg_watch.specs.declared.index.Pair.{Pair}
 use Rattle.pg_cnf.specs.Literals.{AreClauses}

@@ -53,6 +53,13 @@ impl Assignment {
         })
     }
 
+    /// How many variables there are.
+    pub fn variables(&self) -> u32
+        ensures { result ≡ self.now.variables }
+    {
+        self.variables
+    }
+
     /// How many literals are set.
     pub fn len(&self) -> usize
         ensures len { result ≡ length self.now.literals }

@@ -39,9 +39,9 @@ impl Model for Watches {
 }
 
 impl Watches {
-    ghost use Rattle.std.specs.Prelude.{◌≡◌, ◌+◌, ◌-◌, ◌<◌, ◌≤◌, ◌^◌, ◌++◌, ◌∷◌, [], length, true, false, None, IfOk, OnOk, OnErr, slice_index_or, slice_get, Some, IsTrue, ◌↔◌};
+    ghost use Rattle.std.specs.Prelude.{◌≡◌, ◌+◌, ◌-◌, ◌<◌, ◌≤◌, ◌^◌, ◌++◌, ◌∷◌, [], length, true, false, None, IfOk, OnOk, OnErr, slice_index_or, IsTrue, ◌↔◌};
     ghost use Rattle.pg_cnf.specs.Literals.{IsClause, IsLiteral};
-    ghost use Rattle.pg_watch.specs.Trail.{value_of, IsTrail, Extends, cut, pushed, clause_at, IsNumber};
+    ghost use Rattle.pg_watch.specs.Trail.{value_of, IsTrail, Extends, IsQuiet, cut, pushed, clause_at, IsNumber};
     ghost use Rattle.pg_watch.specs.Fixes.{IsEnd, is_quiet};
 
     /// Holds the clauses of a formula, and sets nothing. The error is want of memory.
@@ -181,7 +181,8 @@ impl Watches {
 
     /// Cuts the trail to its first `len` literals, at the place of one that was assigned. It takes no memory.
     pub fn undo(&mut self, len: usize)
-        requires { slice_get self.old.trail.reasons len ≡ Some None }
+        requires within { len < length self.old.trail.literals }
+        requires assigned { slice_index_or self.old.trail.reasons len None ≡ None }
         ensures clauses { self.new.clauses ≡ self.old.clauses }
         ensures trail { self.new.trail ≡ cut self.old.trail len }
         ensures quiet { self.new.quiet ≡ false }
@@ -224,6 +225,21 @@ impl Watches {
         self.clauses.clause(number as usize - 1)
     }
 
+    /// Whether nothing is left to propagate.
+    pub fn is_quiet(&self) -> bool
+        ensures quiet { result ≡ self.now.quiet }
+        ensures right { self.now.quiet ≡ true → IsQuiet self.now.clauses self.now.trail.literals }
+    {
+        self.quiet
+    }
+
+    /// How many variables there are.
+    pub fn variables(&self) -> u32
+        ensures { result ≡ self.now.trail.variables }
+    {
+        self.trail.variables()
+    }
+
     /// How many clauses there are.
     pub fn len(&self) -> usize
         ensures { result ≡ length self.now.clauses }
@@ -240,11 +256,7 @@ impl Watches {
 }
 
 /// A place among the fresh ones, and an empty pair beside it. The error is want of memory, and both stay.
-fn register(
-    fresh: &mut Vec<u32>,
-    pairs: &mut Vec<Pair>,
-    place: u32,
-) -> Result<(), AllocError>
+fn register(fresh: &mut Vec<u32>, pairs: &mut Vec<Pair>, place: u32) -> Result<(), AllocError>
     ensures fresh { OnOk result (fresh.new.items ≡ fresh.old.items ++ place ∷ []) }
     ensures pairs { OnOk result (pairs.new.items ≡ pairs.old.items ++ no_pair ∷ []) }
     ensures same_fresh { OnErr result (fresh.new.items ≡ fresh.old.items) }

@@ -1,5 +1,4 @@
 use Rattle.std.proofs.Common.{arith, sym, subst, ℕ, List, length, ◌<◌}
-use Rattle.std.specs.List.{swap_remove}
 use Rattle.pg_watch.specs.Fixes.{ArePlaces}
 use Rattle.pg_watch.specs.Watched.{IsWatched}
 use Rattle.pg_watch.proofs.JoinLemmas.{places_at, places_less, watched_stays, watched_leaves, fresh_read, fresh_there}

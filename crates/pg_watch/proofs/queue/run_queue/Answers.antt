@@ -1,4 +1,4 @@
-use Rattle.std.proofs.Common.{SFits, w32, rules, arith, sym, ap, subst, ◌∙◌, ◌≡◌, ℕ, ℤ, pos, neg_ℤ, get_or, length, ◌<◌, Some, false, List}
+use Rattle.std.proofs.Common.{SFits, w32, rules, arith, sym, ap, subst, ◌∙◌, ℕ, ℤ, length, ◌<◌}
 use Rattle.std.proofs.lemmas.Int.{to_z-of_z}
 use Rattle.pg_cnf.specs.Literals.{IsLiteral}
 use Rattle.pg_watch.specs.Trail.{value_of}
@@ -28,8 +28,13 @@ walk_list-requires-clause-gone c =
 pub loop-head-smaller : goal.loop-head-smaller
 loop-head-smaller c =
     let t = c.loop-head.trail in
-    omega (arith, c.loop-head-test.true, c.len.ensures.len, c.walk_list.ensures.keeps.steps.extends.variables,
-    AreSet-short t.variables t.literals c.loop-head.invariant.index.trail.set)
+    omega (
+      arith,
+      c.loop-head-test.true,
+      c.len.ensures.len,
+      c.walk_list.ensures.keeps.steps.extends.variables,
+      AreSet-short t.variables t.literals c.loop-head.invariant.index.trail.set,
+    )
 
 pub loop-head-preserved : goal.loop-head-preserved
 loop-head-preserved c =

@@ -13,8 +13,15 @@ turns-smaller c =
     let r = c.take_turn.ensures.runs in
     let turn : IsTurn c.args.clauses.now c.turns.trail c.take_turn.new.trail c.args.places.now c.take_turn.new.head =
     subst (IsTurned c.args.clauses.now c.turns.trail c.take_turn.new.trail c.args.places.now c.take_turn.new.head) c.in-Ok-Quiet.field-0-is c.in-Ok-Quiet.ensures.turned in
-    omega (arith, turn.far, r.within, c.len.ensures.len, c.if-len-head.false, r.keeps.steps.extends.variables,
-    AreSet-short c.take_turn.new.trail.variables c.take_turn.new.trail.literals r.keeps.steps.trail.set)
+    omega (
+      arith,
+      turn.far,
+      r.within,
+      c.len.ensures.len,
+      c.if-len-head.false,
+      r.keeps.steps.extends.variables,
+      AreSet-short c.take_turn.new.trail.variables c.take_turn.new.trail.literals r.keeps.steps.trail.set,
+    )
 
 pub turns-preserved : goal.turns-preserved
 turns-preserved c = record {

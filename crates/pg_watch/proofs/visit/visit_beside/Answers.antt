@@ -1,8 +1,7 @@
-use Rattle.std.proofs.Common.{SFits, w32, rules, refl, sym, ap, subst, ◌∙◌, ◌<◌, List, ℤ, arith, length}
+use Rattle.std.proofs.Common.{SFits, w32, rules, refl, sym, subst, List, ℤ, arith}
 use Rattle.std.proofs.lemmas.Int.{to_z-of_z}
 use Rattle.pg_cnf.specs.Literals.{AreLiterals}
 use Rattle.std.specs.Prelude.{Contains}
-use Rattle.pg_watch.specs.Places.{place_of}
 use Rattle.pg_watch.specs.Watching.{Keeps}
 use Rattle.pg_watch.specs.declared.lists.Watch.{Watch}
 use Rattle.pg_watch.specs.declared.index.Pair.{Pair}

@@ -1,8 +1,6 @@
-use Rattle.std.proofs.Common.{SFits, w32, rules, sym, ap, subst, ◌∙◌, ◌<◌, arith, length}
+use Rattle.std.proofs.Common.{SFits, w32, rules, sym, subst}
 use Rattle.std.proofs.lemmas.Int.{to_z-of_z}
-use Rattle.std.proofs.lemmas.List.{get_or_read}
 use Rattle.pg_watch.specs.Watching.{literals_at, IsPair}
-use Rattle.pg_watch.specs.declared.index.Pair.{Pair}
 use Rattle.pg_watch.proofs.VisitLemmas.{literal_there, pair_read, pair_found}
 use Rattle.pg_watch.proofs.visit.visit_clause.Goals as goal
 

@@ -1,4 +1,4 @@
-use Rattle.std.proofs.Common.{w32, subst, arith, ℕ, length, ◌<◌, ◌+◌, to_z, of_z}
+use Rattle.std.proofs.Common.{w32, subst, arith, ℕ, length, ◌<◌, to_z, of_z}
 use Rattle.pg_watch.specs.Places.{place_of}
 use Rattle.pg_watch.specs.Watching.{list_at, entry_at}
 use Rattle.pg_watch.specs.Visits.{HasStayed}
