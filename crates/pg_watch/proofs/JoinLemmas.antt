@@ -10,10 +10,10 @@ use Rattle.pg_watch.specs.declared.index.Pair.{Pair}
 use Rattle.pg_watch.specs.Trail.{Trail, value_of}
 use Rattle.pg_watch.specs.Fixes.{ArePlaces}
 use Rattle.pg_watch.specs.Places.{place_of}
-use Rattle.pg_watch.specs.Watching.{no_pair, literals_at, pair_at, list_at, IsPair, Has, IsEntry, IsListed, IsAttached, Guards, IsGuarded, IsIndex}
+use Rattle.pg_watch.specs.Watching.{no_pair, literals_at, pair_at, list_at, IsPair, Has, IsEntry, IsListed, IsAttached, Guards, IsGuarded, IsIndex, HasTrue}
 use Rattle.pg_watch.specs.Joins.{MayWatch, IsChoice, KeepsOthers, IsJoined}
 use Rattle.pg_watch.specs.Assigned.{IsAssigned}
-use Rattle.pg_watch.specs.Watched.{IsKept, IsWatched}
+use Rattle.pg_watch.specs.Watched.{IsKept, IsHeld, IsWatched}
 use Rattle.pg_watch.proofs.Keeps.{value_of-whole}
 use Rattle.pg_watch.proofs.RunLemmas.{true_all}
 use Rattle.pg_watch.proofs.Tables.{place_of-lt}
@@ -186,11 +186,12 @@ module _ (cs : List (List ℤ)) (t : Trail) (q : Bool) (fresh : List ℕ) (ls ms
   }
 
   -- the clause stays fresh
-  stays-cases : (j : ℕ) → (j ≡ k) ⊎ (j ≢ k) → Contains fresh k → j < length cs → Contains fresh j ⊎ IsKept cs t ls ps h j →
-      Contains fresh j ⊎ IsKept cs t ms qs h j
+  stays-cases : (j : ℕ) → (j ≡ k) ⊎ (j ≢ k) → Contains fresh k → j < length cs → Contains fresh j ⊎ IsHeld cs t ls ps h j →
+      Contains fresh j ⊎ IsHeld cs t ms qs h j
   stays-cases j (inl same) there lt e = inl (subst (Contains fresh) (sym same) there)
   stays-cases j (inr d) there lt (inl e) = inl e
-  stays-cases j (inr d) there lt (inr e) = inr (kept_other j d lt e)
+  stays-cases j (inr d) there lt (inr (inl e)) = inr (inl (kept_other j d lt e))
+  stays-cases j (inr d) there lt (inr (inr e)) = inr (inr e)
 
   pub watched_stays : Contains fresh k → IsWatched cs t q fresh ms qs h
   watched_stays there = record {
@@ -204,8 +205,8 @@ module _ (cs : List (List ℤ)) (t : Trail) (q : Bool) (fresh : List ℕ) (ls ms
   }
 
   -- it leaves
-  module _ (low i x : ℕ) (lt : i < length fresh) (joined : IsJoined cs t.literals ms qs k low) (lows : (d : ℕ) → IsAssigned t d → d ≤ low) where
-    own_kept : IsKept cs t ms qs h k
+  module _ (low : ℕ) (joined : IsJoined cs t.literals ms qs k low) (lows : (d : ℕ) → IsAssigned t d → d ≤ low) where
+    pub own_kept : IsKept cs t ms qs h k
     own_kept =
         let c = literals_at cs k in let p = pair_at qs k in
         let first : Guards t.literals h (length t.literals) c p.first = joined_guards t.literals c low h p.first joined.choice.first in
@@ -216,11 +217,13 @@ module _ (cs : List (List ℤ)) (t : Trail) (q : Bool) (fresh : List ℕ) (ls ms
           below = λ d a. (joined_below t.literals c low d p.first joined.choice.first (lows d a), joined_below t.literals c low d p.second joined.choice.second (lows d a));
         }
 
-    leaves-cases : (j : ℕ) → (j ≡ k) ⊎ (j ≢ k) → (j ≢ k → j ≡ get_or fresh i j → ⊥) → j < length cs → Contains fresh j ⊎ IsKept cs t ls ps h j →
-        Contains (swap_remove fresh i x) j ⊎ IsKept cs t ms qs h j
-    leaves-cases j (inl same) away less e = inr (subst (IsKept cs t ms qs h) (sym same) own_kept)
+  module _ (i x : ℕ) (lt : i < length fresh) (own : IsHeld cs t ms qs h k) where
+    leaves-cases : (j : ℕ) → (j ≡ k) ⊎ (j ≢ k) → (j ≢ k → j ≡ get_or fresh i j → ⊥) → j < length cs → Contains fresh j ⊎ IsHeld cs t ls ps h j →
+        Contains (swap_remove fresh i x) j ⊎ IsHeld cs t ms qs h j
+    leaves-cases j (inl same) away less e = inr (subst (IsHeld cs t ms qs h) (sym same) own)
     leaves-cases j (inr d) away less (inl e) = inl (contains_still fresh i x lt j (away d) e)
-    leaves-cases j (inr d) away less (inr e) = inr (kept_other j d less e)
+    leaves-cases j (inr d) away less (inr (inl e)) = inr (inl (kept_other j d less e))
+    leaves-cases j (inr d) away less (inr (inr e)) = inr (inr e)
 
     pub watched_leaves : ((j : ℕ) → k ≡ get_or fresh i j) → IsWatched cs t q (swap_remove fresh i x) ms qs h
     watched_leaves here = record {
@@ -285,3 +288,11 @@ whole_joined cs t ls ms ns ps qs k at p h lt pair here e f g =
       attached = attached_pair cs ns qs k p (pair_own cs t ns ps qs k p index lt pair g) pair (listed (place_of p.first) k half.first)
           (own_entry cs t ms ns ps (place_of p.second) w half.index within own f);
     }
+
+-- a clause that is true before any literal was assigned
+pub watched_sure : (cs : List (List ℤ)) (t : Trail) (q : Bool) (fresh : List ℕ) (ls : List (List Watch)) (ps : List Pair) (h k i x : ℕ) →
+    IsWatched cs t q fresh ls ps h → i < length fresh → HasTrue t.literals (literals_at cs k) → ((d : ℕ) → IsAssigned t d → ⊥) →
+    ((j : ℕ) → k ≡ get_or fresh i j) → IsWatched cs t q (swap_remove fresh i x) ls ps h
+watched_sure cs t q fresh ls ps h k i x w lt holds none here =
+    watched_leaves cs t q fresh ls ls ps ps h k w w.index (keeps_others cs ls ls ps ps k (λ b j l. l) (λ j d. refl)) i x lt
+    (inr (record { now = holds; below = λ d a. absurd (none d a) })) here

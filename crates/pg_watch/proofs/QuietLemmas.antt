@@ -7,7 +7,7 @@ use Rattle.pg_watch.specs.declared.index.Pair.{Pair}
 use Rattle.pg_watch.specs.Trail.{Trail, value_of, AreFalse, AreFalseBut, IsFalsified, IsUnit, IsOpen, IsQuiet}
 use Rattle.pg_watch.specs.Fixes.{AreOpen}
 use Rattle.pg_watch.specs.Watching.{literals_at, pair_at, HasTrue, IsPair, Guards}
-use Rattle.pg_watch.specs.Watched.{IsKept, IsWatched}
+use Rattle.pg_watch.specs.Watched.{IsKept, IsHeld, IsWatched}
 use Rattle.pg_watch.proofs.Tables.{same_or_not}
 use Rattle.pg_watch.proofs.WatchedLemmas.{IsQuiet-each, AreOpen-contains}
 
@@ -68,9 +68,13 @@ kept_open cs t ls ps h k kept e =
     (whole_guard t.literals (literals_at cs k) h (pair_at ps k).second e kept.now.1)
 
 open-cases : (cs : List (List ℤ)) (t : Trail) (fresh : List ℕ) (ls : List (List Watch)) (ps : List Pair) (h k : ℕ) → h ≡ length t.literals →
-    AreOpen cs t.literals fresh → Contains fresh k ⊎ IsKept cs t ls ps h k → IsOpen t.literals (literals_at cs k)
+    AreOpen cs t.literals fresh → Contains fresh k ⊎ IsHeld cs t ls ps h k → IsOpen t.literals (literals_at cs k)
 open-cases cs t fresh ls ps h k e all (inl there) = AreOpen-contains cs t.literals fresh k all there
-open-cases cs t fresh ls ps h k e all (inr kept) = kept_open cs t ls ps h k kept e
+open-cases cs t fresh ls ps h k e all (inr (inl kept)) = kept_open cs t ls ps h k kept e
+open-cases cs t fresh ls ps h k e all (inr (inr sure)) = record {
+  not_falsified = not_all_false t.literals (literals_at cs k) sure.now;
+  not_unit = λ z u. not_but_one t.literals (literals_at cs k) z sure.now u.unset u.others;
+}
 
 pub nothing_left : (cs : List (List ℤ)) (t : Trail) (q : Bool) (fresh : List ℕ) (ls : List (List Watch)) (ps : List Pair) (h : ℕ) →
     IsWatched cs t q fresh ls ps h → h ≡ length t.literals → AreOpen cs t.literals fresh → IsQuiet cs t.literals

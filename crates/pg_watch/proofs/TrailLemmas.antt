@@ -12,7 +12,7 @@ use Rattle.pg_watch.specs.Trail.{Trail, value_of, cut, pushed, IsTrail, AreSet, 
 use Rattle.pg_watch.specs.Watching.{no_pair, literals_at, pair_at, list_at, HasTrue, Guards, IsGuarded}
 use Rattle.pg_watch.specs.Runs.{IsNow}
 use Rattle.pg_watch.specs.Assigned.{IsAssigned}
-use Rattle.pg_watch.specs.Watched.{IsKept, IsWatched}
+use Rattle.pg_watch.specs.Watched.{IsKept, IsSure, IsHeld, IsWatched}
 use Rattle.pg_watch.proofs.Steps.{length-reasons, IsTrail-push}
 use Rattle.pg_watch.proofs.Keeps.{HasTrue-whole}
 use Rattle.pg_watch.proofs.RunLemmas.{true_all}
@@ -53,13 +53,24 @@ module _ (cs : List (List ℤ)) (t u : Trail) (fresh : List ℕ) (ls : List (Lis
   split : (d : ℕ) → IsAssigned u d → (IsAssigned t d) ⊎ (d ≡ length t.reasons)
   split d a = assigned-push t.reasons None d (subst (λ (s : Trail). IsAssigned s d) is a)
 
-  kept-assigned : (k : ℕ) → Contains fresh k ⊎ IsKept cs t ls ps h k → Contains fresh k ⊎ IsKept cs u ls ps h k
+  sure-cases : (k d : ℕ) → IsSure cs t k → (IsAssigned t d) ⊎ (d ≡ length t.reasons) → HasTrue (take d u.literals) (literals_at cs k)
+  sure-cases k d e (inl old) =
+      let lt = assigned-within cs t d w.index.trail old in
+      subst (λ (xs : List ℤ). HasTrue xs (literals_at cs k)) (same_front d (omega arith)) (e.below d old)
+  sure-cases k d e (inr last) =
+      let whole : length t.literals ≡ d = omega (arith, last, length-reasons cs [] t.literals t.reasons w.index.trail.reasoned) in
+      let front : t.literals ≡ take d u.literals =
+      sym (take_all d t.literals (omega arith)) ∙ same_front d (omega arith) in
+      subst (λ (xs : List ℤ). HasTrue xs (literals_at cs k)) front e.now
+
+  kept-assigned : (k : ℕ) → Contains fresh k ⊎ IsHeld cs t ls ps h k → Contains fresh k ⊎ IsHeld cs u ls ps h k
   kept-assigned k (inl e) = inl e
-  kept-assigned k (inr e) = inr (record {
+  kept-assigned k (inr (inl e)) = inr (inl (record {
     attached = e.attached;
     now = now-more cs t.literals u.literals ps h k (same_front h w.within) (later (literals_at cs k)) e.now;
     below = λ d a. below-cases k d e (split d a);
-  })
+  }))
+  kept-assigned k (inr (inr e)) = inr (inr (record { now = later (literals_at cs k) e.now; below = λ d a. sure-cases k d e (split d a) }))
 
   assigned-cases : (d : ℕ) → (IsAssigned t d) ⊎ (d ≡ length t.reasons) → d ≤ h
   assigned-cases d (inl old) = w.assigned d old
@@ -93,16 +104,22 @@ module _ (cs : List (List ℤ)) (t u : Trail) (q : Bool) (fresh : List ℕ) (ls 
   old : (d : ℕ) → IsAssigned u d → Cut t.reasons n d
   old d a = assigned-take t.reasons n d (subst (λ (s : Trail). IsAssigned s d) is a)
 
-  kept-undone : (k : ℕ) → Contains fresh k ⊎ IsKept cs t ls ps h k → Contains fresh k ⊎ IsKept cs u ls ps n k
+  kept-undone : (k : ℕ) → Contains fresh k ⊎ IsHeld cs t ls ps h k → Contains fresh k ⊎ IsHeld cs u ls ps n k
   kept-undone k (inl e) = inl e
-  kept-undone k (inr e) = inr (record {
+  kept-undone k (inr (inl e)) = inr (inl (record {
     attached = e.attached;
     now = subst (λ (m : ℕ). IsGuarded cs u.literals ps n m k) (sym long)
         (guarded-same cs t.literals u.literals ps n n k (cut_front n (omega arith)) (cut_front n (omega arith)) (e.below n at));
     below = λ d a. (
         let before = old d a in
         guarded-same cs t.literals u.literals ps d d k (cut_front d (omega (arith, before.below))) (cut_front d (omega (arith, before.below))) (e.below d before.before));
-  })
+  }))
+  kept-undone k (inr (inr e)) = inr (inr (record {
+    now = subst (λ (xs : List ℤ). HasTrue xs (literals_at cs k)) (sym (ap (λ (s : Trail). s.literals) is)) (e.below n at);
+    below = λ d a. (
+        let before = old d a in
+        subst (λ (xs : List ℤ). HasTrue xs (literals_at cs k)) (cut_front d (omega (arith, before.below))) (e.below d before.before));
+  }))
 
   pub after_undo : IsWatched cs u false fresh ls ps n
   after_undo = record {

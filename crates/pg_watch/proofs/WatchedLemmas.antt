@@ -15,9 +15,9 @@ use Rattle.pg_watch.specs.Places.{place_of}
 use Rattle.pg_watch.specs.Watching.{no_pair, literals_at, pair_at, entry_at, HasTrue, IsPair, Has, IsEntry, IsListed, Guards, IsGuarded, IsIndex}
 use Rattle.pg_watch.specs.Runs.{Runs}
 use Rattle.pg_watch.specs.Assigned.{IsAssigned}
-use Rattle.pg_watch.specs.Watched.{IsKept, IsWatched}
+use Rattle.pg_watch.specs.Watched.{IsKept, IsSure, IsHeld, IsWatched}
 use Rattle.pg_watch.proofs.Steps.{length-reasons}
-use Rattle.pg_watch.proofs.Keeps.{take-front}
+use Rattle.pg_watch.proofs.Keeps.{take-front, HasTrue-later}
 use Rattle.pg_watch.proofs.Removes.{IsIndex-keeps}
 
 clause_at-more : (cs : List (List ℤ)) (c : List ℤ) (k : ℕ) → IsNumber cs k → clause_at (cs ++ c ∷ []) k ≡ clause_at cs k
@@ -122,6 +122,12 @@ module _ (cs : List (List ℤ)) (t : Trail) (ls : List (List Watch)) (ps : List 
     below = λ d is. guarded-more d d k lt (e.below d is);
   }
 
+  sure-more : (k : ℕ) → k < length cs → IsSure cs t k → IsSure (cs ++ c ∷ []) t k
+  sure-more k lt e = record {
+    now = subst (HasTrue t.literals) (sym (literals_at-more cs c k lt)) e.now;
+    below = λ d a. subst (HasTrue (take d t.literals)) (sym (literals_at-more cs c k lt)) (e.below d a);
+  }
+
 pub one_more : (cs : List (List ℤ)) (t : Trail) (q : Bool) (fresh : List ℕ) (ls : List (List Watch)) (ps : List Pair) (head : ℕ) (c : List ℤ) →
     IsWatched cs t q fresh ls ps head → IsClause t.variables c → length cs + 1 < 2 ^ 32 - 1 →
     IsWatched (cs ++ c ∷ []) t false (fresh ++ length cs ∷ []) ls (ps ++ no_pair ∷ []) head
@@ -137,13 +143,14 @@ one_more cs t q fresh ls ps head c h clause room = record {
   kept = λ k lt. kept_all k (omega (arith, lt, length-append cs (c ∷ []))) (cases_lt k (length cs));
 }
   where
-    kept_old : (k : ℕ) → k < length cs → Contains fresh k ⊎ IsKept cs t ls ps head k →
-        Contains (fresh ++ length cs ∷ []) k ⊎ IsKept (cs ++ c ∷ []) t ls (ps ++ no_pair ∷ []) head k
+    kept_old : (k : ℕ) → k < length cs → Contains fresh k ⊎ IsHeld cs t ls ps head k →
+        Contains (fresh ++ length cs ∷ []) k ⊎ IsHeld (cs ++ c ∷ []) t ls (ps ++ no_pair ∷ []) head k
     kept_old k lt (inl e) = inl (Contains-append_left fresh (length cs ∷ []) k e)
-    kept_old k lt (inr e) = inr (kept-more cs t ls ps c h.index head k lt e)
+    kept_old k lt (inr (inl e)) = inr (inl (kept-more cs t ls ps c h.index head k lt e))
+    kept_old k lt (inr (inr e)) = inr (inr (sure-more cs t ls ps c h.index k lt e))
 
     kept_all : (k : ℕ) → k < length cs + 1 → (k < length cs) ⊎ (length cs ≤ k) →
-        Contains (fresh ++ length cs ∷ []) k ⊎ IsKept (cs ++ c ∷ []) t ls (ps ++ no_pair ∷ []) head k
+        Contains (fresh ++ length cs ∷ []) k ⊎ IsHeld (cs ++ c ∷ []) t ls (ps ++ no_pair ∷ []) head k
     kept_all k all (inl lt) = kept_old k lt (h.kept k lt)
     kept_all k all (inr le) =
         let e : length cs ≡ k = omega arith in
@@ -254,16 +261,23 @@ guarded-same cs xs ys ps a n k e f g =
 -- propagation went on
 module _ (cs : List (List ℤ)) (t u : Trail) (q : Bool) (fresh : List ℕ) (ls ms : List (List Watch)) (ps qs : List Pair) (h i : ℕ)
     (w : IsWatched cs t q fresh ls ps h) (r : Runs cs t u ls ms ps qs h i) where
-  kept-run : (k : ℕ) → k < length cs → Contains fresh k ⊎ IsKept cs t ls ps h k → Contains fresh k ⊎ IsKept cs u ms qs i k
+  kept-run : (k : ℕ) → k < length cs → Contains fresh k ⊎ IsHeld cs t ls ps h k → Contains fresh k ⊎ IsHeld cs u ms qs i k
   kept-run k lt (inl e) = inl e
-  kept-run k lt (inr e) = inr (record {
+  kept-run k lt (inr (inl e)) = inr (inl (record {
     attached = r.keeps.attached k lt e.attached;
     now = r.now k lt e.attached e.now;
     below = λ d is. (
         let old = assigned-before t u d r.keeps.steps.extends is in
         let less = assigned-within cs t d w.index.trail old in
         r.keeps.guarded k d d lt (omega arith) (omega arith) (e.below d old));
-  })
+  }))
+  kept-run k lt (inr (inr e)) = inr (inr (record {
+    now = HasTrue-later t.literals u.literals (literals_at cs k) r.keeps.steps.extends.literals e.now;
+    below = λ d a. (
+        let before = assigned-before t u d r.keeps.steps.extends a in
+        let less = assigned-within cs t d w.index.trail before in
+        subst (λ (xs : List ℤ). HasTrue xs (literals_at cs k)) (sym (take-front d t.literals u.literals r.keeps.steps.extends.literals (omega arith))) (e.below d before));
+  }))
 
   pub after_run : IsWatched cs u false fresh ms qs i
   after_run = record {
@@ -283,15 +297,16 @@ module _ (cs : List (List ℤ)) (t u : Trail) (q : Bool) (fresh : List ℕ) (ls 
       guarded-same cs u.literals t.literals qs a n k (take-front a t.literals u.literals e low) (take-front n t.literals u.literals e high)
       (r.keeps.guarded k a n lt low high g)
 
-  kept-back : (k : ℕ) → k < length cs → Contains fresh k ⊎ IsKept cs t ls ps h k → Contains fresh k ⊎ IsKept cs t ms qs h k
+  kept-back : (k : ℕ) → k < length cs → Contains fresh k ⊎ IsHeld cs t ls ps h k → Contains fresh k ⊎ IsHeld cs t ms qs h k
   kept-back k lt (inl e) = inl e
-  kept-back k lt (inr e) = inr (record {
+  kept-back k lt (inr (inl e)) = inr (inl (record {
     attached = r.keeps.attached k lt e.attached;
     now = guarded-back h (length t.literals) k lt w.within (omega arith) e.now;
     below = λ d is. (
         let less = assigned-within cs t d w.index.trail is in
         guarded-back d d k lt (omega arith) (omega arith) (e.below d is));
-  })
+  }))
+  kept-back k lt (inr (inr e)) = inr (inr e)
 
   pub after_back : IsWatched cs t false fresh ms qs h
   after_back = record {

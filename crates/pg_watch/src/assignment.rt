@@ -4,7 +4,7 @@
 //! a second form of the list: contracts see the list alone, in which a literal is true where it stands, and false where its
 //! negation does. Propagation reads values and pushes; `cut` is what undoes.
 
-ghost use Rattle.std.specs.Prelude.{◌≡◌, ◌+◌, ◌<◌, ◌≤◌, ◌^◌, [], length, take, None, IfOk, OnOk, OnErr, slice_index_or, slice_set, ◌-◌, neg_ℤ, pos, ℕ};
+ghost use Rattle.std.specs.Prelude.{◌≡◌, ◌+◌, ◌<◌, ◌≤◌, ◌^◌, [], length, take, None, false, IfOk, OnOk, OnErr, slice_index_or, slice_set, ◌-◌, neg_ℤ, pos, ℕ};
 ghost use Rattle.pg_watch.specs.Assigned.{IsAssigned};
 ghost use Rattle.pg_cnf.specs.Literals.{IsLiteral};
 ghost use Rattle.pg_watch.specs.Trail.{value_of, pushed, cut, IsAssignment};
@@ -106,6 +106,18 @@ impl Assignment {
         ensures { (n : ℕ) → n ≤ result → value_of (take n self.now.literals) lit ≡ None }
     {
         self.wheres[lit.unsigned_abs() as usize] as usize
+    }
+
+    /// Whether a literal that is set has no reason. It takes time in those before the first of them.
+    pub fn has_assigned(&self) -> bool
+        ensures { result ≡ false → (d : ℕ) → IsAssigned self.now d → ⊥ }
+    {
+        for reason in self.reasons.as_slice() {
+            if reason.is_none() {
+                return true;
+            }
+        }
+        false
     }
 
     /// The place of the last literal that has no reason, or 0. It takes time in the literals behind it.

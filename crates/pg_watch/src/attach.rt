@@ -1,11 +1,15 @@
-//! Fresh clauses that get two literals to watch, so that they need no look at each settling.
+//! Fresh clauses that leave the fresh ones, so that they need no look at each settling.
 //!
+//! A clause with a literal that is true though none was assigned is true for good, and needs nothing. Another gets two
+//! literals to watch.
 //! A literal may be watched that is not false, or that got false with the last literal that was assigned or after it: an
 //! undoing frees it then. If it is false, another literal of the clause has to be true. A clause for which there are no two
 //! stays fresh, and so does one for whose watches there is no memory.
 
-ghost use Rattle.std.specs.Prelude.{◌≡◌, ◌≢◌, ℕ, ◌<◌, ◌≤◌, length, take, Contains, Some, None, false, true, IfSome, IsTrue, Bool};
-ghost use Rattle.pg_cnf.specs.Literals.{IsClause, AreLiterals};
+ghost use Rattle.std.specs.Prelude.{◌≡◌, ◌≢◌, ℕ, ◌<◌, ◌≤◌, length, take, Contains, Some, None, false, true, IfSome, IsTrue, Bool, List};
+ghost use Rattle.pg_watch.specs.declared.lists.Watch.{Watch};
+ghost use Rattle.pg_watch.specs.declared.index.Pair.{Pair};
+ghost use Rattle.pg_cnf.specs.Literals.{IsClause, AreLiterals, AreClauses};
 ghost use Rattle.pg_watch.specs.Trail.{value_of};
 ghost use Rattle.pg_watch.specs.Fixes.{ArePlaces};
 ghost use Rattle.pg_watch.specs.Watching.{literals_at, pair_at, IsIndex, IsPair, IsAttached};
@@ -17,11 +21,11 @@ use crate::arena::Arena;
 use crate::assignment::{Assignment, place_of};
 use crate::index::{Index, Pair};
 use crate::lists::Watch;
-use crate::look::open_literal;
+use crate::look::{has_true, open_literal};
 
 /// Lets each of the fresh clauses that can watch two literals, and takes it from them. It takes time in their literals, and
 /// in the length of the trail from the last assigned literal on.
-pub fn attach_each(clauses: &Arena, trail: &Assignment, index: &mut Index, fresh: &mut Vec<u32>)
+fn attach_each(clauses: &Arena, trail: &Assignment, index: &mut Index, fresh: &mut Vec<u32>)
     requires index { IsIndex clauses.now trail.now index.old.lists index.old.pairs.items }
     requires places { ArePlaces (length clauses.now) fresh.old.items }
     ensures { (q : Bool) (h : ℕ) → IsWatched clauses.now trail.now q fresh.old.items index.old.lists index.old.pairs.items h
@@ -35,6 +39,40 @@ pub fn attach_each(clauses: &Arena, trail: &Assignment, index: &mut Index, fresh
     while at < fresh.len() {
         let place = fresh[at];
         if attach(clauses, trail, index, place, low) {
+            let _ = fresh.swap_remove(at);
+        } else {
+            at += 1;
+        }
+    }
+}
+
+/// Takes from the fresh clauses those that need no look at each settling.
+pub fn release_each(clauses: &Arena, trail: &Assignment, index: &mut Index, fresh: &mut Vec<u32>)
+    requires index { IsIndex clauses.now trail.now index.old.lists index.old.pairs.items }
+    requires places { ArePlaces (length clauses.now) fresh.old.items }
+    ensures { (q : Bool) (h : ℕ) → IsWatched clauses.now trail.now q fresh.old.items index.old.lists index.old.pairs.items h
+        → IsWatched clauses.now trail.now q fresh.new.items index.new.lists index.new.pairs.items h }
+{
+    retire_each(clauses, trail, fresh);
+    attach_each(clauses, trail, index, fresh);
+}
+
+/// Takes from the fresh clauses those that are true for good: those with a literal that is true, where none was assigned. It
+/// takes time in their literals.
+fn retire_each(clauses: &Arena, trail: &Assignment, fresh: &mut Vec<u32>)
+    requires right { AreClauses trail.now.variables clauses.now }
+    requires places { ArePlaces (length clauses.now) fresh.old.items }
+    ensures places { ArePlaces (length clauses.now) fresh.new.items }
+    ensures watched { (q : Bool) (ls : List (List Watch)) (ps : List Pair) (h : ℕ) → IsWatched clauses.now trail.now q fresh.old.items ls ps h
+        → IsWatched clauses.now trail.now q fresh.new.items ls ps h }
+{
+    if fresh.is_empty() || trail.has_assigned() {
+        return;
+    }
+    let mut at = 0;
+    while at < fresh.len() {
+        let place = fresh[at];
+        if has_true(trail, clauses.clause(place as usize)) {
             let _ = fresh.swap_remove(at);
         } else {
             at += 1;

@@ -3,9 +3,10 @@
 //! A clause with a literal that is true, or with two that are unset, is open: nothing follows from it. Where all but one are
 //! false, that one follows; where all are, the trail contradicts it.
 
-ghost use Rattle.std.specs.Prelude.{◌≡◌, ◌≢◌, None, Some, false, IfNone, IfSome, Contains};
+ghost use Rattle.std.specs.Prelude.{◌≡◌, ◌≢◌, None, Some, false, IfNone, IfSome, IsTrue, Contains};
 ghost use Rattle.pg_watch.specs.Trail.{value_of, AreFalseBut};
 ghost use Rattle.pg_cnf.specs.Literals.{IsClause, AreLiterals};
+ghost use Rattle.pg_watch.specs.Watching.{HasTrue};
 ghost use Rattle.pg_watch.specs.Looks.{IsSeen, look_from};
 
 use crate::assignment::Assignment;
@@ -49,6 +50,19 @@ fn look_through(trail: &Assignment, clause: &[i32]) -> Look
         None => Look::Falsified,
         Some(lit) => Look::Unit(lit),
     }
+}
+
+/// Whether a literal of a clause is true.
+pub fn has_true(trail: &Assignment, clause: &[i32]) -> bool
+    requires { AreLiterals trail.now.variables clause.now }
+    ensures { IsTrue result → HasTrue trail.now.literals clause.now }
+{
+    for &lit in clause {
+        if let Some(true) = trail.value(lit) {
+            return true;
+        }
+    }
+    false
 }
 
 /// The first literal of a clause that is not false, but for one.

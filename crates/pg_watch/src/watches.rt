@@ -1,4 +1,14 @@
-//! Unit propagation over clauses and a trail.
+//! Clauses, a trail, and what follows: unit propagation with two watched literals a clause.
+//!
+//! A solver assigns a literal at a time, learns a clause where one is falsified, and undoes what it assigned: `assign`, `add`,
+//! `settle` and `undo` are its calls. After each the trail is one whose reasons are right, and where `settle` or `assign` is
+//! quiet no clause is left from which anything follows. That is what contracts say, in `specs/Trail.antt`; how it is found
+//! with no walk over all clauses is kept inside, as `specs/Watched.antt` says.
+//!
+//! The scheme is that of Chaff (Moskewicz and others, DAC 2001): a clause is looked at only when one of two literals that it
+//! watches gets false. An undoing moves no watch. That it need not rests on levels: a watched literal that is false has beside
+//! it one that is true and that no undoing frees before it. Where that could fail, as for a clause that was just added, the
+//! clause is fresh: each settling looks at it, until it may leave.
 
 ghost use Rattle.std.specs.Prelude.{◌≡◌, ◌+◌, ◌-◌, ◌<◌, ◌≤◌, ◌^◌, ◌++◌, ◌∷◌, [], length, true, false, None, IfOk, OnOk, OnErr, slice_index_or};
 ghost use Rattle.pg_cnf.specs.Literals.{IsClause, IsLiteral};
@@ -6,7 +16,7 @@ ghost use Rattle.pg_watch.specs.Watching.{no_pair};
 
 use crate::arena::Arena;
 use crate::assignment::Assignment;
-use crate::attach::attach_each;
+use crate::attach::release_each;
 use crate::fix::Fix;
 use crate::index::{Index, Pair};
 use crate::lists::Lists;
@@ -15,7 +25,8 @@ use pg_cnf::{Clause, Cnf};
 use std::alloc::{AllocError, Global};
 use std::marker::Model;
 
-/// Clauses, and the literals that are set, with what follows from them.
+/// Clauses, and the literals that are set, with what follows from them. Contracts see the clauses, the trail, and whether
+/// nothing is left to propagate.
 #[derive(Drop)]
 pub struct Watches {
     clauses: Arena,
@@ -107,14 +118,16 @@ impl Watches {
         }
     }
 
-    /// Sets what follows from what is set, clause by clause, until no clause is unit, or one is falsified. The error is want
-    /// of memory; then the trail is as it was.
+    /// Sets what follows from what is set, clause by clause, until no clause is unit, or one is falsified. It takes time in the
+    /// lists of the clauses that watch what got false, and in the fresh clauses. The error is want of memory; then the trail
+    /// is as it was.
     pub fn settle(&mut self) -> Result<Fix, AllocError>
         ensures clauses { self.new.clauses ≡ self.old.clauses }
         ensures trail { OnOk result (Extends self.old.trail self.new.trail) }
         ensures end { IfOk result (IsEnd self.new.clauses self.new.trail.literals) }
         ensures quiet { IfOk result (λ fix. self.new.quiet ≡ is_quiet fix) }
         ensures err { OnErr result (self.new.trail ≡ self.old.trail) }
+        ensures err_quiet { OnErr result (self.new.quiet ≡ false) }
     {
         self.quiet = false;
         let len = self.trail.len();
@@ -128,11 +141,11 @@ impl Watches {
         ) {
             Ok(Fix::Quiet) => {
                 self.quiet = true;
-                attach_each(&self.clauses, &self.trail, &mut self.index, &mut self.fresh);
+                release_each(&self.clauses, &self.trail, &mut self.index, &mut self.fresh);
                 Ok(Fix::Quiet)
             }
             Ok(Fix::Conflict(number)) => {
-                attach_each(&self.clauses, &self.trail, &mut self.index, &mut self.fresh);
+                release_each(&self.clauses, &self.trail, &mut self.index, &mut self.fresh);
                 Ok(Fix::Conflict(number))
             }
             Err(error) => {
@@ -154,6 +167,7 @@ impl Watches {
         ensures end { IfOk result (IsEnd self.new.clauses self.new.trail.literals) }
         ensures quiet { IfOk result (λ fix. self.new.quiet ≡ is_quiet fix) }
         ensures err { OnErr result (self.new.trail ≡ self.old.trail) }
+        ensures err_quiet { OnErr result (self.new.quiet ≡ false) }
     {
         let len = self.trail.len();
         self.decide(lit)?;
@@ -174,6 +188,7 @@ impl Watches {
         ensures clauses { self.new.clauses ≡ self.old.clauses }
         ensures trail { OnOk result (self.new.trail ≡ pushed self.old.trail lit None) }
         ensures err { OnErr result (self.new.trail ≡ self.old.trail) }
+        ensures quiet { self.new.quiet ≡ false }
     {
         self.quiet = false;
         self.trail.push(lit, None)

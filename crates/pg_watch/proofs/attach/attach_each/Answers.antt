@@ -1,7 +1,7 @@
-use Rattle.std.proofs.Common.{arith, sym, subst, ℕ, List, length, ◌<◌}
+use Rattle.std.proofs.Common.{arith, sym, subst, ℕ, List, length, ◌<◌, inl}
 use Rattle.pg_watch.specs.Fixes.{ArePlaces}
 use Rattle.pg_watch.specs.Watched.{IsWatched}
-use Rattle.pg_watch.proofs.JoinLemmas.{places_at, places_less, watched_stays, watched_leaves, fresh_read, fresh_there}
+use Rattle.pg_watch.proofs.JoinLemmas.{places_at, places_less, watched_stays, watched_leaves, fresh_read, fresh_there, own_kept}
 use Rattle.pg_watch.proofs.attach.attach_each.Goals as goal
 
 pub attach-requires-clause-place : goal.attach-requires-clause-place
@@ -25,7 +25,8 @@ loop-at-preserved-then-attach c =
       watched = λ q h w.
           subst (λ (fresh : List ℕ). IsWatched cs t q fresh ms qs h) (sym c.swap_remove.ensures.items)
           (watched_leaves cs t q ks c.loop-at.index.lists ms c.loop-at.index.pairs.items qs h k (i.watched q h w) c.attach.ensures.index c.attach.ensures.others
-          c.last_assigned-low.result at x lt joined i.lows (λ j. fresh_read ks at k j lt c.index-place.ensures));
+          at x lt (inl (own_kept cs t q ks c.loop-at.index.lists ms c.loop-at.index.pairs.items qs h k (i.watched q h w) c.attach.ensures.index c.attach.ensures.others
+          c.last_assigned-low.result joined i.lows)) (λ j. fresh_read ks at k j lt c.index-place.ensures));
     }
 
 pub loop-at-preserved : goal.loop-at-preserved

@@ -13,17 +13,17 @@ invariant_of-self c =
     let run = after_run cs _ u _ fresh _ _ _ _ _ i c.self.invariant c.propagate.ensures.runs in
     let spread : IsAllRun cs u.literals c.as_slice.result.now i = subst (IsSpread cs u.literals c.as_slice.result.now i) c.in-Ok-Quiet.field-0-is c.in-Ok-Quiet.ensures.spread in
     let left : AreOpen cs u.literals fresh = subst (λ (ks : List ℕ). AreOpen cs u.literals ks) c.as_slice.ensures.value spread.opened in
-    c.attach_each.ensures true i (when_quiet cs u _ fresh _ _ i run spread.whole left)
+    c.release_each.ensures true i (when_quiet cs u _ fresh _ _ i run spread.whole left)
 
 pub invariant_of-self-in-Ok-Conflict : goal.invariant_of-self-in-Ok-Conflict
 invariant_of-self-in-Ok-Conflict c =
-    c.attach_each-in-Ok-Conflict.ensures false c.propagate.new.head (after_run _ _ _ _ _ _ _ _ _ _ _ c.self.invariant c.propagate.ensures.runs)
+    c.release_each-in-Ok-Conflict.ensures false c.propagate.new.head (after_run _ _ _ _ _ _ _ _ _ _ _ c.self.invariant c.propagate.ensures.runs)
 
-pub attach_each-requires-clause-index : goal.attach_each-requires-clause-index
-attach_each-requires-clause-index c = (after_run _ _ _ _ _ _ _ _ _ _ _ c.self.invariant c.propagate.ensures.runs).index
+pub release_each-requires-clause-index : goal.release_each-requires-clause-index
+release_each-requires-clause-index c = (after_run _ _ _ _ _ _ _ _ _ _ _ c.self.invariant c.propagate.ensures.runs).index
 
-pub attach_each-requires-in-Ok-Conflict-clause-index : goal.attach_each-requires-in-Ok-Conflict-clause-index
-attach_each-requires-in-Ok-Conflict-clause-index c = (after_run _ _ _ _ _ _ _ _ _ _ _ c.self.invariant c.propagate.ensures.runs).index
+pub release_each-requires-in-Ok-Conflict-clause-index : goal.release_each-requires-in-Ok-Conflict-clause-index
+release_each-requires-in-Ok-Conflict-clause-index c = (after_run _ _ _ _ _ _ _ _ _ _ _ c.self.invariant c.propagate.ensures.runs).index
 
 pub invariant_of-self-in-Err : goal.invariant_of-self-in-Err
 invariant_of-self-in-Err c =
