@@ -1,0 +1,15 @@
+pub mod Trail
+pub mod Looks
+pub mod Places
+pub mod Table
+pub mod Assigned
+pub mod Spans
+pub mod Fixes
+pub mod State
+pub mod Lists
+pub mod Watching
+pub mod Visits
+pub mod Walks
+pub mod Runs
+pub mod Joins
+pub mod Watched
