@@ -13,9 +13,9 @@ ghost use Rattle.pg_cells.specs.Means.{each_pair};
 
 use crate::cell::Cell;
 use crate::find::is_same;
-use crate::gate::and;
-use crate::string::equal;
 use pg_circuit::{Circuit, Gate};
+use pg_vec::compare;
+use pg_vec::gate::and;
 use std::alloc::AllocError;
 
 /// A gate, and that two words are the same where the gate `at` is true. The error is want of memory.
@@ -35,7 +35,7 @@ fn alike(
     ensures there { IfOk result (λ gate. gate.number < length circuit.new.nodes) }
     ensures kept { AddsNodes circuit.old.nodes circuit.new.nodes (length x.now * 2 + 2) }
 {
-    let same = equal(circuit, x, y)?;
+    let same = compare::same(circuit, x, y)?;
     let differ = circuit.not(same);
     let odd = and(circuit, at, differ)?;
     let fine = circuit.not(odd);
@@ -51,7 +51,7 @@ fn agree(circuit: &mut Circuit, so_far: Gate, c: &Cell, d: &Cell) -> Result<Gate
     ensures there { IfOk result (λ gate. gate.number < length circuit.new.nodes) }
     ensures kept { AddsNodes circuit.old.nodes circuit.new.nodes (each_pair (length c.now.word) (length c.now.address)) }
 {
-    let at = equal(circuit, c.address.as_slice(), d.address.as_slice())?;
+    let at = compare::same(circuit, c.address.as_slice(), d.address.as_slice())?;
     let never = circuit.constant(false);
     if is_same(at, never) {
         Ok(so_far)

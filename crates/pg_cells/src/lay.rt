@@ -13,9 +13,10 @@ ghost use Rattle.pg_cells.specs.Made.{hit_made, over_made, laid_made};
 ghost use Rattle.pg_cells.specs.Means.{each_write};
 
 use crate::cell::Write;
-use crate::gate::and;
-use crate::string::{choose_string, equal};
+use crate::string::choose_string;
 use pg_circuit::{Circuit, Gate};
+use pg_vec::compare;
+use pg_vec::gate::and;
 use std::alloc::{AllocError, Global};
 
 /// Whether a write is done, and at this address. The error is want of memory.
@@ -28,7 +29,7 @@ fn hit(circuit: &mut Circuit, address: &[Gate], write: &Write) -> Result<Gate, A
     ensures there { IfOk result (λ gate. gate.number < length circuit.new.nodes) }
     ensures kept { AddsNodes circuit.old.nodes circuit.new.nodes (length address.now * 2 + 1) }
 {
-    let same = equal(circuit, address, write.address.as_slice())?;
+    let same = compare::same(circuit, address, write.address.as_slice())?;
     and(circuit, write.guard, same)
 }
 

@@ -16,14 +16,13 @@
 //! - `touched`: the calls. `cell`: a cell and a write, as gates.
 //! - `find`: the cell that has an address, gate for gate. `inputs`: inputs for a word that is new.
 //! - `lay`: the writes that stand, laid over a word. `agree`: gates that cells agree.
-//! - `gate` and `string`: gates of which these are built, with how many nodes each adds.
+//! - `string`: one string or another, bit by bit.
 //! - `laws`: what follows from the definitions alone. `rows`: worked touches.
 #![tactic(auto)]
 
 mod agree;
 mod cell;
 mod find;
-mod gate;
 mod inputs;
 pub mod laws;
 mod lay;

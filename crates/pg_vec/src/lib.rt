@@ -9,11 +9,14 @@
 //! was there stays, few nodes are added, the gates are there, and in each circuit that begins so, the number of the
 //! result is the function of the numbers of the operands. It speaks of the values of whatever circuit comes of it later,
 //! so that facts on one operation after another are on the same values and join without more ado.
+//!
+//! `gate` and `compare` are for those who build further strings of the same gates, and count their nodes: each call says
+//! exactly how many it adds at most.
 #![tactic(auto)]
 
 mod bits;
-mod compare;
-mod gate;
+pub mod compare;
+pub mod gate;
 pub mod laws;
 pub mod ops;
 mod pairwise;
