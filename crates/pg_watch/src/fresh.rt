@@ -1,4 +1,7 @@
-//! Clauses that no watch stands for, which each settling looks at.
+//! Clauses that watch no literal, which each settling looks at: the fresh ones.
+//!
+//! `settle` calls it when what the watches give is drawn. A clause is fresh when it was just added, and mostly once: `attach`
+//! lets it go then. So a plain look at each is enough here.
 
 ghost use Rattle.std.specs.Prelude.{◌≡◌, ◌+◌, ◌-◌, ◌<◌, ◌^◌, length, IfOk};
 ghost use Rattle.pg_cnf.specs.Literals.{AreClauses};

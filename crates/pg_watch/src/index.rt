@@ -1,4 +1,7 @@
 //! Which literals the clauses watch.
+//!
+//! A clause has its pair, which is what holds, and stands in the lists of both, which is how it is found. A list may have a
+//! clause too many, never one too few: a visit of a clause that does not watch the literal finds nothing to do.
 
 ghost use Rattle.std.specs.Prelude.{◌≡◌, ◌<◌, ◌++◌, ◌∷◌, [], length, OnOk, OnErr, slice_set};
 ghost use Rattle.pg_watch.specs.Places.{place_of};

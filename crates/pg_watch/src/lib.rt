@@ -1,7 +1,7 @@
 //! Unit propagation with two watched literals a clause.
 //!
 //! `Watches` holds clauses and a trail of literals that are set. A clause that is unit sets its last literal, until nothing is
-//! left or a clause is falsified: `specs/Trail.antt` says what these words mean. From the ground up: `arena` has the clauses
+//! left or a clause is falsified: `specs/Trail.antt` says what these words mean. From below: `arena` has the clauses
 //! and `assignment` the trail with the values of all literals; `look` goes through one clause; `lists` and `index` say which
 //! clauses watch which literals; `visit`, `walk` and `queue` draw what follows from one visit, one list and all that was set;
 //! `fresh` looks at clauses that watch none, `attach` finds literals for them, and `settle` joins both.

@@ -1,4 +1,8 @@
 //! Propagation until nothing is left, or a clause is falsified.
+//!
+//! `Watches` calls it at each settling. What was set is drawn to its end through the watches first, and only then are the
+//! fresh clauses looked at, since they are the slower way. Each turn sets a literal more, so there are no more turns than
+//! variables.
 
 ghost use Rattle.std.specs.Prelude.{◌≤◌, length, IfOk};
 ghost use Rattle.pg_watch.specs.Fixes.{ArePlaces};

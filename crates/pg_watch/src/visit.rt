@@ -1,4 +1,8 @@
 //! One clause that watches a literal which got false.
+//!
+//! `walk` calls it for each clause of a list. The blocker is read first, since that is one read and mostly enough; then the
+//! other literal that the clause watches; and only then are its literals looked through for one that is not false. Where there
+//! is none, the other one follows, or the clause is falsified.
 
 ghost use Rattle.std.specs.Prelude.{◌≡◌, ◌≢◌, ◌+◌, ◌-◌, ◌<◌, ◌^◌, length, Contains, Some, false, true, IfOk, IfSome, IfNone};
 ghost use Rattle.pg_cnf.specs.Literals.{IsLiteral, AreClauses};

@@ -1,4 +1,8 @@
 //! All clauses that watch a literal which got false.
+//!
+//! `queue` calls it for each literal that was set. A clause that goes on to watch another leaves the list, and the last one
+//! takes its place, so that a walk costs no more than the list is long. The list is read in place: a walk pushes to others
+//! only.
 
 ghost use Rattle.std.specs.Prelude.{◌≡◌, ◌<◌, length, Some, false, IfOk};
 ghost use Rattle.pg_cnf.specs.Literals.{IsLiteral};
