@@ -74,7 +74,13 @@ fn step(alloc: Global, lits: &[i32], hints: &[u32]) -> Result<Step, AllocError> 
 }
 
 /// Adds a step, and says what is told of it.
-fn added(rt: &impl Abort, alloc: Global, checker: &mut Checker, lits: &[i32], hints: &[u32]) -> Result<Answer, AllocError> {
+fn added(
+    rt: &impl Abort,
+    alloc: Global,
+    checker: &mut Checker,
+    lits: &[i32],
+    hints: &[u32],
+) -> Result<Answer, AllocError> {
     assert!(rt; checker.numbered() < 100);
     Ok(told(checker.add(&step(alloc, lits, hints)?)))
 }
