@@ -1,0 +1,5 @@
+pub mod Flow
+pub mod Exprs
+pub mod Numbers
+pub mod There
+pub mod Follows
