@@ -29,7 +29,7 @@ use Rattle.pg_symex.proofs.FollowsLaws.{one-follows, then-follows, two-follow, t
 pub bits-later : (before after : List Node) (n : ℕ) (xs : List Gate) → GrowsTo before after → AreBits (length before) n xs → AreBits (length after) n xs
 bits-later before after n xs g h = record { there = all_there_later before after xs g h.there; wide = h.wide; is_width = h.is_width }
 
-regs-later : (before after : List Node) (a : ℕ) (r : Regs) → GrowsTo before after → AreRegs (length before) a r → AreRegs (length after) a r
+pub regs-later : (before after : List Node) (a : ℕ) (r : Regs) → GrowsTo before after → AreRegs (length before) a r → AreRegs (length after) a r
 regs-later before after a r g h = record {
   mode = bits-later before after 1 r.mode g h.mode;
   p = bits-later before after a r.p g h.p;

@@ -13,7 +13,7 @@ pub nothing-follows : (mem_trap then_live then_trap : Bool) (x : Bits) (o : Opti
 nothing-follows mem_trap then_live then_trap x None h = (h.0, h.1 ∙ or-false mem_trap)
 nothing-follows mem_trap then_live then_trap x (Some y) h = (h.0, h.1)
 
-unreached : (live mem_trap then_live then_trap : Bool) (x : Bits) (o : Option Bits) → live ≡ false → Follows live mem_trap then_live then_trap x o → (then_live ≡ false) × (then_trap ≡ mem_trap)
+pub unreached : (live mem_trap then_live then_trap : Bool) (x : Bits) (o : Option Bits) → live ≡ false → Follows live mem_trap then_live then_trap x o → (then_live ≡ false) × (then_trap ≡ mem_trap)
 unreached true mem_trap then_live then_trap x o e h = absurd (cc e)
 unreached false mem_trap then_live then_trap x o e h = nothing-follows mem_trap then_live then_trap x o h
 

@@ -6,3 +6,8 @@ pub mod ExprForms
 pub mod LeafLaws
 pub mod AccessLaws
 pub mod ExprLaw
+pub mod StmtEquations
+pub mod StmtForms
+pub mod IfForms
+pub mod StmtLaw
+pub mod RunLaw

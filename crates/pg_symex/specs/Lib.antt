@@ -1,5 +1,9 @@
 pub mod Flow
 pub mod Exprs
+pub mod Stmts
 pub mod Numbers
 pub mod There
 pub mod Follows
+pub mod Ends
+pub mod Body
+pub mod Runs
