@@ -1,9 +1,9 @@
 -- What the gate of agreement is worth.
-use Rattle.std.proofs.Common.{◌≡◌, ◌↔◌, ℕ, zero, suc, ◌+◌, ◌*◌, ◌^◌, ◌<◌, ◌≤◌, Bool, true, false, not, ◌&&◌, nat_eq, if◌then◌else◌, List, [], ◌∷◌, length, refl, sym, ap, ◌∙◌, subst, arith}
+use Rattle.std.proofs.Common.{◌≡◌, ℕ, ◌+◌, ◌*◌, ◌^◌, ◌≤◌, Bool, true, false, not, ◌&&◌, nat_eq, if◌then◌else◌, List, [], ◌∷◌, length, refl, sym, ap, ◌∙◌, subst, arith}
 use Rattle.std.specs.List.{All}
 use Rattle.std.proofs.Math.Nat.{suc-mul}
 use Rattle.std.proofs.lemmas.Nat.{mul-le}
-use Rattle.std.proofs.lemmas.List.Elements.{All-nil, All-cons}
+use Rattle.std.proofs.lemmas.List.Elements.{All-nil, All-cons, All-head, All-tail, All-weaker}
 use Rattle.pg_circuit.specs.declared.node.Gate.{Gate}
 use Rattle.pg_circuit.specs.declared.node.Node.{Node}
 use Rattle.pg_circuit.specs.Nodes.{same_gate, IsCircuit}
@@ -12,46 +12,35 @@ use Rattle.pg_circuit.specs.Made.{constant_gate, not_gate, and_made}
 use Rattle.pg_circuit.proofs.NodeLemmas.{same_gate-true}
 use Rattle.pg_circuit.proofs.MadeLemmas.{not_value}
 use Rattle.pg_vec.specs.Number.{number}
-use Rattle.pg_vec.specs.There.{AreThere, AreValues}
+use Rattle.pg_vec.specs.There.{AreThere}
 use Rattle.pg_vec.specs.AddsNodes.{AddsNodes}
 use Rattle.pg_vec.specs.Makes.{MakesGate}
 use Rattle.pg_vec.specs.Strings.{same_made}
-use Rattle.pg_vec.proofs.Kept.{front_same, front_then, there_later, all_there_later, values_earlier, constant-value, and-makes, adds_none, adds_then, adds_more}
+use Rattle.pg_vec.proofs.Kept.{front_same, front_then, there_later, all_there_later, values_earlier, constant-value, and-makes, adds_more}
 use Rattle.pg_vec.proofs.CompareLaws.{same-makes}
 use Rattle.pg_vec.proofs.EachLaws.{number-below}
 use Rattle.pg_cells.specs.declared.cell.Cell.{Cell}
-use Rattle.pg_cells.specs.Storage.{Known, AreConsistent, HasStorage}
 use Rattle.pg_cells.specs.Cells.{known_of, known_cells}
-use Rattle.pg_cells.specs.Over.{place_of, AreCells}
+use Rattle.pg_cells.specs.Over.{place_of, AreCells, IsWhole}
 use Rattle.pg_cells.specs.Made.{alike_made, pair_made, row_made, pairs_made, consistent_made}
-use Rattle.pg_cells.specs.Means.{TellsConsistent}
+use Rattle.pg_cells.specs.Means.{each_pair, TellsConsistent}
 use Rattle.pg_cells.proofs.StorageLaws.{IsWithin, has_storage, is_pair, is_row, are_pairs, pairs-decide}
 use Rattle.pg_cells.proofs.InputLaws.{gates-there, cells-room}
 use Rattle.pg_cells.proofs.TouchLaws.{length-gates_from}
 
--- a cell whose gates are there, of a machine's widths
-pub record IsWhole (places w a : ℕ) (c : Cell) : Type 0 where
-  pub address : AreThere places c.address
-  pub address_wide : length c.address ≡ a
-  pub word : AreThere places c.word
-  pub word_wide : length c.word ≡ w
-
--- the same of all cells, one after another
-abbrev pub AreWhole : ℕ → ℕ → ℕ → List Cell → Type 0
-AreWhole places w a [] = Unit {0}
-AreWhole places w a (c ∷ cells) = IsWhole places w a c × AreWhole places w a cells
-
-pub cells-whole : (nodes : List Node) (w a from : ℕ) (cells : List Cell) → AreCells nodes w a from cells → AreWhole (length nodes) w a cells
-cells-whole nodes w a from [] h = tt
+pub cells-whole : (nodes : List Node) (w a from : ℕ) (cells : List Cell) → AreCells nodes w a from cells → All (IsWhole (length nodes) w a) cells
+cells-whole nodes w a from [] h = All-nil (IsWhole (length nodes) w a)
 cells-whole nodes w a from (c ∷ cells) h =
     let room = cells-room nodes w a (place_of c + w) cells h.2 in
     let cell = h.1 in
+    All-cons (IsWhole (length nodes) w a) c cells
     (record {
       address = λ k d l. let b = cell.earlier k d l in omega arith;
       address_wide = cell.wide;
       word = subst (AreThere (length nodes)) (sym cell.word) (gates-there (place_of c) w (length nodes) room);
       word_wide = ap length cell.word ∙ length-gates_from w (place_of c);
-    }, cells-whole nodes w a (place_of c + w) cells h.2)
+    })
+    (cells-whole nodes w a (place_of c + w) cells h.2)
 
 pub whole-later : (nodes later : List Node) (most w a : ℕ) (c : Cell) → AddsNodes nodes later most → IsWhole (length nodes) w a c → IsWhole (length later) w a c
 whole-later nodes later most w a c k h = record {
@@ -61,9 +50,8 @@ whole-later nodes later most w a c k h = record {
   word_wide = h.word_wide;
 }
 
-pub all-whole-later : (nodes later : List Node) (most w a : ℕ) (cells : List Cell) → AddsNodes nodes later most → AreWhole (length nodes) w a cells → AreWhole (length later) w a cells
-all-whole-later nodes later most w a [] k h = tt
-all-whole-later nodes later most w a (c ∷ cells) k h = (whole-later nodes later most w a c k h.0, all-whole-later nodes later most w a cells k h.1)
+pub all-whole-later : (nodes later : List Node) (most w a : ℕ) (cells : List Cell) → AddsNodes nodes later most → All (IsWhole (length nodes) w a) cells → All (IsWhole (length later) w a) cells
+all-whole-later nodes later most w a cells k h = All-weaker (IsWhole (length nodes) w a) (IsWhole (length later) w a) (λ c. whole-later nodes later most w a c k) cells h
 
 and-true : (b : Bool) → b ≡ b && true
 and-true true = refl
@@ -74,10 +62,6 @@ and-assoc true b c = refl
 and-assoc false b c = refl
 
 -- ---- two cells
-
--- how many nodes a pair adds at most
-abbrev pub each_pair : ℕ → ℕ → ℕ
-each_pair w a = 2 * a + 2 * w + 2
 
 alike-makes : (nodes : List Node) (so_far at : Gate) (xs ys : List Gate) → IsCircuit nodes → IsThere (length nodes) so_far → IsThere (length nodes) at → AreThere (length nodes) xs → AreThere (length nodes) ys → length xs ≡ length ys →
     MakesGate nodes (alike_made nodes so_far at xs ys) (2 * length xs + 2) (λ v. gate_value v so_far && not (gate_value v at && not (nat_eq (number v xs) (number v ys))))
@@ -156,7 +140,7 @@ pair-makes nodes w a so_far c d h ts hc hd =
 
 -- ---- a cell and others
 
-pub row-makes : (cells : List Cell) (nodes : List Node) (w a : ℕ) (so_far : Gate) (c : Cell) → IsCircuit nodes → IsThere (length nodes) so_far → IsWhole (length nodes) w a c → AreWhole (length nodes) w a cells →
+pub row-makes : (cells : List Cell) (nodes : List Node) (w a : ℕ) (so_far : Gate) (c : Cell) → IsCircuit nodes → IsThere (length nodes) so_far → IsWhole (length nodes) w a c → All (IsWhole (length nodes) w a) cells →
     MakesGate nodes (row_made nodes so_far c cells) (length cells * each_pair w a) (λ v. gate_value v so_far && is_row (known_of v c) (known_cells v cells))
 unfolding row_made is_row
 row-makes [] nodes w a so_far c h ts hc hs = record {
@@ -166,9 +150,9 @@ row-makes [] nodes w a so_far c h ts hc hs = record {
   value = λ inputs values v. and-true (gate_value values so_far);
 }
 row-makes (d ∷ cells) nodes w a so_far c h ts hc hs =
-    let p = pair-makes nodes w a so_far c d h ts hc hs.0 in
+    let p = pair-makes nodes w a so_far c d h ts hc (All-head (IsWhole (length nodes) w a) d cells hs) in
     let n = (pair_made nodes so_far c d).1 in
-    let r = row-makes cells n w a (pair_made nodes so_far c d).0 c p.circuit p.there (whole-later nodes n (each_pair w a) w a c p.adds hc) (all-whole-later nodes n (each_pair w a) w a cells p.adds hs.1) in
+    let r = row-makes cells n w a (pair_made nodes so_far c d).0 c p.circuit p.there (whole-later nodes n (each_pair w a) w a c p.adds hc) (all-whole-later nodes n (each_pair w a) w a cells p.adds (All-tail (IsWhole (length nodes) w a) d cells hs)) in
     record {
       circuit = r.circuit;
       adds = record {
@@ -186,7 +170,7 @@ row-makes (d ∷ cells) nodes w a so_far c h ts hc hs =
 
 -- ---- all pairs
 
-pub pairs-makes : (cells : List Cell) (nodes : List Node) (w a most : ℕ) (so_far : Gate) → IsCircuit nodes → IsThere (length nodes) so_far → AreWhole (length nodes) w a cells → length cells ≤ most →
+pub pairs-makes : (cells : List Cell) (nodes : List Node) (w a most : ℕ) (so_far : Gate) → IsCircuit nodes → IsThere (length nodes) so_far → All (IsWhole (length nodes) w a) cells → length cells ≤ most →
     MakesGate nodes (pairs_made nodes so_far cells) (length cells * (most * each_pair w a)) (λ v. gate_value v so_far && are_pairs (known_cells v cells))
 unfolding pairs_made are_pairs
 pairs-makes [] nodes w a most so_far h ts hs l = record {
@@ -196,9 +180,10 @@ pairs-makes [] nodes w a most so_far h ts hs l = record {
   value = λ inputs values v. and-true (gate_value values so_far);
 }
 pairs-makes (c ∷ cells) nodes w a most so_far h ts hs l =
-    let p = row-makes cells nodes w a so_far c h ts hs.0 hs.1 in
+    let rest = All-tail (IsWhole (length nodes) w a) c cells hs in
+    let p = row-makes cells nodes w a so_far c h ts (All-head (IsWhole (length nodes) w a) c cells hs) rest in
     let n = (row_made nodes so_far c cells).1 in
-    let r = pairs-makes cells n w a most (row_made nodes so_far c cells).0 p.circuit p.there (all-whole-later nodes n (length cells * each_pair w a) w a cells p.adds hs.1) (omega arith) in
+    let r = pairs-makes cells n w a most (row_made nodes so_far c cells).0 p.circuit p.there (all-whole-later nodes n (length cells * each_pair w a) w a cells p.adds rest) (omega arith) in
     record {
       circuit = r.circuit;
       adds = record {
@@ -220,16 +205,17 @@ pairs-makes (c ∷ cells) nodes w a most so_far h ts hs l =
 
 -- ---- what it tells
 
-within : (values : List Bool) (places w a : ℕ) (cells : List Cell) → AreWhole places w a cells → All (IsWithin w a) (known_cells values cells)
+within : (values : List Bool) (places w a : ℕ) (cells : List Cell) → All (IsWhole places w a) cells → All (IsWithin w a) (known_cells values cells)
 within values places w a [] h = All-nil (IsWithin w a)
 within values places w a (c ∷ cells) h =
-    let ea : 2 ^ length c.address ≡ 2 ^ a = ap (λ k. 2 ^ k) h.0.address_wide in
-    let ew : 2 ^ length c.word ≡ 2 ^ w = ap (λ k. 2 ^ k) h.0.word_wide in
+    let here = All-head (IsWhole places w a) c cells h in
+    let ea : 2 ^ length c.address ≡ 2 ^ a = ap (λ k. 2 ^ k) here.address_wide in
+    let ew : 2 ^ length c.word ≡ 2 ^ w = ap (λ k. 2 ^ k) here.word_wide in
     All-cons (IsWithin w a) (known_of values c) (known_cells values cells)
     (record { address = let b = number-below values c.address in omega arith; word = let b = number-below values c.word in omega arith })
-    (within values places w a cells h.1)
+    (within values places w a cells (All-tail (IsWhole places w a) c cells h))
 
-pub consistent-makes : (cells : List Cell) (nodes : List Node) (w a : ℕ) → IsCircuit nodes → AreWhole (length nodes) w a cells →
+pub consistent-makes : (cells : List Cell) (nodes : List Node) (w a : ℕ) → IsCircuit nodes → All (IsWhole (length nodes) w a) cells →
     MakesGate nodes (consistent_made nodes cells) (length cells * (length cells * each_pair w a)) (λ v. are_pairs (known_cells v cells))
 unfolding consistent_made
 consistent-makes cells nodes w a h hs =
@@ -242,7 +228,7 @@ consistent-makes cells nodes w a h hs =
           r.value inputs values v ∙ ap (λ k. k && are_pairs (known_cells values cells)) (constant-value inputs values _ true r.circuit v);
     }
 
-pub tells : (cells : List Cell) (nodes : List Node) (w a : ℕ) → IsCircuit nodes → AreWhole (length nodes) w a cells →
+pub tells : (cells : List Cell) (nodes : List Node) (w a : ℕ) → IsCircuit nodes → All (IsWhole (length nodes) w a) cells →
     TellsConsistent (consistent_made nodes cells).1 w a cells (consistent_made nodes cells).0
 tells cells nodes w a h hs =
     let m = consistent-makes cells nodes w a h hs in

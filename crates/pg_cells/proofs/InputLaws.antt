@@ -1,10 +1,7 @@
 -- Inputs under which cells have the words of a storage: they are set cell by cell, in order.
-use Rattle.std.proofs.Common.{◌≡◌, ◌≢◌, ℕ, zero, suc, ◌+◌, ◌-◌, ◌*◌, ◌/◌, ◌%◌, ◌^◌, ◌<◌, ◌≤◌, ◌⊎◌, inl, inr, Bool, true, false, nat_eq, List, [], ◌∷◌, ◌++◌, length, take, get_or, set, slice_get, Some, refl, sym, ap, ◌∙◌, subst, arith, zero-add}
-use Rattle.std.specs.List.{All}
-use Rattle.std.proofs.Math.Nat.{mod-lt}
+use Rattle.std.proofs.Common.{◌≡◌, ℕ, zero, suc, ◌+◌, ◌-◌, ◌*◌, ◌/◌, ◌%◌, ◌^◌, ◌<◌, ◌≤◌, inl, inr, Bool, true, false, nat_eq, List, [], ◌∷◌, ◌++◌, length, take, get_or, set, slice_get, Some, refl, sym, ap, ◌∙◌, subst, arith, zero-add}
 use Rattle.std.proofs.lemmas.Bool.{eqb-true, eqb-false, cases_lt}
-use Rattle.std.proofs.lemmas.Nat.{pow-add, mod_below, div-add-mod', div_below}
-use Rattle.std.proofs.lemmas.Option.{slice_get_within}
+use Rattle.std.proofs.lemmas.Nat.{mod_below, div-add-mod'}
 use Rattle.std.proofs.lemmas.List.{length-set, length-take-le, take-take, get_or-set_same, get_or-set_other, get_or-take}
 use Rattle.std.proofs.lemmas.List.Elements.{All-nil, All-cons, All-head, All-tail, All-get_or, All-weaker}
 use Rattle.pg_circuit.specs.declared.node.Gate.{Gate}
@@ -240,8 +237,8 @@ with_cells-sets (c ∷ cells) nodes w a from storage inputs h many least s are =
         ¬ ((first_input nodes c ≤ m) × (m < first_input nodes c + w)) → get_or (with_cell nodes w storage c inputs) m false ≡ get_or inputs m false
     outside nodes w storage c inputs m below above n =
         elim (cases_lt m (first_input nodes c)) [
-          inl l ↦ below m l
-        | inr g ↦ elim (cases_lt m (first_input nodes c + w)) [ inl l ↦ absurd (n (g, l)) | inr k ↦ above m k ]
+          | inl l ↦ below m l
+          | inr g ↦ elim (cases_lt m (first_input nodes c + w)) [ inl l ↦ absurd (n (g, l)) | inr k ↦ above m k ]
         ]
 
 pub has_inputs : (cells : List Cell) (nodes : List Node) (w a : ℕ) (storage : List ℕ) (inputs : List Bool) → IsCircuit nodes → length inputs ≡ input_count nodes → 1 ≤ w → IsStorage w a storage →

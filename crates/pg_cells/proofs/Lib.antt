@@ -3,3 +3,9 @@ pub mod InputLaws
 pub mod OverLaws
 pub mod TouchLaws
 pub mod ConsistentLaws
+pub mod FindLaws
+pub mod InputsMade
+pub mod LayLaws
+pub mod TouchSteps
+pub mod AgreeSteps
+pub mod LaterLaws

@@ -1,5 +1,5 @@
 -- What a touch makes is worth.
-use Rattle.std.proofs.Common.{◌≡◌, ℕ, zero, suc, ◌+◌, ◌*◌, ◌^◌, ◌<◌, ◌≤◌, Bool, true, false, ◌&&◌, cond, nat_eq, if◌then◌else◌, List, [], ◌∷◌, ◌++◌, length, map, take, get_or, slice_get, Option, Some, None, refl, sym, ap, ◌∙◌, subst, arith, add-one, append_assoc, length-append}
+use Rattle.std.proofs.Common.{◌≡◌, ℕ, zero, suc, ◌+◌, ◌*◌, ◌^◌, ◌<◌, ◌≤◌, Bool, true, false, ◌&&◌, cond, nat_eq, if◌then◌else◌, List, [], ◌∷◌, ◌++◌, length, get_or, Option, Some, None, refl, sym, ap, ◌∙◌, subst, arith, append_assoc, length-append}
 use Rattle.std.specs.List.{All}
 use Rattle.std.proofs.Math.Nat.{suc-mul}
 use Rattle.std.proofs.lemmas.Bool.{false≢true}
@@ -10,27 +10,26 @@ use Rattle.pg_circuit.specs.declared.node.Gate.{Gate}
 use Rattle.pg_circuit.specs.declared.node.Node.{Node}
 use Rattle.pg_circuit.specs.declared.node.Node.TheVariants.{Constant, Input}
 use Rattle.pg_circuit.specs.Nodes.{same_gate, input_count, IsCircuit}
-use Rattle.pg_circuit.specs.Values.{gate_value, IsThere}
-use Rattle.pg_circuit.specs.Made.{gate_at, constant_gate, and_made}
+use Rattle.pg_circuit.specs.Values.{gate_value}
+use Rattle.pg_circuit.specs.Made.{constant_gate, and_made}
 use Rattle.pg_circuit.specs.Grown.{GrowsTo}
 use Rattle.pg_circuit.proofs.NodeLemmas.{same_gate-true}
 use Rattle.pg_circuit.proofs.CircuitLemmas.{input_count-append, IsCircuit-push}
-use Rattle.pg_word.specs.Bits.{IsWidth}
 use Rattle.pg_vec.specs.Number.{number}
-use Rattle.pg_vec.specs.There.{AreThere, AreValues}
-use Rattle.pg_vec.specs.Makes.{MakesGate, MakesBits}
-use Rattle.pg_vec.specs.Strings.{mux_made, same_made}
-use Rattle.pg_vec.proofs.Kept.{front_same, front_then, front_length, there_later, all_there_later, values_earlier, constant-value, and-makes}
+use Rattle.pg_vec.specs.There.{AreThere}
+use Rattle.pg_vec.specs.Makes.{MakesBits}
+use Rattle.pg_vec.specs.Strings.{same_made}
+use Rattle.pg_vec.proofs.Kept.{front_same, front_then, there_later, all_there_later, values_earlier, constant-value, and-makes}
 use Rattle.pg_vec.proofs.CompareLaws.{same-makes}
 use Rattle.pg_vec.proofs.EachLaws.{mux-makes, number-below}
 use Rattle.pg_cells.specs.declared.cell.Cell.{Cell}
 use Rattle.pg_cells.specs.declared.cell.Write.{Write}
 use Rattle.pg_cells.specs.View.{View}
-use Rattle.pg_cells.specs.Storage.{IsStorage, written, Known, Agrees}
-use Rattle.pg_cells.specs.Cells.{known_of, put_of, known_cells, puts_of}
+use Rattle.pg_cells.specs.Storage.{Known, Agrees}
+use Rattle.pg_cells.specs.Cells.{known_of, known_cells, puts_of}
 use Rattle.pg_cells.specs.Over.{gates_from, place_of, IsCell, AreCells, IsWrite, IsOver}
 use Rattle.pg_cells.specs.Made.{inputs_from, inputs_made, same_gates, found_word, initial_of, initial_made, hit_made, over_made, laid_made, touch_made, with_found, cells_after}
-use Rattle.pg_cells.specs.Means.{GrowsBy, IsWordAt}
+use Rattle.pg_cells.specs.Means.{each_write, touch_most, GrowsBy, IsWordAt}
 use Rattle.pg_cells.proofs.StorageLaws.{laid_word, written-at}
 use Rattle.pg_cells.proofs.InputLaws.{gates-there, cells-room}
 use Rattle.pg_cells.proofs.OverLaws.{AreCells-later, AreWrites-later, AreCells-push}
@@ -41,11 +40,11 @@ pub length-gates_from : (w k : ℕ) → length (gates_from k w) ≡ w
 length-gates_from zero k = refl
 length-gates_from (suc w) k = ap (λ n. suc n) (length-gates_from w (k + 1))
 
-length-inputs_from : (w n : ℕ) → length (inputs_from n w) ≡ w
+pub length-inputs_from : (w n : ℕ) → length (inputs_from n w) ≡ w
 length-inputs_from zero n = refl
 length-inputs_from (suc w) n = ap (λ n. suc n) (length-inputs_from w (n + 1))
 
-input_count-inputs_from : (w n : ℕ) → input_count (inputs_from n w) ≡ w
+pub input_count-inputs_from : (w n : ℕ) → input_count (inputs_from n w) ≡ w
 input_count-inputs_from zero n = refl
 input_count-inputs_from (suc w) n = omega (arith, input_count-inputs_from w (n + 1))
 
@@ -158,7 +157,7 @@ found (c ∷ cells) address word h = by (same_gates c.address address) refl h (f
         record { place = suc r.place; cell = r.cell; in_range = let l = r.in_range in omega arith; is = r.is; address_is = r.address_is; word_is = r.word_is }
 
 -- a cell of the list is one of those after a place, so its word is there
-cell_word : (nodes : List Node) (w a from : ℕ) (cells : List Cell) (k : ℕ) (d : Cell) → AreCells nodes w a from cells → k < length cells →
+pub cell_word : (nodes : List Node) (w a from : ℕ) (cells : List Cell) (k : ℕ) (d : Cell) → AreCells nodes w a from cells → k < length cells →
     (length (get_or cells k d).word ≡ w) × AreThere (length nodes) (get_or cells k d).word
 cell_word nodes w a from [] k d h l = absurd (omega arith)
 cell_word nodes w a from (c ∷ cells) zero d h l =
@@ -201,10 +200,6 @@ unfolding initial_made cells_after
 initial-is nodes t address h o there wide = initial-by nodes t.w t.a t.cells address (found_word t.cells address) refl h o.word_width.least o.cells there wide
 
 -- ---- writes that are laid over a word
-
--- how many nodes one write adds at most
-abbrev pub each_write : ℕ → ℕ → ℕ
-each_write w a = 2 * a + 1 + w * 3
 
 over-makes : (nodes : List Node) (w a : ℕ) (address : List Gate) (x : Write) (word : List Gate) → IsCircuit nodes → AreThere (length nodes) address → length address ≡ a → IsWrite (length nodes) w a x →
     AreThere (length nodes) word → length word ≡ w →
@@ -272,10 +267,6 @@ laid-makes (x ∷ writes) nodes w a address word h ta wa ws tw ww =
     }
 
 -- ---- a touch
-
--- how many nodes a touch adds at most
-abbrev pub touch_most : View → ℕ
-touch_most t = t.w + length t.writes * each_write t.w t.a
 
 pub record Touches (nodes : List Node) (t : View) (address : List Gate) (made : List Gate × List Node) : Type 0 where
   pub circuit : IsCircuit made.1

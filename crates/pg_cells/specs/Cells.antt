@@ -1,5 +1,5 @@
 -- Cells and writes as gates, and what they are where the nodes have values.
-use Rattle.std.specs.Prelude.{ℕ, Bool, List, map}
+use Rattle.std.specs.Prelude.{Bool, List, map}
 use Rattle.pg_circuit.specs.Values.{gate_value}
 use Rattle.pg_vec.specs.Number.{number}
 use Rattle.pg_cells.specs.declared.cell.Cell.{Cell}

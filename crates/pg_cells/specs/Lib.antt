@@ -4,3 +4,4 @@ pub mod View
 pub mod Over
 pub mod Made
 pub mod Means
+pub mod Rows

@@ -1,5 +1,5 @@
 -- What each call makes: gates, and the nodes that there are then.
-use Rattle.std.specs.Prelude.{ℕ, zero, suc, ◌+◌, Bool, true, false, not, ◌&&◌, if◌then◌else◌, Option, Some, None, List, [], ◌∷◌, ◌++◌, length}
+use Rattle.std.specs.Prelude.{◌≡◌, ◌<◌, slice_index_or, ℕ, zero, suc, ◌+◌, Bool, true, false, ◌&&◌, if◌then◌else◌, Option, Some, None, List, [], ◌∷◌, ◌++◌, length}
 use Rattle.pg_circuit.specs.declared.node.Gate.{Gate}
 use Rattle.pg_circuit.specs.declared.node.Node.{Node}
 use Rattle.pg_circuit.specs.declared.node.Node.TheVariants.{Input}
@@ -29,10 +29,18 @@ same_gates [] [] = true
 same_gates (x ∷ xs) (y ∷ ys) = same_gate x y && same_gates xs ys
 same_gates _ _ = false
 
+abbrev pub no_cell : Cell
+no_cell = record { address = []; word = [] }
+
 -- the word of the first cell that has these gates as its address
 abbrev pub found_word : List Cell → List Gate → Option (List Gate)
 found_word [] address = None
 found_word (c ∷ cells) address = (if same_gates c.address address then Some c.word else found_word cells address)
+
+-- that cell stands at place k
+pub record IsFoundAt (cells : List Cell) (address : List Gate) (k : ℕ) : Type 0 where
+  pub in_range : k < length cells
+  pub word : found_word cells address ≡ Some (let cell = slice_index_or cells k no_cell in cell.word)
 
 -- the word before all writes: that of the cell with this address, or inputs where there is none
 abbrev pub initial_of : List Node → ℕ → Option (List Gate) → List Gate × List Node

@@ -9,9 +9,22 @@ use Rattle.pg_vec.specs.Number.{number}
 use Rattle.pg_vec.specs.There.{AreValues}
 use Rattle.pg_cells.specs.declared.cell.Cell.{Cell}
 use Rattle.pg_cells.specs.declared.cell.Write.{Write}
+use Rattle.pg_cells.specs.View.{View}
 use Rattle.pg_cells.specs.Storage.{IsStorage, written, Agrees, AreConsistent, HasStorage}
 use Rattle.pg_cells.specs.Cells.{known_cells, puts_of}
 use Rattle.pg_cells.specs.Over.{IsInputOf}
+
+-- how many nodes a write that stands costs a touch at most: the addresses compared, the guard, one of two words
+abbrev pub each_write : ℕ → ℕ → ℕ
+each_write w a = 2 * a + 1 + w * 3
+
+-- how many nodes a touch adds at most
+abbrev pub touch_most : View → ℕ
+touch_most t = t.w + length t.writes * each_write t.w t.a
+
+-- how many nodes two cells cost agreement at most: the addresses compared, the words, and what is said of both
+abbrev pub each_pair : ℕ → ℕ → ℕ
+each_pair w a = 2 * a + 2 * w + 2
 
 -- what a call adds in any case, also where memory runs out: the nodes stay, and at most so many nodes and inputs are added
 pub record GrowsBy (old new : List Node) (most inputs : ℕ) : Type 0 where

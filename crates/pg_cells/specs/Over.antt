@@ -37,6 +37,13 @@ abbrev pub AreCells : List Node → ℕ → ℕ → ℕ → List Cell → Type 0
 AreCells nodes w a from [] = from ≤ length nodes
 AreCells nodes w a from (c ∷ cells) = (from ≤ place_of c) × IsCell nodes w a c × AreCells nodes w a (place_of c + w) cells
 
+-- a cell of gates that are there, of a machine's widths
+pub record IsWhole (places w a : ℕ) (c : Cell) : Type 0 where
+  pub address : AreThere places c.address
+  pub address_wide : length c.address ≡ a
+  pub word : AreThere places c.word
+  pub word_wide : length c.word ≡ w
+
 -- a write of gates that are there
 pub record IsWrite (places w a : ℕ) (x : Write) : Type 0 where
   pub guard : x.guard.number < places
