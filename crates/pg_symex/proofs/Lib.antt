@@ -11,3 +11,6 @@ pub mod StmtForms
 pub mod IfForms
 pub mod StmtLaw
 pub mod RunLaw
+pub mod LetLemmas
+pub mod Steps
+pub mod OpSteps

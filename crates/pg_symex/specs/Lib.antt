@@ -7,3 +7,6 @@ pub mod Follows
 pub mod Ends
 pub mod Body
 pub mod Runs
+pub mod EntryView
+pub mod FlowView
+pub mod Calls
