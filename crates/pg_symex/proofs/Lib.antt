@@ -14,3 +14,5 @@ pub mod RunLaw
 pub mod LetLemmas
 pub mod Steps
 pub mod OpSteps
+pub mod Typing
+pub mod ExprSteps
