@@ -93,7 +93,7 @@ if-ends values storage at r a s t u new false first second meant on off skip_a e
     (live ∙ ap (λ b. b || gate_value values u.flow.live) k.live) m2 t2 (same_run values _ _ _ _ new.lets u.lets w2 n2 l3)
 
 -- a body under way that goes on under another guard
-guard-run : (at : SymEntry) (r : SymRun) (ws : LetWidths) (live : Gate) (nodes : List Node) → IsSymRun at r ws → GrowsTo r.flow.nodes nodes → IsCircuit nodes → IsThere (length nodes) live → IsSymRun at (with_live live nodes r) ws
+pub guard-run : (at : SymEntry) (r : SymRun) (ws : LetWidths) (live : Gate) (nodes : List Node) → IsSymRun at r ws → GrowsTo r.flow.nodes nodes → IsCircuit nodes → IsThere (length nodes) live → IsSymRun at (with_live live nodes r) ws
 guard-run at r ws live nodes h g c t =
     let k = run-later at r ws (with_nodes r.flow nodes) h g (flow-later at r.writes r.flow nodes g c h.flow) in
     record {

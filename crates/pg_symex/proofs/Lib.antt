@@ -16,3 +16,4 @@ pub mod Steps
 pub mod OpSteps
 pub mod Typing
 pub mod ExprSteps
+pub mod StmtSteps

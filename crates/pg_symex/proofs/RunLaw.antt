@@ -68,11 +68,11 @@ widths_at d first (j ∷ js) (suc k) i h g = widths_at d (first + 1) js k i ((pl
 
 -- ---- the body
 
-with_proofs : (ss : List Stmt) → List ((s : Stmt) × IsRightStmt s)
+pub with_proofs : (ss : List Stmt) → List ((s : Stmt) × IsRightStmt s)
 with_proofs [] = []
 with_proofs (s ∷ ss) = (s, stmt_right s) ∷ with_proofs ss
 
-with_proofs-first : (ss : List Stmt) → map (λ p. p.0) (with_proofs ss) ≡ ss
+pub with_proofs-first : (ss : List Stmt) → map (λ p. p.0) (with_proofs ss) ≡ ss
 unfolding with_proofs
 with_proofs-first [] = refl
 with_proofs-first (s ∷ ss) = ap (λ ts. s ∷ ts) (with_proofs-first ss)

@@ -162,7 +162,7 @@ in_order-right (s ∷ ss) at r place ws next after entry is h =
     let rest = in_order-right ss at t f.0 f.1 next after (entry-later r.flow.nodes t.flow.nodes at d.front entry) d.run f.3 in
     seq-does at r t _ f.1 after (λ values q. deed_of s.0 (entry_value values at) q) _ d rest
 
-block-right : (ss : List ((s : Stmt) × IsRightStmt s)) (at : SymEntry) (place : ℕ) (ws : LetWidths) (next : ℕ) (after : LetWidths) →
+pub block-right : (ss : List ((s : Stmt) × IsRightStmt s)) (at : SymEntry) (place : ℕ) (ws : LetWidths) (next : ℕ) (after : LetWidths) →
     after_block ws (fares_in_order (map (fare_of (sym_setting at)) (map (λ p. p.0) ss)) place ws) ≡ Keeps next after →
     IsArm at ws (block_made (map stmt_made (map (λ p. p.0) ss))) (λ values q. block_deed (map deed_of (map (λ p. p.0) ss)) (entry_value values at) q)
 block-right ss at place ws next after h r entry is =
@@ -172,7 +172,7 @@ block-right ss at place ws next after h r entry is =
       refl,
     )
 
-else-right : (o : Option (List ((s : Stmt) × IsRightStmt s))) (at : SymEntry) (place : ℕ) (ws : LetWidths) (next : ℕ) (after : LetWidths) →
+pub else-right : (o : Option (List ((s : Stmt) × IsRightStmt s))) (at : SymEntry) (place : ℕ) (ws : LetWidths) (next : ℕ) (after : LetWidths) →
     after_block ws (fares_if_any (option_map (map (fare_of (sym_setting at))) (option_map (map (λ p. p.0)) o)) place ws) ≡ Keeps next after →
     IsArm at ws (else_made (option_map (map stmt_made) (option_map (map (λ p. p.0)) o))) (λ values q. else_deed (option_map (map deed_of) (option_map (map (λ p. p.0)) o)) (entry_value values at) q)
 else-right None at place ws next after h r entry is = (nothing-does at r ws is, refl)

@@ -10,3 +10,4 @@ pub mod Runs
 pub mod EntryView
 pub mod FlowView
 pub mod Calls
+pub mod RunView

@@ -11,5 +11,6 @@ mod literal;
 mod names;
 mod operate;
 mod regs;
+mod run;
 
 pub use regs::{Next, Regs};
