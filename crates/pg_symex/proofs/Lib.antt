@@ -17,3 +17,5 @@ pub mod OpSteps
 pub mod Typing
 pub mod ExprSteps
 pub mod StmtSteps
+pub mod BlockSteps
+pub mod FormSteps

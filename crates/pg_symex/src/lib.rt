@@ -12,5 +12,6 @@ mod names;
 mod operate;
 mod regs;
 mod run;
+mod stmts;
 
 pub use regs::{Next, Regs};
