@@ -19,3 +19,4 @@ pub mod ExprSteps
 pub mod StmtSteps
 pub mod BlockSteps
 pub mod FormSteps
+pub mod RunSteps

@@ -54,11 +54,11 @@ placed_none : (k : ℕ) (o : Option ℕ) (later : Option (ℕ × ℕ)) → place
 placed_none k None later h = (refl, h)
 placed_none k (Some place) later h = absurd (cc h)
 
-as_width_none : (o : Option (ℕ × ℕ)) → as_width o ≡ None → o ≡ None
+pub as_width_none : (o : Option (ℕ × ℕ)) → as_width o ≡ None → o ≡ None
 as_width_none None h = refl
 as_width_none (Some x) h = absurd (cc h)
 
-widths_at : (d : Desc) (first : ℕ) (is : List Instr) (k : ℕ) (i : Instr) → width_broken d first is ≡ None → slice_get is k ≡ Some i → width_broken_in d i ≡ None
+pub widths_at : (d : Desc) (first : ℕ) (is : List Instr) (k : ℕ) (i : Instr) → width_broken d first is ≡ None → slice_get is k ≡ Some i → width_broken_in d i ≡ None
 unfolding width_broken
 widths_at d first [] k i h g = absurd (cc g)
 widths_at d first (j ∷ js) zero i h g =

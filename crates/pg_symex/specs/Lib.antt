@@ -11,3 +11,4 @@ pub mod EntryView
 pub mod FlowView
 pub mod Calls
 pub mod RunView
+pub mod Outcome

@@ -13,5 +13,7 @@ mod operate;
 mod regs;
 mod run;
 mod stmts;
+mod symbolic;
 
-pub use regs::{Next, Regs};
+pub use regs::Regs;
+pub use symbolic::{SymOutcome, SymWriteList, run_symbolic};
