@@ -20,7 +20,7 @@ use Rattle.pg_ast.specs.declared.tree.Desc.{Desc}
 use Rattle.pg_meaning.specs.declared.decoder.Decoder.{Decoder}
 use Rattle.pg_meaning.specs.Decoders.{decoder_of}
 use Rattle.pg_valid.specs.Valid.{IsValid}
-use Rattle.pg_valid.specs.Widths.{fares_in_order, fare_of, setting_of, width_broken}
+use Rattle.pg_valid.specs.Widths.{Keeps, fares_in_order, fare_of, setting_of, width_broken}
 use Rattle.pg_valid.proofs.ValidFacts.{IsWidth-word, IsWidth-address}
 use Rattle.pg_valid.proofs.PatternFacts.{valid-length}
 use Rattle.pg_valid.proofs.StepSound.{no_break}
@@ -36,6 +36,8 @@ use Rattle.pg_symex.specs.Calls.{widths_of}
 use Rattle.pg_symex.specs.RunView.{run_as, IsUnderWay, Fares, IsDone}
 use Rattle.pg_symex.specs.Outcome.{IsOutcome, MayRun}
 use Rattle.pg_symex.specs.declared.symbolic.SymOutcome.{SymOutcome}
+use Rattle.std.specs.Prelude.{IfOk}
+use Rattle.pg_ast.specs.declared.tree.Stmt.{Stmt}
 use Rattle.pg_symex.proofs.ExprForms.{bits-later, regs-later}
 use Rattle.pg_symex.proofs.LeafLaws.{length-literal, literal-there}
 use Rattle.pg_symex.proofs.OpLaw.{own_width}
@@ -94,7 +96,7 @@ begun d i dec regs n0 n1 n2 t0 t2 word one p r valid circuit may tm tc ol am bg 
         view = view;
         run = subst (λ ls. IsSymRun at (run_as n2 t2 r) (widths_of ls)) (sym none) (subst (λ (k : SymRun). IsSymRun at k []) (sym (bg n2 t2)) there);
       };
-      fares = record { place = 0; then_place = fare.0; after = fare.1; keeps = subst (λ ls. fares_in_order (map (fare_of (setting_of d i)) i.body) 0 (widths_of ls) ≡ _) (sym none) fare.2 };
+      fares = record { place = 0; then_place = fare.0; after = fare.1; keeps = subst (λ ls. fares_in_order (map (fare_of (setting_of d i)) i.body) 0 (widths_of ls) ≡ Keeps fare.0 fare.1) (sym none) fare.2 };
       front = f2;
     }
 
@@ -127,3 +129,26 @@ over_as nodes t w a e f g h =
     ∙ ap (λ k. let v : View = record { w = w; a = k; cells = t.cells; writes = t.writes } in v) f
     ∙ ap (λ ws. let v : View = record { w = w; a = a; cells = t.cells; writes = ws } in v) g in
     subst (λ (v : View). IsOver nodes v) is h
+
+-- an entry of numbers and a pattern that are those of the description and the instruction
+pub entry_is : (d : Desc) (i : Instr) (regs : Regs) (word : List Gate) (w a : ℕ) (pattern : List ℕ) → w ≡ d.word → a ≡ d.address → pattern ≡ i.pattern.bytes →
+    (let at : SymEntry = record { w = w; a = a; regs = regs; pattern = pattern; word = word } in at) ≡ sym_entry d i regs word
+entry_is d i regs word w a pattern e f g =
+    ap (λ k. let at : SymEntry = record { w = k; a = a; regs = regs; pattern = pattern; word = word } in at) e
+    ∙ ap (λ k. let at : SymEntry = record { w = d.word; a = k; regs = regs; pattern = pattern; word = word } in at) f
+    ∙ ap (λ k. let at : SymEntry = record { w = d.word; a = d.address; regs = regs; pattern = k; word = word } in at) g
+
+pub ready_as : (at due : SymEntry) (nodes : List Node) (t : View) (r : Run) → at ≡ due → IsUnderWay due nodes t r → IsUnderWay at nodes t r
+ready_as at due nodes t r e h = subst (λ (k : SymEntry). IsUnderWay k nodes t r) (sym e) h
+
+pub fares_as : (at due : SymEntry) (ss body : List Stmt) (r : Run) → at ≡ due → ss ≡ body → Fares (fares_in_order (map (fare_of (sym_setting due)) body)) r → Fares (fares_in_order (map (fare_of (sym_setting at)) ss)) r
+fares_as at due ss body r e f h =
+    subst (λ (k : SymEntry). Fares (fares_in_order (map (fare_of (sym_setting k)) ss)) r) (sym e) (subst (λ (k : List Stmt). Fares (fares_in_order (map (fare_of (sym_setting due)) k)) r) (sym f) h)
+
+pub done_as : (at due : SymEntry) (ss body : List Stmt) (first : SymRun) (t0 : View) (nodes : List Node) (t : View) (r : Run) → at ≡ due → ss ≡ body → IsDone (in_order_made (map stmt_made ss) at first) t0 nodes t r → IsDone (in_order_made (map stmt_made body) due first) t0 nodes t r
+done_as at due ss body first t0 nodes t r e f h =
+    subst (λ (k : SymEntry). IsDone (in_order_made (map stmt_made body) k first) t0 nodes t r) e (subst (λ (k : List Stmt). IsDone (in_order_made (map stmt_made k) at first) t0 nodes t r) f h)
+
+pub outcome_done : {E : Type 0} (res : Result SymOutcome E) (due : SymRun) (nodes : List Node) (t : View) (q : Run) → run_as nodes t q ≡ due → IfOk res (λ o. (ns : List Node) → IsOutcome (run_as ns t q) ns t o) → IfOk res (λ o. IsOutcome due nodes t o)
+outcome_done (Ok o) due nodes t q e h = outcome_as (run_as nodes t q) due nodes t o e (h nodes)
+outcome_done (Err x) due nodes t q e h = tt
