@@ -1,5 +1,5 @@
 -- Accesses, and loads.
-use Rattle.std.proofs.Common.{◌≡◌, ℕ, zero, suc, ◌+◌, ◌*◌, ◌^◌, ◌<◌, ◌≤◌, ◌==◌, nat_lt, Bool, true, false, not, ◌&&◌, ◌||◌, List, [], ◌∷◌, ◌++◌, length, take, get_or, Option, None, Some, refl, sym, ap, ◌∙◌, subst, arith}
+use Rattle.std.proofs.Common.{◌≡◌, ℕ, ◌^◌, ◌<◌, nat_lt, Bool, true, false, not, ◌&&◌, ◌||◌, List, [], ◌∷◌, ◌++◌, length, take, get_or, Option, None, Some, refl, sym, ap, ◌∙◌, subst, arith}
 use Rattle.std.specs.Prelude.{if◌then◌else◌}
 use Rattle.std.proofs.lemmas.List.Elements.{All-nil, All-cons, All-head, All-tail, All-get_or}
 use Rattle.pg_circuit.specs.declared.node.Gate.{Gate}
@@ -9,24 +9,24 @@ use Rattle.pg_circuit.specs.Values.{gate_value, IsThere}
 use Rattle.pg_circuit.specs.Grown.{GrowsTo}
 use Rattle.pg_circuit.specs.Made.{constant_gate, not_gate, and_made}
 use Rattle.pg_circuit.proofs.MadeLemmas.{not_value}
-use Rattle.pg_word.specs.Bits.{IsWidth, below_bit}
+use Rattle.pg_word.specs.Bits.{below_bit}
 use Rattle.pg_vec.specs.Number.{number, bit_of}
-use Rattle.pg_vec.specs.There.{AreThere, AreValues}
+use Rattle.pg_vec.specs.There.{AreValues}
 use Rattle.pg_vec.specs.Gates.{or_made}
 use Rattle.pg_vec.specs.Strings.{lt_made}
-use Rattle.pg_vec.proofs.Kept.{front_then, front_length, there_later, all_there_later, values_earlier, and-makes}
+use Rattle.pg_vec.proofs.Kept.{front_then, there_later, values_earlier, and-makes}
 use Rattle.pg_vec.proofs.GateLaws.{or-makes}
 use Rattle.pg_vec.proofs.EachLaws.{number-below}
 use Rattle.pg_vec.proofs.OpLaws.{lt_worth}
 use Rattle.pg_cells.specs.declared.cell.Cell.{Cell}
 use Rattle.pg_cells.specs.declared.cell.Write.{Write}
-use Rattle.pg_cells.specs.Storage.{IsStorage, Known, Agrees, written}
+use Rattle.pg_cells.specs.Storage.{Known, Agrees, written}
 use Rattle.pg_cells.specs.Cells.{known_of, known_cells, puts_of}
 use Rattle.pg_cells.specs.Made.{touch_made, found_word, with_found, cells_after}
 use Rattle.pg_cells.proofs.TouchLaws.{touches}
-use Rattle.pg_meaning.specs.Values.{Bits, bits, Meaning, Entry, Lets, with_value, loaded}
-use Rattle.pg_symex.specs.Flow.{SymEntry, SymLets, Flow, view_of, with_nodes}
-use Rattle.pg_symex.specs.Numbers.{value_of, entry_value, lets_value, window_value}
+use Rattle.pg_meaning.specs.Values.{Bits, bits, Meaning, with_value, loaded}
+use Rattle.pg_symex.specs.Flow.{SymEntry, SymLets, Flow, view_of}
+use Rattle.pg_symex.specs.Numbers.{value_of, window_value}
 use Rattle.pg_symex.specs.There.{AreBits, IsSymEntry, IsFlow}
 use Rattle.pg_symex.specs.Exprs.{bit_0, guarded_made, access_made, word_made, load_made}
 use Rattle.pg_symex.specs.Follows.{Follows, CellsStay, Makes}

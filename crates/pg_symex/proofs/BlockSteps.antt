@@ -1,6 +1,5 @@
 -- Blocks and ifs in code: what goes on after them, and what they are due to make.
-use Rattle.std.proofs.Common.{◌≡◌, ℕ, zero, suc, ◌+◌, ◌-◌, ◌*◌, ◌<◌, ◌≤◌, Bool, List, [], ◌∷◌, length, map, drop, get_or, Option, None, Some, Result, Ok, Err, refl, sym, ap, ◌∙◌, subst, arith}
-use Rattle.std.specs.Prelude.{OnOk}
+use Rattle.std.proofs.Common.{◌≡◌, ℕ, zero, suc, ◌+◌, ◌-◌, ◌<◌, ◌≤◌, List, [], ◌∷◌, length, map, drop, get_or, Option, None, Some, refl, sym, ap, ◌∙◌, subst, arith}
 use Rattle.std.specs.Option.{option_map}
 use Rattle.std.proofs.lemmas.List.{drop-drop}
 use Rattle.pg_circuit.specs.declared.node.Gate.{Gate}
@@ -12,23 +11,22 @@ use Rattle.pg_circuit.specs.Values.{IsThere}
 use Rattle.pg_vec.specs.Gates.{or_made}
 use Rattle.pg_vec.proofs.Kept.{front_same, front_then}
 use Rattle.pg_cells.specs.View.{View}
-use Rattle.pg_ast.specs.declared.name.Name.{Name as Names}
 use Rattle.pg_ast.specs.declared.tree.Expr.{Expr}
 use Rattle.pg_ast.specs.declared.tree.Stmt.{Stmt}
-use Rattle.pg_ast.specs.declared.tree.Stmt.TheVariants.{Let, Store, Pc, Mode, Rel, Bound, Trap, If, rolls-Let, rolls-Store, rolls-Pc, rolls-Mode, rolls-Rel, rolls-Bound, rolls-Trap, rolls-If}
+use Rattle.pg_ast.specs.declared.tree.Stmt.TheVariants.{If, rolls-Let, rolls-Store, rolls-Pc, rolls-Mode, rolls-Rel, rolls-Bound, rolls-Trap, rolls-If}
 use Rattle.pg_ast.specs.declared.tree.Stmt.TheOpen as Open
 use Rattle.pg_ast.specs.declared.tree.Stmt.TheFolds.{ind-Stmt, map-Stmt}
 use Rattle.pg_ast.specs.declared.tree.Stmt.TheViews.{roll-Stmt}
-use Rattle.pg_meaning.specs.Bodies.{Course, Run as Runs, in_order, block_deed, else_deed, deed_of}
+use Rattle.pg_meaning.specs.Bodies.{in_order, block_deed, deed_of}
 use Rattle.pg_valid.specs.Limits.{Tally, both, all_of, if_any, stmt_tally}
-use Rattle.pg_valid.specs.Widths.{LetWidths, Keeps, Faring, fares_in_order, fares_if_any, after_block, fare_of}
+use Rattle.pg_valid.specs.Widths.{LetWidths, Keeps, fares_in_order, fares_if_any, after_block, fare_of}
 use Rattle.pg_valid.proofs.DeedSound.{then_fares_keeps}
 use Rattle.pg_valid.proofs.CheckStmtEquations.{stmt_tally-if}
 use Rattle.pg_symex.specs.declared.run.Run.{Run}
 use Rattle.pg_symex.specs.Flow.{SymEntry, SymLets, SymRun}
 use Rattle.pg_symex.specs.Numbers.{entry_value}
 use Rattle.pg_symex.specs.There.{IsSymEntry, sym_setting}
-use Rattle.pg_symex.specs.Stmts.{SymDeed, with_expr, assigned, trap_made, with_lets_of, with_live, joined_made, other_made, if_made, in_order_made, block_made, else_made, stmt_made}
+use Rattle.pg_symex.specs.Stmts.{SymDeed, assigned, trap_made, with_lets_of, with_live, joined_made, other_made, if_made, in_order_made, block_made, else_made, stmt_made}
 use Rattle.pg_symex.specs.Ends.{IsSymRun, Does}
 use Rattle.pg_symex.specs.Calls.{widths_of}
 use Rattle.pg_symex.specs.RunView.{run_as, IsUnderWay, Fares, FaresInBlock, IsDone, OnTheWay}

@@ -1,19 +1,16 @@
 -- What each form makes of its parts, which were made right.
-use Rattle.std.proofs.Common.{◌≡◌, ℕ, ◌+◌, ◌-◌, ◌*◌, ◌/◌, ◌%◌, ◌^◌, ◌<◌, ◌≤◌, ◌==◌, Bool, true, false, not, ◌&&◌, ◌||◌, nat_lt, nat_eq, cond, List, [], ◌∷◌, ◌++◌, length, get_or, Option, None, Some, refl, sym, ap, ◌∙◌, subst, arith}
-use Rattle.std.specs.Prelude.{if◌then◌else◌}
+use Rattle.std.proofs.Common.{◌≡◌, ℕ, Bool, List, [], ◌∷◌, length, Option, Some, refl, sym, ap, ◌∙◌, subst}
 use Rattle.pg_circuit.specs.declared.node.Gate.{Gate}
 use Rattle.pg_circuit.specs.declared.node.Node.{Node}
 use Rattle.pg_circuit.specs.Nodes.{IsCircuit}
-use Rattle.pg_circuit.specs.Values.{gate_value, IsThere}
+use Rattle.pg_circuit.specs.Values.{gate_value}
 use Rattle.pg_circuit.specs.Grown.{GrowsTo}
 use Rattle.pg_word.specs.Bits.{IsWidth}
 use Rattle.pg_vec.specs.Number.{number}
-use Rattle.pg_vec.specs.There.{AreThere, AreValues}
+use Rattle.pg_vec.specs.There.{AreValues}
 use Rattle.pg_vec.specs.Makes.{MakesBits}
 use Rattle.pg_vec.proofs.Kept.{front_same, front_then, there_later, all_there_later, values_earlier}
 use Rattle.pg_cells.specs.declared.cell.Write.{Write}
-use Rattle.pg_cells.specs.Storage.{IsStorage, Agrees}
-use Rattle.pg_cells.specs.Cells.{known_cells}
 use Rattle.pg_cells.proofs.OverLaws.{IsOver-later}
 use Rattle.pg_meaning.specs.Values.{Bits, bits, Entry, Lets, Meaning, with_value}
 use Rattle.pg_valid.specs.Widths.{LetWidths}
@@ -21,8 +18,8 @@ use Rattle.pg_symex.specs.declared.regs.Regs.{Regs}
 use Rattle.pg_symex.specs.Flow.{SymEntry, SymLets, Flow, view_of, with_nodes}
 use Rattle.pg_symex.specs.Numbers.{value_of, entry_value, lets_value, window_value}
 use Rattle.pg_symex.specs.There.{AreBits, AreRegs, IsSymEntry, LetsAre, IsFlow}
-use Rattle.pg_symex.specs.Follows.{Follows, CellsStay, Makes}
-use Rattle.pg_symex.proofs.FollowsLaws.{one-follows, then-follows, two-follow, three-follow}
+use Rattle.pg_symex.specs.Follows.{Follows, Makes}
+use Rattle.pg_symex.proofs.FollowsLaws.{one-follows, two-follow, three-follow}
 
 -- ---- what stays
 

@@ -1,19 +1,17 @@
 -- Every expression that keeps to the table of widths is made right.
-use Rattle.std.proofs.Common.{◌≡◌, ℕ, zero, suc, ◌+◌, ◌-◌, ◌^◌, ◌<◌, ◌≤◌, ◌==◌, nat_le, nat_lt, Bool, true, false, ◌&&◌, List, [], ◌∷◌, length, cond, Option, None, Some, refl, sym, ap, ◌∙◌, subst, arith}
+use Rattle.std.proofs.Common.{◌≡◌, ℕ, zero, suc, ◌+◌, ◌-◌, ◌^◌, ◌<◌, ◌≤◌, ◌==◌, nat_le, nat_lt, Bool, true, false, ◌&&◌, List, length, cond, Option, None, Some, refl, sym, ap, ◌∙◌, subst, arith}
 use Rattle.std.specs.Prelude.{if◌then◌else◌}
 use Rattle.std.proofs.lemmas.Bool.{eqb-true, leb-true, ltb-true}
 use Rattle.pg_circuit.specs.declared.node.Gate.{Gate}
 use Rattle.pg_circuit.specs.Values.{gate_value}
-use Rattle.pg_word.specs.declared.psw.Mode.{Mode as Modes}
 use Rattle.pg_word.specs.Psw.{mode_of, bit_of}
 use Rattle.pg_word.specs.Bits.{IsWidth, complement_of, bits_between, joined, sign_extended}
 use Rattle.pg_vec.specs.Number.{number, bit_of as bit_number}
 use Rattle.pg_vec.specs.Makes.{MakesBits}
 use Rattle.pg_vec.specs.Strings.{bits_not_made, cat_made, cut_made, ext_made, sext_made, mux_made}
-use Rattle.pg_vec.proofs.Kept.{all_there_later, there_later, front_then, constant-value}
+use Rattle.pg_vec.proofs.Kept.{front_then, constant-value}
 use Rattle.pg_vec.proofs.EachLaws.{number-below}
 use Rattle.pg_vec.proofs.OpLaws.{not_worth, cat_worth, cut_worth, ext_worth, sext_worth, mux_worth}
-use Rattle.pg_cells.specs.declared.cell.Write.{Write}
 use Rattle.pg_ast.specs.declared.name.Name.{Name as Names}
 use Rattle.pg_ast.specs.declared.tree.Op.{Op}
 use Rattle.pg_ast.specs.declared.tree.Expr.{Expr}
@@ -23,21 +21,19 @@ use Rattle.pg_ast.specs.declared.tree.Expr.TheFolds.{ind-Expr, map-Expr}
 use Rattle.pg_ast.specs.declared.tree.Expr.TheViews.{roll-Expr}
 use Rattle.pg_meaning.specs.Patterns.{field_of}
 use Rattle.pg_meaning.proofs.PatternLemmas.{field_of-within}
-use Rattle.pg_meaning.specs.Values.{Bits, bits, Entry, Lets, name_value, op_value, loaded, value}
+use Rattle.pg_meaning.specs.Values.{bits, name_value, op_value, value}
 use Rattle.pg_meaning.proofs.ValueEquations as values
-use Rattle.pg_valid.specs.Widths.{LetWidths, where_holds, with_width, op_width, cut_width, widened_width, choice_width, width_of}
+use Rattle.pg_valid.specs.Widths.{where_holds, with_width, op_width, cut_width, widened_width, choice_width, width_of}
 use Rattle.pg_valid.proofs.CheckLemmas.{and_both}
 use Rattle.pg_valid.proofs.WidthEquations as widths
-use Rattle.pg_symex.specs.Flow.{SymEntry, SymLets, Flow}
-use Rattle.pg_symex.specs.Numbers.{value_of}
-use Rattle.pg_symex.specs.There.{AreBits, IsSymEntry, sym_setting, LetsAre, IsFlow}
+use Rattle.pg_symex.specs.There.{AreBits, sym_setting}
 use Rattle.pg_symex.specs.Exprs.{literal_bits, name_bits, bit_0, op_made, expr_made}
 use Rattle.pg_symex.specs.Follows.{Makes, IsRight}
 use Rattle.pg_symex.proofs.MadeEquations as mades
 use Rattle.pg_symex.proofs.ExprForms.{bits-later, entry-later, lets-later, bits_same, makes_as, leaf_makes, one_makes, two_make, three_make}
 use Rattle.pg_symex.proofs.LeafLaws.{length-literal, literal-there, number-literal, name-there, name-is}
 use Rattle.pg_symex.proofs.AccessLaws.{bit_0-there, number-bit_0, load_makes}
-use Rattle.pg_symex.proofs.OpLaw.{where_holds_some, OpMakes, op_makes, own_width}
+use Rattle.pg_symex.proofs.OpLaw.{where_holds_some, op_makes, own_width}
 
 with_width_some : (o : Option ℕ) (go : ℕ → Option ℕ) (m : ℕ) → with_width o go ≡ Some m → (n : ℕ) × (o ≡ Some n) × (go n ≡ Some m)
 with_width_some None go m h = absurd (cc h)

@@ -1,5 +1,5 @@
 -- What the code's forms are due to make of their parts, what they cost, and what widths their parts have.
-use Rattle.std.proofs.Common.{◌≡◌, ℕ, ◌+◌, ◌-◌, ◌*◌, ◌^◌, ◌<◌, ◌≤◌, ◌==◌, nat_le, nat_lt, Bool, true, false, ◌&&◌, List, length, map, Option, None, Some, IsSome, Result, Ok, Err, refl, sym, ap, ◌∙◌, subst, arith}
+use Rattle.std.proofs.Common.{◌≡◌, ℕ, ◌+◌, ◌-◌, ◌*◌, ◌^◌, ◌<◌, ◌≤◌, ◌==◌, nat_le, nat_lt, ◌&&◌, List, length, Option, None, Some, IsSome, Result, Ok, Err, refl, sym, ap, ◌∙◌, subst, arith}
 use Rattle.std.specs.Prelude.{IfOk, OnOk}
 use Rattle.std.proofs.lemmas.Bool.{eqb-true, leb-true, ltb-true}
 use Rattle.pg_circuit.specs.declared.node.Gate.{Gate}
@@ -7,7 +7,7 @@ use Rattle.pg_circuit.specs.declared.node.Node.{Node}
 use Rattle.pg_circuit.specs.Grown.{GrowsTo}
 use Rattle.pg_word.specs.Bits.{IsWidth}
 use Rattle.pg_vec.specs.AddsNodes.{AddsNodes}
-use Rattle.pg_vec.proofs.Kept.{front_same, front_then, front_length}
+use Rattle.pg_vec.proofs.Kept.{front_same, front_then}
 use Rattle.pg_cells.specs.declared.cell.Cell.{Cell}
 use Rattle.pg_cells.specs.declared.cell.Write.{Write}
 use Rattle.pg_cells.specs.View.{View}
@@ -21,14 +21,14 @@ use Rattle.pg_meaning.specs.Patterns.{field_of}
 use Rattle.pg_meaning.proofs.PatternLemmas.{field_of-within}
 use Rattle.pg_meaning.specs.Values.{value}
 use Rattle.pg_valid.specs.Limits.{Tally, both, expr_tally}
-use Rattle.pg_valid.specs.Widths.{where_holds, with_width, op_width, cut_width, widened_width, choice_width, field_or_let_width, width_of}
+use Rattle.pg_valid.specs.Widths.{where_holds, with_width, op_width, cut_width, widened_width, choice_width, width_of}
 use Rattle.pg_valid.proofs.CheckLemmas.{and_both}
 use Rattle.pg_valid.proofs.WidthEquations as widths
 use Rattle.pg_valid.proofs.CheckExprEquations.{expr_tally-load, expr_tally-not, expr_tally-bin, expr_tally-cat, expr_tally-cut, expr_tally-ext, expr_tally-sext, expr_tally-sel}
 use Rattle.pg_symex.specs.declared.guards.Guards.{Guards}
-use Rattle.pg_symex.specs.Flow.{SymEntry, SymLets, Flow, view_of, with_nodes}
+use Rattle.pg_symex.specs.Flow.{SymEntry, SymLets, Flow, view_of}
 use Rattle.pg_symex.specs.FlowView.{flow_as}
-use Rattle.pg_symex.specs.There.{AreBits, IsSymEntry, sym_setting, IsFlow}
+use Rattle.pg_symex.specs.There.{AreBits, sym_setting, IsFlow}
 use Rattle.pg_symex.specs.Exprs.{name_bits, then_bits, made_in, access_made, word_made, load_made, expr_made}
 use Rattle.pg_symex.specs.Follows.{Makes}
 use Rattle.pg_symex.specs.Calls.{widths_of, IsReady, IsTyped, IsMade, IsValue, Adds, expr_cost}

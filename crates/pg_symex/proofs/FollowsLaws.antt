@@ -1,6 +1,5 @@
 -- What follows where one part comes after another, over plain values.
-use Rattle.std.proofs.Common.{◌≡◌, ℕ, ◌==◌, Bool, true, false, ◌||◌, Option, None, Some, refl, sym, ap, ◌∙◌, subst}
-use Rattle.std.specs.Prelude.{if◌then◌else◌}
+use Rattle.std.proofs.Common.{◌≡◌, Bool, true, false, ◌||◌, Option, None, Some, refl, sym, ap, ◌∙◌, subst}
 use Rattle.pg_meaning.specs.Values.{Bits, with_value}
 use Rattle.pg_symex.specs.Follows.{Follows}
 

@@ -1,16 +1,15 @@
 -- Single forms in code, from what their steps made.
-use Rattle.std.proofs.Common.{◌≡◌, ℕ, ◌==◌, List, [], ◌∷◌, length, map, Option, Result, Ok, Err, refl, sym, ap, ◌∙◌, subst}
+use Rattle.std.proofs.Common.{◌≡◌, ℕ, List, ◌∷◌, map, Option, Result, Ok, Err, refl, sym, ap, ◌∙◌}
 use Rattle.std.specs.Prelude.{OnOk}
 use Rattle.std.specs.Option.{option_map}
 use Rattle.pg_circuit.specs.declared.node.Gate.{Gate}
 use Rattle.pg_circuit.specs.declared.node.Node.{Node}
 use Rattle.pg_cells.specs.View.{View}
-use Rattle.pg_ast.specs.declared.name.Name.{Name as Names}
 use Rattle.pg_ast.specs.declared.tree.Expr.{Expr}
 use Rattle.pg_ast.specs.declared.tree.Stmt.{Stmt}
-use Rattle.pg_ast.specs.declared.tree.Stmt.TheVariants.{Let, Store, Pc, Mode, Rel, Bound, Trap, If}
+use Rattle.pg_ast.specs.declared.tree.Stmt.TheVariants.{Store, Trap, If}
 use Rattle.pg_symex.specs.declared.run.Run.{Run}
-use Rattle.pg_symex.specs.Flow.{SymEntry, SymLets, SymRun}
+use Rattle.pg_symex.specs.Flow.{SymEntry, SymLets}
 use Rattle.pg_symex.specs.Exprs.{bit_0}
 use Rattle.pg_symex.specs.Stmts.{with_expr, let_made, store_made, trap_made, if_made, block_made, else_made, stmt_made}
 use Rattle.pg_symex.specs.RunView.{run_as, IsDone, IsTaken}

@@ -1,5 +1,5 @@
 -- What an if makes of its arms.
-use Rattle.std.proofs.Common.{◌≡◌, ℕ, ◌==◌, Bool, true, false, not, ◌&&◌, ◌||◌, cond, List, length, refl, sym, ap, ◌∙◌, subst}
+use Rattle.std.proofs.Common.{◌≡◌, ℕ, Bool, true, false, not, ◌&&◌, ◌||◌, cond, List, length, refl, sym, ap, ◌∙◌, subst}
 use Rattle.pg_circuit.specs.declared.node.Gate.{Gate}
 use Rattle.pg_circuit.specs.declared.node.Node.{Node}
 use Rattle.pg_circuit.specs.Nodes.{IsCircuit}
@@ -12,13 +12,12 @@ use Rattle.pg_vec.specs.There.{AreValues}
 use Rattle.pg_vec.specs.Gates.{or_made}
 use Rattle.pg_vec.proofs.Kept.{front_same, front_then, there_later, values_earlier, and-makes}
 use Rattle.pg_vec.proofs.GateLaws.{or-makes}
-use Rattle.pg_meaning.specs.Values.{Lets}
 use Rattle.pg_meaning.specs.Bodies.{Course, MemTrapped, Trapped, Going, Run}
 use Rattle.pg_valid.specs.Widths.{LetWidths}
-use Rattle.pg_symex.specs.Flow.{SymEntry, SymLets, Flow, SymRun, with_nodes}
+use Rattle.pg_symex.specs.Flow.{SymEntry, SymLets, SymRun, with_nodes}
 use Rattle.pg_symex.specs.Numbers.{next_psw, lets_value, window_value}
-use Rattle.pg_symex.specs.There.{IsSymEntry, IsFlow}
-use Rattle.pg_symex.specs.Stmts.{SymDeed, with_live, joined_made, other_made, if_made}
+use Rattle.pg_symex.specs.There.{IsSymEntry}
+use Rattle.pg_symex.specs.Stmts.{SymDeed, with_live, joined_made, if_made}
 use Rattle.pg_symex.specs.Ends.{run_value, IsSymRun, Skips, Ends, Does}
 use Rattle.pg_symex.proofs.ExprForms.{entry-later, flow-later}
 use Rattle.pg_symex.proofs.StmtForms.{run-later}

@@ -1,24 +1,19 @@
 -- Literals, lets and fields.
-use Rattle.std.proofs.Common.{◌≡◌, ℕ, zero, suc, ◌+◌, ◌-◌, ◌*◌, ◌/◌, ◌%◌, ◌^◌, ◌<◌, ◌≤◌, ◌==◌, nat_le, nat_lt, Bool, true, false, ◌&&◌, List, [], ◌∷◌, length, map, Option, None, Some, bytes_eq, refl, sym, ap, ◌∙◌, subst, arith}
+use Rattle.std.proofs.Common.{◌≡◌, ℕ, zero, suc, ◌+◌, ◌-◌, ◌/◌, ◌%◌, ◌^◌, ◌<◌, ◌==◌, Bool, true, false, List, [], ◌∷◌, length, Option, None, Some, bytes_eq, refl, sym, ap, ◌∙◌, subst, arith}
 use Rattle.std.specs.Prelude.{if◌then◌else◌}
-use Rattle.std.specs.List.{All}
-use Rattle.std.proofs.lemmas.Bool.{leb-true, ltb-true}
 use Rattle.std.proofs.lemmas.List.Elements.{All-nil, All-cons}
 use Rattle.pg_circuit.specs.declared.node.Gate.{Gate}
 use Rattle.pg_circuit.specs.declared.node.Node.{Node}
 use Rattle.pg_circuit.specs.Nodes.{IsCircuit}
 use Rattle.pg_circuit.specs.Values.{gate_value, IsThere}
 use Rattle.pg_circuit.specs.Made.{constant_gate}
-use Rattle.pg_word.specs.Bits.{IsWidth}
 use Rattle.pg_vec.specs.Number.{number, bit_of}
 use Rattle.pg_vec.specs.There.{AreThere, AreValues}
-use Rattle.pg_vec.specs.Strings.{cut_bits, cut_made}
-use Rattle.pg_vec.proofs.Kept.{constant-value}
 use Rattle.pg_vec.proofs.Sums.{pow-more}
 use Rattle.pg_vec.proofs.StringLaws.{cut-makes}
-use Rattle.pg_meaning.specs.Patterns.{Field, field_of, field_value}
-use Rattle.pg_meaning.specs.Values.{Bits, bits, Lets, let_value, field_or_let}
-use Rattle.pg_meaning.proofs.PatternLemmas.{LiesWithin, field_of-within}
+use Rattle.pg_meaning.specs.Patterns.{Field, field_value}
+use Rattle.pg_meaning.specs.Values.{bits, let_value, field_or_let}
+use Rattle.pg_meaning.proofs.PatternLemmas.{LiesWithin}
 use Rattle.pg_valid.specs.Widths.{LetWidths, let_width, field_or_let_width}
 use Rattle.pg_symex.specs.Flow.{SymEntry, SymLets}
 use Rattle.pg_symex.specs.Numbers.{value_of, entry_value, lets_value}

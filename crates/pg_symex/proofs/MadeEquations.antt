@@ -1,6 +1,5 @@
 -- The equations of what expressions are made of, one for each form.
 use Rattle.std.proofs.Common.{◌≡◌, ℕ, List, ap}
-use Rattle.pg_circuit.specs.declared.node.Gate.{Gate}
 use Rattle.pg_vec.specs.Strings.{bits_not_made, cat_made, cut_made, ext_made, sext_made, mux_made}
 use Rattle.pg_cells.specs.declared.cell.Write.{Write}
 use Rattle.pg_ast.specs.declared.name.Name.{Name as Names}

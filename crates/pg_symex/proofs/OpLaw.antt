@@ -1,5 +1,5 @@
 -- What an operator makes of two strings of widths that it takes.
-use Rattle.std.proofs.Common.{◌≡◌, ℕ, ◌==◌, ◌^◌, Bool, true, false, List, Option, Some, length, refl, sym, ap, ◌∙◌, subst, lit≤}
+use Rattle.std.proofs.Common.{◌≡◌, ℕ, ◌==◌, ◌^◌, Bool, true, false, List, Some, length, refl, sym, ◌∙◌, subst, lit≤}
 use Rattle.std.proofs.lemmas.Bool.{eqb-true}
 use Rattle.pg_circuit.specs.declared.node.Gate.{Gate}
 use Rattle.pg_circuit.specs.declared.node.Node.{Node}
@@ -9,7 +9,7 @@ use Rattle.pg_vec.specs.Makes.{MakesBits}
 use Rattle.pg_vec.proofs.OpLaws.{add_worth, sub_worth, mul_worth, and_worth, or_worth, xor_worth, eq_worth, lt_worth, shl_worth, shr_worth}
 use Rattle.pg_ast.specs.declared.tree.Op.{Op}
 use Rattle.pg_ast.specs.declared.tree.Op.TheVariants.{Add, Sub, Mul, And, Or, Xor, Eq, Lt, Shl, Shr}
-use Rattle.pg_meaning.specs.Values.{Bits, bits, op_value}
+use Rattle.pg_meaning.specs.Values.{op_value}
 use Rattle.pg_valid.specs.Widths.{where_holds, op_width}
 use Rattle.pg_symex.specs.Numbers.{value_of}
 use Rattle.pg_symex.specs.There.{AreBits}

@@ -1,5 +1,5 @@
 -- The widths that operators take.
-use Rattle.std.proofs.Common.{◌≡◌, ℕ, ◌==◌, Bool, true, false, Option, None, Some, IsSome, refl}
+use Rattle.std.proofs.Common.{◌≡◌, ℕ, ◌==◌, Bool, true, false, IsSome, refl}
 use Rattle.std.proofs.lemmas.Bool.{eqb-true}
 use Rattle.pg_valid.specs.Widths.{where_holds}
 

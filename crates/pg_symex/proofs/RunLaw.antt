@@ -1,33 +1,22 @@
 -- Each instruction of a valid description runs right.
-use Rattle.std.proofs.Common.{◌≡◌, ℕ, zero, suc, ◌+◌, ◌-◌, ◌%◌, ◌^◌, ◌<◌, ◌≤◌, Bool, true, false, List, [], ◌∷◌, map, length, take, slice_get, get_or, Option, None, Some, refl, sym, ap, ◌∙◌, subst, arith}
+use Rattle.std.proofs.Common.{◌≡◌, ℕ, zero, suc, ◌+◌, ◌%◌, ◌^◌, ◌<◌, Bool, true, false, List, [], ◌∷◌, map, length, take, slice_get, get_or, Option, None, Some, refl, sym, ap, ◌∙◌, subst, arith}
 use Rattle.pg_circuit.specs.declared.node.Gate.{Gate}
-use Rattle.pg_circuit.specs.declared.node.Node.{Node}
-use Rattle.pg_circuit.specs.Nodes.{IsCircuit}
-use Rattle.pg_circuit.specs.Values.{gate_value, IsThere}
-use Rattle.pg_circuit.specs.Grown.{GrowsTo}
-use Rattle.pg_circuit.specs.Made.{constant_gate}
+use Rattle.pg_circuit.specs.Values.{gate_value}
 use Rattle.pg_word.specs.Bits.{IsWidth, sum_of}
-use Rattle.pg_word.specs.declared.psw.Psw.{Psw}
 use Rattle.pg_vec.specs.Number.{number}
-use Rattle.pg_vec.specs.There.{AreThere, AreValues}
 use Rattle.pg_vec.specs.Strings.{add_made}
-use Rattle.pg_vec.proofs.Kept.{front_then, there_later, values_earlier, constant-value}
+use Rattle.pg_vec.proofs.Kept.{front_then, values_earlier, constant-value}
 use Rattle.std.proofs.lemmas.Nat.{pow_pos}
 use Rattle.pg_vec.proofs.Sums.{pow-more}
 use Rattle.pg_vec.proofs.OpLaws.{add_worth}
-use Rattle.pg_cells.specs.declared.cell.Cell.{Cell}
-use Rattle.pg_cells.specs.Storage.{IsStorage, Agrees, written}
-use Rattle.pg_cells.specs.Cells.{known_cells, puts_of}
 use Rattle.pg_cells.specs.View.{View}
-use Rattle.pg_cells.specs.Over.{IsOver}
 use Rattle.pg_cells.specs.Made.{touch_made, cells_after}
 use Rattle.pg_cells.proofs.OverLaws.{IsOver-later}
 use Rattle.pg_cells.proofs.TouchLaws.{touches}
 use Rattle.pg_ast.specs.declared.tree.Stmt.{Stmt}
 use Rattle.pg_ast.specs.declared.tree.Instr.{Instr}
 use Rattle.pg_ast.specs.declared.tree.Desc.{Desc}
-use Rattle.pg_meaning.specs.Values.{Entry}
-use Rattle.pg_meaning.specs.Bodies.{Course, MemTrapped, Trapped, Going, then_do, Run, After, in_order, deed_of, entry_of, begun, body}
+use Rattle.pg_meaning.specs.Bodies.{Course, MemTrapped, Trapped, Going, then_do, Run, in_order, deed_of, entry_of, begun, body}
 use Rattle.pg_valid.specs.Widths.{LetWidths, Keeps, fares_in_order, fare_of, setting_of, width_broken_in, placed_at, width_broken}
 use Rattle.pg_valid.specs.Valid.{IsValid, as_width}
 use Rattle.pg_valid.proofs.ValidFacts.{IsWidth-word, IsWidth-address}
@@ -35,13 +24,13 @@ use Rattle.pg_valid.proofs.PatternFacts.{valid-length}
 use Rattle.pg_valid.proofs.StepSound.{no_break}
 use Rattle.pg_symex.specs.declared.regs.Regs.{Regs}
 use Rattle.pg_symex.specs.Flow.{SymEntry, SymRun}
-use Rattle.pg_symex.specs.Numbers.{entry_psw, next_psw, entry_value}
-use Rattle.pg_symex.specs.There.{AreBits, AreRegs, AreNext, IsSymEntry, sym_setting}
+use Rattle.pg_symex.specs.Numbers.{entry_psw, entry_value}
+use Rattle.pg_symex.specs.There.{AreBits, IsSymEntry}
 use Rattle.pg_symex.specs.Exprs.{literal_bits}
 use Rattle.pg_symex.specs.Stmts.{in_order_made, stmt_made}
 use Rattle.pg_symex.specs.Ends.{run_value, IsSymRun, Ends, Does, IsRightStmt}
 use Rattle.pg_symex.specs.Body.{sym_entry, run_begun, body_made, run_made}
-use Rattle.pg_symex.specs.Runs.{Tells, RunsAs, AllRunRight}
+use Rattle.pg_symex.specs.Runs.{Tells, AllRunRight}
 use Rattle.pg_symex.proofs.ExprForms.{bits-later, regs-later}
 use Rattle.pg_symex.proofs.LeafLaws.{length-literal, literal-there, number-literal}
 use Rattle.pg_symex.proofs.AccessLaws.{cells-stay}

@@ -1,5 +1,5 @@
 -- A run that begins, in code, and what is due at its end.
-use Rattle.std.proofs.Common.{◌≡◌, ℕ, ◌+◌, ◌-◌, ◌^◌, ◌<◌, ◌≤◌, true, false, List, [], ◌∷◌, length, map, get_or, slice_get, Option, Some, Result, Ok, Err, refl, sym, ap, ◌∙◌, subst, arith}
+use Rattle.std.proofs.Common.{◌≡◌, ℕ, ◌<◌, List, [], length, map, get_or, slice_get, Some, Result, Ok, Err, sym, ap, ◌∙◌, subst, arith}
 use Rattle.std.proofs.lemmas.Option.{slice_get-get_or}
 use Rattle.std.proofs.lemmas.List.{length-map, get_or-map}
 use Rattle.pg_circuit.specs.declared.node.Gate.{Gate}
@@ -27,7 +27,7 @@ use Rattle.pg_valid.proofs.StepSound.{no_break}
 use Rattle.pg_symex.specs.declared.regs.Regs.{Regs}
 use Rattle.pg_symex.specs.declared.run.Run.{Run}
 use Rattle.pg_symex.specs.Flow.{SymEntry, SymRun, view_of}
-use Rattle.pg_symex.specs.There.{AreBits, AreRegs, IsSymEntry, sym_setting}
+use Rattle.pg_symex.specs.There.{AreBits, sym_setting}
 use Rattle.pg_symex.specs.Exprs.{literal_bits}
 use Rattle.pg_symex.specs.Stmts.{in_order_made, stmt_made}
 use Rattle.pg_symex.specs.Ends.{IsSymRun}

@@ -1,44 +1,37 @@
 -- What statements make that come one after another, and what single forms make.
-use Rattle.std.proofs.Common.{◌≡◌, ℕ, ◌+◌, ◌^◌, ◌<◌, ◌≤◌, min, ◌==◌, nat_lt, Bool, true, false, not, ◌&&◌, ◌||◌, cond, List, [], ◌∷◌, ◌++◌, length, map, take, set, Option, None, Some, refl, sym, ap, ◌∙◌, subst, arith}
+use Rattle.std.proofs.Common.{◌≡◌, ℕ, ◌^◌, nat_lt, Bool, true, false, not, ◌&&◌, ◌||◌, cond, List, [], ◌∷◌, ◌++◌, length, take, set, Option, None, Some, refl, sym, ap, ◌∙◌, subst, arith}
 use Rattle.std.specs.Prelude.{if◌then◌else◌, slice_set}
-use Rattle.std.proofs.lemmas.Bool.{ltb-true, ltb-false}
+use Rattle.std.proofs.lemmas.Bool.{ltb-true}
 use Rattle.std.proofs.lemmas.List.{length-take}
 use Rattle.std.proofs.Math.Seq.{take-set-lt}
 use Rattle.pg_circuit.specs.declared.node.Gate.{Gate}
 use Rattle.pg_circuit.specs.declared.node.Node.{Node}
-use Rattle.pg_circuit.specs.Nodes.{IsCircuit}
-use Rattle.pg_circuit.specs.Values.{gate_value, IsThere}
+use Rattle.pg_circuit.specs.Values.{gate_value}
 use Rattle.pg_circuit.specs.Grown.{GrowsTo}
-use Rattle.pg_circuit.specs.Made.{constant_gate, not_gate, and_made}
-use Rattle.pg_circuit.proofs.MadeLemmas.{not_value}
-use Rattle.pg_word.specs.declared.psw.Psw.{Psw}
-use Rattle.pg_word.specs.Psw.{mode_of}
 use Rattle.pg_vec.specs.Number.{number}
-use Rattle.pg_vec.specs.There.{AreThere, AreValues}
 use Rattle.pg_vec.specs.Gates.{or_made}
 use Rattle.pg_vec.specs.Strings.{mux_made}
-use Rattle.pg_vec.proofs.Kept.{front_same, front_then, there_later, values_earlier, and-makes, constant-value}
+use Rattle.pg_vec.proofs.Kept.{front_same, front_then, there_later, values_earlier, constant-value}
 use Rattle.pg_vec.proofs.GateLaws.{or-makes}
 use Rattle.pg_vec.proofs.EachLaws.{number-below}
 use Rattle.pg_vec.proofs.OpLaws.{mux_worth}
 use Rattle.pg_cells.specs.declared.cell.Cell.{Cell}
 use Rattle.pg_cells.specs.declared.cell.Write.{Write}
-use Rattle.pg_cells.specs.Storage.{IsStorage, Put, Agrees, after_put, written}
+use Rattle.pg_cells.specs.Storage.{Agrees, after_put, written}
 use Rattle.pg_cells.specs.Cells.{known_cells, put_of, puts_of}
-use Rattle.pg_cells.specs.Over.{IsWrite}
 use Rattle.pg_cells.proofs.OverLaws.{IsOver-write}
-use Rattle.pg_meaning.specs.Values.{Bits, bits, Meaning}
-use Rattle.pg_meaning.specs.Bodies.{Course, MemTrapped, Trapped, Going, then_do, with_bits, Run, store_deed}
+use Rattle.pg_meaning.specs.Values.{Bits, Meaning}
+use Rattle.pg_meaning.specs.Bodies.{Course, MemTrapped, Trapped, Going, then_do, Run, store_deed}
 use Rattle.pg_valid.specs.Widths.{LetWidths}
 use Rattle.pg_symex.specs.declared.regs.Next.{Next}
-use Rattle.pg_symex.specs.Flow.{SymEntry, SymLets, Flow, SymRun, view_of, with_nodes}
+use Rattle.pg_symex.specs.Flow.{SymEntry, Flow, SymRun, view_of, with_nodes}
 use Rattle.pg_symex.specs.Numbers.{value_of, next_psw, entry_value, lets_value, window_value}
 use Rattle.pg_symex.specs.There.{AreBits, AreNext, IsSymEntry, LetsAre, IsFlow}
 use Rattle.pg_symex.specs.Exprs.{access_made}
-use Rattle.pg_symex.specs.Follows.{Follows, CellsStay, Makes}
-use Rattle.pg_symex.specs.Stmts.{with_write, store_made, assigned, trap_made, with_lets_of, with_live, joined_made, other_made}
+use Rattle.pg_symex.specs.Follows.{Follows, Makes}
+use Rattle.pg_symex.specs.Stmts.{store_made, assigned, trap_made, with_lets_of}
 use Rattle.pg_symex.specs.Ends.{run_value, IsSymRun, Skips, Ends, Does}
-use Rattle.pg_symex.proofs.FollowsLaws.{nothing-follows, unreached}
+use Rattle.pg_symex.proofs.FollowsLaws.{unreached}
 use Rattle.pg_symex.proofs.ExprForms.{bits-later, lets-later, flow-later}
 use Rattle.pg_symex.proofs.WindowLaws.{length-written}
 use Rattle.pg_symex.proofs.AccessLaws.{accessed}

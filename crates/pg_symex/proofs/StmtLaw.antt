@@ -13,18 +13,18 @@ use Rattle.pg_ast.specs.declared.tree.Stmt.TheVariants.{Let, Store, Pc, Mode, Re
 use Rattle.pg_ast.specs.declared.tree.Stmt.TheOpen as Open
 use Rattle.pg_ast.specs.declared.tree.Stmt.TheFolds.{ind-Stmt, map-Stmt}
 use Rattle.pg_ast.specs.declared.tree.Stmt.TheViews.{roll-Stmt}
-use Rattle.pg_meaning.specs.Values.{Bits, Entry, value}
-use Rattle.pg_meaning.specs.Bodies.{Course, MemTrapped, Trapped, Going, then_do, with_bits, Run, let_deed, store_deed, with_p, with_mode, with_l, with_b, in_order, block_deed, else_deed, deed_of}
+use Rattle.pg_meaning.specs.Values.{value}
+use Rattle.pg_meaning.specs.Bodies.{Course, Trapped, Going, with_bits, Run, let_deed, store_deed, with_p, with_mode, with_l, with_b, in_order, block_deed, else_deed, deed_of}
 use Rattle.pg_meaning.proofs.DeedEquations as deeds
-use Rattle.pg_valid.specs.Widths.{LetWidths, width_of, Fare, Breaks, Keeps, wants, binds, then_fares, fares_in_order, fares_if_any, after_block, fare_of}
+use Rattle.pg_valid.specs.Widths.{LetWidths, width_of, Keeps, wants, then_fares, fares_in_order, fares_if_any, after_block, fare_of}
 use Rattle.pg_valid.proofs.DeedSound.{wants_keeps, then_fares_keeps, after_block_keeps, binds_keeps}
 use Rattle.pg_valid.proofs.FareEquations as fares
 use Rattle.pg_symex.specs.declared.regs.Next.{Next}
 use Rattle.pg_symex.specs.Flow.{SymEntry, SymRun}
-use Rattle.pg_symex.specs.Numbers.{value_of, entry_value, lets_value, next_psw}
-use Rattle.pg_symex.specs.There.{AreBits, AreNext, IsSymEntry, sym_setting, LetsAre}
+use Rattle.pg_symex.specs.Numbers.{value_of, entry_value, next_psw}
+use Rattle.pg_symex.specs.There.{IsSymEntry, sym_setting}
 use Rattle.pg_symex.specs.Exprs.{bit_0, expr_made}
-use Rattle.pg_symex.specs.Stmts.{SymDeed, assigned, assign_p, assign_mode, assign_l, assign_b, let_made, store_made, trap_made, block_made, else_made, if_made, in_order_made, stmt_made}
+use Rattle.pg_symex.specs.Stmts.{assigned, let_made, store_made, trap_made, block_made, else_made, if_made, in_order_made, stmt_made}
 use Rattle.pg_symex.specs.Follows.{Makes}
 use Rattle.pg_symex.specs.Ends.{IsSymRun, Does, IsRightStmt}
 use Rattle.pg_symex.proofs.StmtEquations as mades

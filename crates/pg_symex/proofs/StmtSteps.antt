@@ -1,13 +1,10 @@
 -- What the code's statements are due to make, and what they may rest on.
-use Rattle.std.proofs.Common.{◌≡◌, ℕ, ◌+◌, ◌-◌, ◌<◌, ◌≤◌, Bool, List, [], ◌∷◌, length, map, take, drop, Option, None, Some, IsSome, Result, Ok, Err, refl, sym, ap, ◌∙◌, subst, arith}
+use Rattle.std.proofs.Common.{◌≡◌, ℕ, Bool, List, [], ◌∷◌, length, map, Option, Some, IsSome, Result, Ok, Err, refl, sym, ap, ◌∙◌, subst}
 use Rattle.std.specs.Prelude.{OnOk}
 use Rattle.std.specs.Option.{option_map}
 use Rattle.pg_circuit.specs.declared.node.Gate.{Gate}
 use Rattle.pg_circuit.specs.declared.node.Node.{Node}
-use Rattle.pg_circuit.specs.Grown.{GrowsTo}
-use Rattle.pg_circuit.specs.Values.{IsThere}
 use Rattle.pg_vec.specs.Strings.{mux_made}
-use Rattle.pg_vec.proofs.Kept.{front_then}
 use Rattle.pg_cells.specs.declared.cell.Cell.{Cell}
 use Rattle.pg_cells.specs.declared.cell.Write.{Write}
 use Rattle.pg_cells.specs.View.{View}
@@ -15,18 +12,18 @@ use Rattle.pg_cells.specs.Over.{IsOver}
 use Rattle.pg_ast.specs.declared.name.Name.{Name as Names}
 use Rattle.pg_ast.specs.declared.tree.Expr.{Expr}
 use Rattle.pg_ast.specs.declared.tree.Stmt.{Stmt}
-use Rattle.pg_ast.specs.declared.tree.Stmt.TheVariants.{Let, Store, Pc, Mode, Rel, Bound, Trap, If}
+use Rattle.pg_ast.specs.declared.tree.Stmt.TheVariants.{Let, Store, Pc, Mode, Rel, Bound, If}
 use Rattle.pg_meaning.specs.Bodies.{Course, Run as Runs}
-use Rattle.pg_valid.specs.Widths.{LetWidths, width_of, Fare, Keeps, wants, binds, then_fares, Faring, fares_in_order, fares_if_any, after_block, fare_of}
-use Rattle.pg_valid.proofs.DeedSound.{wants_keeps, then_fares_keeps, after_block_keeps, binds_keeps}
+use Rattle.pg_valid.specs.Widths.{LetWidths, width_of, Keeps, wants, then_fares, Faring, fares_in_order, fares_if_any, after_block, fare_of}
+use Rattle.pg_valid.proofs.DeedSound.{wants_keeps, then_fares_keeps, binds_keeps}
 use Rattle.pg_valid.proofs.FareEquations as fares
 use Rattle.pg_symex.specs.declared.guards.Guards.{Guards}
 use Rattle.pg_symex.specs.declared.run.Run.{Run}
 use Rattle.pg_symex.specs.declared.regs.Next.{Next}
-use Rattle.pg_symex.specs.Flow.{SymEntry, SymLets, Flow, SymRun, view_of}
+use Rattle.pg_symex.specs.Flow.{SymEntry, SymLets, Flow, SymRun}
 use Rattle.pg_symex.specs.FlowView.{flow_as}
-use Rattle.pg_symex.specs.There.{AreBits, IsSymEntry, sym_setting, LetsAre, IsFlow}
-use Rattle.pg_symex.specs.Exprs.{access_made, expr_made}
+use Rattle.pg_symex.specs.There.{AreBits, sym_setting, LetsAre, IsFlow}
+use Rattle.pg_symex.specs.Exprs.{access_made}
 use Rattle.pg_symex.specs.Stmts.{with_expr, assigned, stmt_made}
 use Rattle.pg_symex.specs.Ends.{IsSymRun, Does}
 use Rattle.pg_symex.specs.Calls.{widths_of, IsTyped}

@@ -1,9 +1,9 @@
 -- Windows that are the first cells of a storage.
-use Rattle.std.proofs.Common.{◌≡◌, ℕ, ◌<◌, ◌≤◌, ◌^◌, min, Bool, true, false, nat_lt, if◌then◌else◌, List, [], ◌∷◌, length, take, set, get_or, slice_get, Option, None, Some, refl, sym, ap, ◌∙◌, arith}
+use Rattle.std.proofs.Common.{◌≡◌, ℕ, ◌<◌, ◌≤◌, Bool, true, false, nat_lt, if◌then◌else◌, List, [], ◌∷◌, length, take, set, get_or, slice_get, None, Some, refl, ap, ◌∙◌, arith}
 use Rattle.std.proofs.lemmas.Bool.{ltb-true, ltb-false}
 use Rattle.std.proofs.lemmas.List.{length-take, length-set, get_or-take}
 use Rattle.std.proofs.lemmas.Option.{slice_get_past, slice_get-get_or}
-use Rattle.pg_meaning.specs.Values.{Bits, bits, loaded}
+use Rattle.pg_meaning.specs.Values.{bits, loaded}
 use Rattle.pg_cells.specs.Storage.{Put, after_put, written}
 
 -- a load from the first v cells, where the address is one of the storage

@@ -1,5 +1,5 @@
 -- What a whole run is made of: the fetch, and the body.
-use Rattle.std.specs.Prelude.{ℕ, true, false, List, [], map}
+use Rattle.std.specs.Prelude.{true, false, List, [], map}
 use Rattle.pg_circuit.specs.declared.node.Gate.{Gate}
 use Rattle.pg_circuit.specs.declared.node.Node.{Node}
 use Rattle.pg_circuit.specs.Made.{constant_gate}
@@ -10,8 +10,7 @@ use Rattle.pg_cells.specs.Made.{touch_made, cells_after}
 use Rattle.pg_ast.specs.declared.tree.Instr.{Instr}
 use Rattle.pg_ast.specs.declared.tree.Desc.{Desc}
 use Rattle.pg_symex.specs.declared.regs.Regs.{Regs}
-use Rattle.pg_symex.specs.declared.regs.Next.{Next}
-use Rattle.pg_symex.specs.Flow.{SymEntry, Flow, SymRun, view_of}
+use Rattle.pg_symex.specs.Flow.{SymEntry, Flow, SymRun}
 use Rattle.pg_symex.specs.Exprs.{literal_bits, with_made}
 use Rattle.pg_symex.specs.Stmts.{in_order_made, stmt_made}
 

@@ -1,7 +1,6 @@
 -- What gates mean that are made of an expression.
-use Rattle.std.specs.Prelude.{◌≡◌, ℕ, Bool, true, false, ◌||◌, List, length, Option, None, Some}
+use Rattle.std.specs.Prelude.{◌≡◌, ℕ, Bool, false, ◌||◌, List, length, Option, None, Some}
 use Rattle.pg_circuit.specs.declared.node.Gate.{Gate}
-use Rattle.pg_circuit.specs.declared.node.Node.{Node}
 use Rattle.pg_circuit.specs.Grown.{GrowsTo}
 use Rattle.pg_circuit.specs.Values.{gate_value}
 use Rattle.pg_vec.specs.There.{AreValues}

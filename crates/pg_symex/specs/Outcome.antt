@@ -1,7 +1,6 @@
 -- What a call for a whole run leaves, and what it asks.
 use Rattle.std.specs.Prelude.{◌≡◌, ℕ, List, length, slice_get, Some}
 use Rattle.pg_circuit.specs.declared.node.Node.{Node}
-use Rattle.pg_circuit.specs.Nodes.{IsCircuit}
 use Rattle.pg_cells.specs.View.{View}
 use Rattle.pg_cells.specs.Over.{IsOver}
 use Rattle.pg_ast.specs.declared.tree.Instr.{Instr}

@@ -1,11 +1,10 @@
 -- What statements are made of, one form after another: a body under way, and what it is after them.
-use Rattle.std.specs.Prelude.{ℕ, ◌+◌, ◌%◌, ◌^◌, false, List, [], ◌∷◌, ◌++◌, map, Option, None, Some}
+use Rattle.std.specs.Prelude.{ℕ, false, List, [], ◌∷◌, ◌++◌, Option, None, Some}
 use Rattle.pg_circuit.specs.declared.node.Gate.{Gate}
 use Rattle.pg_circuit.specs.declared.node.Node.{Node}
 use Rattle.pg_circuit.specs.Made.{constant_gate, not_gate, and_made}
 use Rattle.pg_vec.specs.Gates.{or_made}
 use Rattle.pg_vec.specs.Strings.{mux_made}
-use Rattle.pg_cells.specs.declared.cell.Write.{Write}
 use Rattle.pg_ast.specs.declared.tree.Expr.{Expr}
 use Rattle.pg_ast.specs.declared.tree.Stmt.{Stmt}
 use Rattle.pg_ast.specs.declared.tree.Stmt.TheOpen.{Stmt-F, Let, Store, Pc, Mode, Rel, Bound, Trap, If}

@@ -1,7 +1,6 @@
 -- Gates that are there, of the widths that a body wants.
-use Rattle.std.specs.Prelude.{◌≡◌, ℕ, ◌≤◌, List, [], ◌∷◌, length}
+use Rattle.std.specs.Prelude.{◌≡◌, ℕ, List, [], ◌∷◌, length}
 use Rattle.pg_circuit.specs.declared.node.Gate.{Gate}
-use Rattle.pg_circuit.specs.declared.node.Node.{Node}
 use Rattle.pg_circuit.specs.Nodes.{IsCircuit}
 use Rattle.pg_circuit.specs.Values.{IsThere}
 use Rattle.pg_word.specs.Bits.{IsWidth}

@@ -14,8 +14,8 @@ use crate::entry::Entry;
 use crate::gates::bit_0;
 use crate::guards::{Guards, access};
 use crate::lets::Lets;
-use crate::names::name_gates;
 use crate::literal::literal;
+use crate::names::name_gates;
 use crate::operate::operate;
 use pg_ast::{Expr, Op};
 use pg_cells::Touched;
@@ -233,4 +233,3 @@ fn sel(
     let right = expr(alloc, at, lets, c, t, g, y.get())?;
     ops::mux(alloc, c, bit_0(&choice), &left, &right)
 }
-

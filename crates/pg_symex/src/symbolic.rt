@@ -112,12 +112,7 @@ fn run_instr(
 
 /// A body begins with the next P, and with no let; its place is reached, and no trap has ended it. The error is want of
 /// memory.
-fn begin<'m>(
-    alloc: Global,
-    c: &Circuit,
-    regs: &Regs,
-    p: Bits,
-) -> Result<Run<'m>, AllocError>
+fn begin<'m>(alloc: Global, c: &Circuit, regs: &Regs, p: Bits) -> Result<Run<'m>, AllocError>
     ensures { IfOk result (λ r. (nodes : List Node) (v : View) → run_as nodes v r ≡ run_begun regs.now p nodes v.cells v.writes) }
 {
     let mode = Bits::from_slice(alloc, regs.mode.as_slice())?;

@@ -1,4 +1,4 @@
-use Rattle.std.proofs.Common.{◌≡◌, ◌+◌, ◌*◌, ◌^◌, ◌∙◌, List, length, refl, sym, ap, subst, rules, arith}
+use Rattle.std.proofs.Common.{◌≡◌, ◌∙◌, length, refl, sym, ap, subst, rules, arith}
 use Rattle.std.specs.Prelude.{IfOk}
 use Rattle.pg_circuit.specs.declared.node.Gate.{Gate}
 use Rattle.pg_circuit.specs.declared.circuit.Circuit.{Circuit}
@@ -21,7 +21,7 @@ pub load-returns-in_err-address-clause-kept : goal.load-returns-in_err-address-c
 load-returns-in_err-address-clause-kept t c = one_first _ _ _ c.args.x.now c.get.result.now (Load c.args.x.now) c.get.ensures (cost-load c.args.x.now) c.expr.ensures.kept
 
 pub load-access-requires-clause-address : goal.load-access-requires-clause-address
-load-access-requires-clause-address t c = 
+load-access-requires-clause-address t c =
     let w = address_width (entry_as c.args.at.now) c.args.lets.now c.args.x.now _ c.requires.typed (width_as (entry_as c.args.at.now) c.args.lets.now c.args.x.now c.get.result.now _ c.get.ensures c.in_ok-address.ensures.value.width) in
     subst (λ k. AreBits (length c.expr.new.c.nodes) k c.in_ok-address.address) w c.in_ok-address.ensures.value.are_bits
 
@@ -29,17 +29,17 @@ pub load-returns-in_err-access-clause-kept : goal.load-returns-in_err-access-cla
 load-returns-in_err-access-clause-kept t c = load_second _ _ c.expr.new.c.nodes c.access.new.circuit.nodes c.args.x.now c.get.result.now c.get.ensures c.expr.ensures.kept c.access.ensures.kept
 
 pub load-touch-requires-clause-over : goal.load-touch-requires-clause-over
-load-touch-requires-clause-over t c = 
+load-touch-requires-clause-over t c =
     let w = address_width (entry_as c.args.at.now) c.args.lets.now c.args.x.now _ c.requires.typed (width_as (entry_as c.args.at.now) c.args.lets.now c.args.x.now c.get.result.now _ c.get.ensures c.in_ok-address.ensures.value.width) in
     touch_over (entry_as c.args.at.now) c.args.lets.now c.get.result.now c.args.c.now.nodes c.expr.new.c.nodes c.access.new.circuit.nodes c.expr.new.t c.expr.new.g c.access.new.guards c.in_ok-address.address c.in_ok-address.ensures.value w c.in_ok-access.ensures.made
 
 pub load-touch-requires-clause-width : goal.load-touch-requires-clause-width
-load-touch-requires-clause-width t c = 
+load-touch-requires-clause-width t c =
     let w = address_width (entry_as c.args.at.now) c.args.lets.now c.args.x.now _ c.requires.typed (width_as (entry_as c.args.at.now) c.args.lets.now c.args.x.now c.get.result.now _ c.get.ensures c.in_ok-address.ensures.value.width) in
     w ∙ sym (ap (λ (v : View). v.a) c.in_ok-address.ensures.value.ready.view)
 
 pub load-returns-clause-made : goal.load-returns-clause-made
-load-returns-clause-made t c = 
+load-returns-clause-made t c =
     made_load (entry_as c.args.at.now) c.args.lets.now c.args.x.now c.get.result.now c.args.t.now c.expr.new.t c.touch.new.self (flow_as c.args.c.now.nodes c.args.t.now.cells c.args.g.now) c.in_ok-address.address c.expr.new.c.nodes c.access.new.circuit.nodes c.touch.new.circuit.nodes c.expr.new.g c.access.new.guards c.touch.result
     c.get.ensures c.in_ok-address.ensures.value.ready.view c.in_ok-address.ensures.made c.in_ok-access.ensures.made c.touch.ensures.made c.touch.ensures.cells
 
@@ -53,7 +53,7 @@ pub not-returns-in_err-bits-clause-kept : goal.not-returns-in_err-bits-clause-ke
 not-returns-in_err-bits-clause-kept t c = one_first _ _ _ c.args.x.now c.get.result.now (Not c.args.x.now) c.get.ensures (cost-not c.args.x.now) c.expr.ensures.kept
 
 pub not-returns-clause-made : goal.not-returns-clause-made
-not-returns-clause-made t c = 
+not-returns-clause-made t c =
     made_one (entry_as c.args.at.now) c.args.lets.now c.args.x.now c.get.result.now (Not c.args.x.now) (λ n b. bits_not_made n b) c.args.t.now c.expr.new.t (flow_as c.args.c.now.nodes c.args.t.now.cells c.args.g.now) c.in_ok-bits.bits c.expr.new.c.nodes c.not.new.circuit.nodes c.expr.new.g c.not.result
     (mades.made-not c.args.x.now (entry_as c.args.at.now) c.args.lets.now c.args.t.now.writes (flow_as c.args.c.now.nodes c.args.t.now.cells c.args.g.now)) c.get.ensures c.in_ok-bits.ensures.made c.not.ensures.made
 
@@ -67,7 +67,7 @@ pub cut-returns-in_err-bits-clause-kept : goal.cut-returns-in_err-bits-clause-ke
 cut-returns-in_err-bits-clause-kept t c = one_first _ _ _ c.args.x.now c.get.result.now (Cut c.args.x.now c.args.high c.args.low) c.get.ensures (cost-cut c.args.x.now c.args.high c.args.low) c.expr.ensures.kept
 
 pub cut-returns-clause-made : goal.cut-returns-clause-made
-cut-returns-clause-made t c = 
+cut-returns-clause-made t c =
     made_one (entry_as c.args.at.now) c.args.lets.now c.args.x.now c.get.result.now (Cut c.args.x.now c.args.high c.args.low) (λ n b. cut_made n b c.args.high c.args.low) c.args.t.now c.expr.new.t (flow_as c.args.c.now.nodes c.args.t.now.cells c.args.g.now) c.in_ok-bits.bits c.expr.new.c.nodes c.cut.new.circuit.nodes c.expr.new.g c.cut.result
     (mades.made-cut c.args.x.now c.args.high c.args.low (entry_as c.args.at.now) c.args.lets.now c.args.t.now.writes (flow_as c.args.c.now.nodes c.args.t.now.cells c.args.g.now)) c.get.ensures c.in_ok-bits.ensures.made c.cut.ensures.made
 
@@ -81,7 +81,7 @@ pub ext-returns-in_err-bits-clause-kept : goal.ext-returns-in_err-bits-clause-ke
 ext-returns-in_err-bits-clause-kept t c = one_first _ _ _ c.args.x.now c.get.result.now (Ext c.args.x.now c.args.to) c.get.ensures (cost-ext c.args.x.now c.args.to) c.expr.ensures.kept
 
 pub ext-returns-clause-made : goal.ext-returns-clause-made
-ext-returns-clause-made t c = 
+ext-returns-clause-made t c =
     made_one (entry_as c.args.at.now) c.args.lets.now c.args.x.now c.get.result.now (Ext c.args.x.now c.args.to) (λ n b. ext_made n b c.args.to) c.args.t.now c.expr.new.t (flow_as c.args.c.now.nodes c.args.t.now.cells c.args.g.now) c.in_ok-bits.bits c.expr.new.c.nodes c.ext.new.circuit.nodes c.expr.new.g c.ext.result
     (mades.made-ext c.args.x.now c.args.to (entry_as c.args.at.now) c.args.lets.now c.args.t.now.writes (flow_as c.args.c.now.nodes c.args.t.now.cells c.args.g.now)) c.get.ensures c.in_ok-bits.ensures.made c.ext.ensures.made
 
@@ -95,7 +95,7 @@ pub sext-returns-in_err-bits-clause-kept : goal.sext-returns-in_err-bits-clause-
 sext-returns-in_err-bits-clause-kept t c = one_first _ _ _ c.args.x.now c.get.result.now (Sext c.args.x.now c.args.to) c.get.ensures (cost-sext c.args.x.now c.args.to) c.expr.ensures.kept
 
 pub sext-returns-clause-made : goal.sext-returns-clause-made
-sext-returns-clause-made t c = 
+sext-returns-clause-made t c =
     made_one (entry_as c.args.at.now) c.args.lets.now c.args.x.now c.get.result.now (Sext c.args.x.now c.args.to) (λ n b. sext_made n b c.args.to) c.args.t.now c.expr.new.t (flow_as c.args.c.now.nodes c.args.t.now.cells c.args.g.now) c.in_ok-bits.bits c.expr.new.c.nodes c.sext.new.circuit.nodes c.expr.new.g c.sext.result
     (mades.made-sext c.args.x.now c.args.to (entry_as c.args.at.now) c.args.lets.now c.args.t.now.writes (flow_as c.args.c.now.nodes c.args.t.now.cells c.args.g.now)) c.get.ensures c.in_ok-bits.ensures.made c.sext.ensures.made
 
@@ -145,7 +145,7 @@ pub bin-returns-in_err-right-clause-kept : goal.bin-returns-in_err-right-clause-
 bin-returns-in_err-right-clause-kept t c = two_second _ _ _ c.expr.new.c.nodes c.expr-2.new.c.nodes c.args.x.now c.args.y.now c.get.result.now c.get-2.result.now (Bin c.args.op c.args.x.now c.args.y.now) c.get.ensures c.get-2.ensures (cost-bin c.args.op c.args.x.now c.args.y.now) (writes_same c.in_ok-left.ensures.made) c.expr.ensures.kept c.expr-2.ensures.kept
 
 pub bin-returns-clause-made : goal.bin-returns-clause-made
-bin-returns-clause-made t c = 
+bin-returns-clause-made t c =
     made_two (entry_as c.args.at.now) c.args.lets.now c.args.x.now c.args.y.now c.get.result.now c.get-2.result.now (Bin c.args.op c.args.x.now c.args.y.now) (λ n u v. op_made c.args.op n u v) c.args.t.now c.expr.new.t c.expr-2.new.t (flow_as c.args.c.now.nodes c.args.t.now.cells c.args.g.now) c.in_ok-left.left c.in_ok-right.right c.expr.new.c.nodes c.expr-2.new.c.nodes c.operate.new.circuit.nodes c.expr.new.g c.expr-2.new.g c.operate.result
     (mades.made-bin c.args.op c.args.x.now c.args.y.now (entry_as c.args.at.now) c.args.lets.now c.args.t.now.writes (flow_as c.args.c.now.nodes c.args.t.now.cells c.args.g.now)) c.get.ensures c.get-2.ensures c.in_ok-left.ensures.made c.in_ok-right.ensures.made c.operate.ensures.made
 
@@ -165,7 +165,7 @@ pub cat-returns-in_err-right-clause-kept : goal.cat-returns-in_err-right-clause-
 cat-returns-in_err-right-clause-kept t c = two_second _ _ _ c.expr.new.c.nodes c.expr-2.new.c.nodes c.args.x.now c.args.y.now c.get.result.now c.get-2.result.now (Cat c.args.x.now c.args.y.now) c.get.ensures c.get-2.ensures (cost-cat c.args.x.now c.args.y.now) (writes_same c.in_ok-left.ensures.made) c.expr.ensures.kept c.expr-2.ensures.kept
 
 pub cat-returns-clause-made : goal.cat-returns-clause-made
-cat-returns-clause-made t c = 
+cat-returns-clause-made t c =
     made_two (entry_as c.args.at.now) c.args.lets.now c.args.x.now c.args.y.now c.get.result.now c.get-2.result.now (Cat c.args.x.now c.args.y.now) (λ n u v. cat_made n u v) c.args.t.now c.expr.new.t c.expr-2.new.t (flow_as c.args.c.now.nodes c.args.t.now.cells c.args.g.now) c.in_ok-left.left c.in_ok-right.right c.expr.new.c.nodes c.expr-2.new.c.nodes c.cat.new.circuit.nodes c.expr.new.g c.expr-2.new.g c.cat.result
     (mades.made-cat c.args.x.now c.args.y.now (entry_as c.args.at.now) c.args.lets.now c.args.t.now.writes (flow_as c.args.c.now.nodes c.args.t.now.cells c.args.g.now)) c.get.ensures c.get-2.ensures c.in_ok-left.ensures.made c.in_ok-right.ensures.made c.cat.ensures.made
 
@@ -203,7 +203,7 @@ pub sel-mux-requires-clause-same_width : goal.sel-mux-requires-clause-same_width
 sel-mux-requires-clause-same_width t c = sel_widths (entry_as c.args.at.now) c.args.lets.now c.args.test.now c.args.x.now c.args.y.now _ _ _ c.requires.typed (width_as (entry_as c.args.at.now) c.args.lets.now c.args.test.now c.get.result.now _ c.get.ensures c.in_ok-choice.ensures.value.width) (width_as (entry_as c.args.at.now) c.args.lets.now c.args.x.now c.get-2.result.now _ c.get-2.ensures c.in_ok-left.ensures.value.width) (width_as (entry_as c.args.at.now) c.args.lets.now c.args.y.now c.get-3.result.now _ c.get-3.ensures c.in_ok-right.ensures.value.width)
 
 pub sel-returns-clause-made : goal.sel-returns-clause-made
-sel-returns-clause-made t c = 
+sel-returns-clause-made t c =
     let Q : Gate → Type 0 = λ z. IfOk c.mux.result (λ bits. (bits, c.mux.new.circuit.nodes) ≡ mux_made c.expr-3.new.c.nodes z c.in_ok-left.left c.in_ok-right.right) in
     made_three (entry_as c.args.at.now) c.args.lets.now c.args.test.now c.args.x.now c.args.y.now c.get.result.now c.get-2.result.now c.get-3.result.now (Sel c.args.test.now c.args.x.now c.args.y.now) (λ n a u v. mux_made n (bit_0 a) u v) c.args.t.now c.expr.new.t c.expr-2.new.t c.expr-3.new.t (flow_as c.args.c.now.nodes c.args.t.now.cells c.args.g.now) c.in_ok-choice.choice c.in_ok-left.left c.in_ok-right.right c.expr.new.c.nodes c.expr-2.new.c.nodes c.expr-3.new.c.nodes c.mux.new.circuit.nodes c.expr.new.g c.expr-2.new.g c.expr-3.new.g c.mux.result
     (mades.made-sel c.args.test.now c.args.x.now c.args.y.now (entry_as c.args.at.now) c.args.lets.now c.args.t.now.writes (flow_as c.args.c.now.nodes c.args.t.now.cells c.args.g.now)) c.get.ensures c.get-2.ensures c.get-3.ensures c.in_ok-choice.ensures.made c.in_ok-left.ensures.made c.in_ok-right.ensures.made (subst Q c.bit_0.ensures c.mux.ensures.made)
@@ -221,7 +221,7 @@ pub expr-returns-in-Lit-clause-made : goal.expr-returns-in-Lit-clause-made
 expr-returns-in-Lit-clause-made t c = leaf_made (entry_as c.args.at.now) c.args.lets.now c.args.e.now (Lit c.in-Lit.value c.in-Lit.width) c.args.t.now c.args.c.now.nodes c.args.g.now (literal_bits c.in-Lit.value c.in-Lit.width) (literal_bits c.in-Lit.value c.in-Lit.width) c.literal.result c.in-Lit.is (mades.made-lit c.in-Lit.value c.in-Lit.width (entry_as c.args.at.now) c.args.lets.now c.args.t.now.writes (flow_as c.args.c.now.nodes c.args.t.now.cells c.args.g.now)) refl c.literal.ensures
 
 pub expr-returns-in-Lit-clause-value : goal.expr-returns-in-Lit-clause-value
-expr-returns-in-Lit-clause-value t c = 
+expr-returns-in-Lit-clause-value t c =
     value_is (entry_as c.args.at.now) c.args.lets.now c.args.e.now c.args.e.now c.args.c.now.nodes c.args.c.now.nodes c.args.t.now c.args.t.now c.args.g.now c.args.g.now c.literal.result refl c.requires.ready c.requires.typed
     (leaf_made (entry_as c.args.at.now) c.args.lets.now c.args.e.now (Lit c.in-Lit.value c.in-Lit.width) c.args.t.now c.args.c.now.nodes c.args.g.now (literal_bits c.in-Lit.value c.in-Lit.width) (literal_bits c.in-Lit.value c.in-Lit.width) c.literal.result c.in-Lit.is (mades.made-lit c.in-Lit.value c.in-Lit.width (entry_as c.args.at.now) c.args.lets.now c.args.t.now.writes (flow_as c.args.c.now.nodes c.args.t.now.cells c.args.g.now)) refl c.literal.ensures)
 
@@ -229,7 +229,7 @@ pub expr-returns-in-Name-clause-made : goal.expr-returns-in-Name-clause-made
 expr-returns-in-Name-clause-made t c = leaf_made (entry_as c.args.at.now) c.args.lets.now c.args.e.now (Name c.in-Name.name) c.args.t.now c.args.c.now.nodes c.args.g.now (name_bits (entry_as c.args.at.now) c.args.lets.now c.in-Name.name.bytes) (name_bits (entry_as c.args.at.now) c.args.lets.now c.as_bytes.result.now) c.name_gates.result c.in-Name.is (mades.made-name c.in-Name.name (entry_as c.args.at.now) c.args.lets.now c.args.t.now.writes (flow_as c.args.c.now.nodes c.args.t.now.cells c.args.g.now)) (ap (name_bits (entry_as c.args.at.now) c.args.lets.now) c.as_bytes.ensures) c.name_gates.ensures
 
 pub expr-returns-in-Name-clause-value : goal.expr-returns-in-Name-clause-value
-expr-returns-in-Name-clause-value t c = 
+expr-returns-in-Name-clause-value t c =
     value_is (entry_as c.args.at.now) c.args.lets.now c.args.e.now c.args.e.now c.args.c.now.nodes c.args.c.now.nodes c.args.t.now c.args.t.now c.args.g.now c.args.g.now c.name_gates.result refl c.requires.ready c.requires.typed
     (leaf_made (entry_as c.args.at.now) c.args.lets.now c.args.e.now (Name c.in-Name.name) c.args.t.now c.args.c.now.nodes c.args.g.now (name_bits (entry_as c.args.at.now) c.args.lets.now c.in-Name.name.bytes) (name_bits (entry_as c.args.at.now) c.args.lets.now c.as_bytes.result.now) c.name_gates.result c.in-Name.is (mades.made-name c.in-Name.name (entry_as c.args.at.now) c.args.lets.now c.args.t.now.writes (flow_as c.args.c.now.nodes c.args.t.now.cells c.args.g.now)) (ap (name_bits (entry_as c.args.at.now) c.args.lets.now) c.as_bytes.ensures) c.name_gates.ensures)
 
@@ -237,7 +237,7 @@ pub expr-returns-in-Pc-clause-made : goal.expr-returns-in-Pc-clause-made
 expr-returns-in-Pc-clause-made t c = leaf_made (entry_as c.args.at.now) c.args.lets.now c.args.e.now Pc c.args.t.now c.args.c.now.nodes c.args.g.now c.args.at.now.regs.now.p c.as_slice.result.now c.from_slice.result c.in-Pc.is (mades.made-pc (entry_as c.args.at.now) c.args.lets.now c.args.t.now.writes (flow_as c.args.c.now.nodes c.args.t.now.cells c.args.g.now)) c.as_slice.ensures.gates c.from_slice.ensures
 
 pub expr-returns-in-Pc-clause-value : goal.expr-returns-in-Pc-clause-value
-expr-returns-in-Pc-clause-value t c = 
+expr-returns-in-Pc-clause-value t c =
     value_is (entry_as c.args.at.now) c.args.lets.now c.args.e.now c.args.e.now c.args.c.now.nodes c.args.c.now.nodes c.args.t.now c.args.t.now c.args.g.now c.args.g.now c.from_slice.result refl c.requires.ready c.requires.typed
     (leaf_made (entry_as c.args.at.now) c.args.lets.now c.args.e.now Pc c.args.t.now c.args.c.now.nodes c.args.g.now c.args.at.now.regs.now.p c.as_slice.result.now c.from_slice.result c.in-Pc.is (mades.made-pc (entry_as c.args.at.now) c.args.lets.now c.args.t.now.writes (flow_as c.args.c.now.nodes c.args.t.now.cells c.args.g.now)) c.as_slice.ensures.gates c.from_slice.ensures)
 
@@ -245,7 +245,7 @@ pub expr-returns-in-Mode-clause-made : goal.expr-returns-in-Mode-clause-made
 expr-returns-in-Mode-clause-made t c = leaf_made (entry_as c.args.at.now) c.args.lets.now c.args.e.now Mode c.args.t.now c.args.c.now.nodes c.args.g.now c.args.at.now.regs.now.mode c.as_slice-in-Mode.result.now c.from_slice-in-Mode.result c.in-Mode.is (mades.made-mode (entry_as c.args.at.now) c.args.lets.now c.args.t.now.writes (flow_as c.args.c.now.nodes c.args.t.now.cells c.args.g.now)) c.as_slice-in-Mode.ensures.gates c.from_slice-in-Mode.ensures
 
 pub expr-returns-in-Mode-clause-value : goal.expr-returns-in-Mode-clause-value
-expr-returns-in-Mode-clause-value t c = 
+expr-returns-in-Mode-clause-value t c =
     value_is (entry_as c.args.at.now) c.args.lets.now c.args.e.now c.args.e.now c.args.c.now.nodes c.args.c.now.nodes c.args.t.now c.args.t.now c.args.g.now c.args.g.now c.from_slice-in-Mode.result refl c.requires.ready c.requires.typed
     (leaf_made (entry_as c.args.at.now) c.args.lets.now c.args.e.now Mode c.args.t.now c.args.c.now.nodes c.args.g.now c.args.at.now.regs.now.mode c.as_slice-in-Mode.result.now c.from_slice-in-Mode.result c.in-Mode.is (mades.made-mode (entry_as c.args.at.now) c.args.lets.now c.args.t.now.writes (flow_as c.args.c.now.nodes c.args.t.now.cells c.args.g.now)) c.as_slice-in-Mode.ensures.gates c.from_slice-in-Mode.ensures)
 
@@ -253,7 +253,7 @@ pub expr-returns-in-Rel-clause-made : goal.expr-returns-in-Rel-clause-made
 expr-returns-in-Rel-clause-made t c = leaf_made (entry_as c.args.at.now) c.args.lets.now c.args.e.now Rel c.args.t.now c.args.c.now.nodes c.args.g.now c.args.at.now.regs.now.l c.as_slice-in-Rel.result.now c.from_slice-in-Rel.result c.in-Rel.is (mades.made-rel (entry_as c.args.at.now) c.args.lets.now c.args.t.now.writes (flow_as c.args.c.now.nodes c.args.t.now.cells c.args.g.now)) c.as_slice-in-Rel.ensures.gates c.from_slice-in-Rel.ensures
 
 pub expr-returns-in-Rel-clause-value : goal.expr-returns-in-Rel-clause-value
-expr-returns-in-Rel-clause-value t c = 
+expr-returns-in-Rel-clause-value t c =
     value_is (entry_as c.args.at.now) c.args.lets.now c.args.e.now c.args.e.now c.args.c.now.nodes c.args.c.now.nodes c.args.t.now c.args.t.now c.args.g.now c.args.g.now c.from_slice-in-Rel.result refl c.requires.ready c.requires.typed
     (leaf_made (entry_as c.args.at.now) c.args.lets.now c.args.e.now Rel c.args.t.now c.args.c.now.nodes c.args.g.now c.args.at.now.regs.now.l c.as_slice-in-Rel.result.now c.from_slice-in-Rel.result c.in-Rel.is (mades.made-rel (entry_as c.args.at.now) c.args.lets.now c.args.t.now.writes (flow_as c.args.c.now.nodes c.args.t.now.cells c.args.g.now)) c.as_slice-in-Rel.ensures.gates c.from_slice-in-Rel.ensures)
 
@@ -261,38 +261,38 @@ pub expr-returns-in-Bound-clause-made : goal.expr-returns-in-Bound-clause-made
 expr-returns-in-Bound-clause-made t c = leaf_made (entry_as c.args.at.now) c.args.lets.now c.args.e.now Bound c.args.t.now c.args.c.now.nodes c.args.g.now c.args.at.now.regs.now.b c.as_slice-in-Bound.result.now c.from_slice-in-Bound.result c.in-Bound.is (mades.made-bound (entry_as c.args.at.now) c.args.lets.now c.args.t.now.writes (flow_as c.args.c.now.nodes c.args.t.now.cells c.args.g.now)) c.as_slice-in-Bound.ensures.gates c.from_slice-in-Bound.ensures
 
 pub expr-returns-in-Bound-clause-value : goal.expr-returns-in-Bound-clause-value
-expr-returns-in-Bound-clause-value t c = 
+expr-returns-in-Bound-clause-value t c =
     value_is (entry_as c.args.at.now) c.args.lets.now c.args.e.now c.args.e.now c.args.c.now.nodes c.args.c.now.nodes c.args.t.now c.args.t.now c.args.g.now c.args.g.now c.from_slice-in-Bound.result refl c.requires.ready c.requires.typed
     (leaf_made (entry_as c.args.at.now) c.args.lets.now c.args.e.now Bound c.args.t.now c.args.c.now.nodes c.args.g.now c.args.at.now.regs.now.b c.as_slice-in-Bound.result.now c.from_slice-in-Bound.result c.in-Bound.is (mades.made-bound (entry_as c.args.at.now) c.args.lets.now c.args.t.now.writes (flow_as c.args.c.now.nodes c.args.t.now.cells c.args.g.now)) c.as_slice-in-Bound.ensures.gates c.from_slice-in-Bound.ensures)
 
 pub expr-returns-in-Load-clause-value : goal.expr-returns-in-Load-clause-value
-expr-returns-in-Load-clause-value t c = 
+expr-returns-in-Load-clause-value t c =
     value_is (entry_as c.args.at.now) c.args.lets.now c.args.e.now (Load c.in-Load.x) c.args.c.now.nodes c.load.new.c.nodes c.args.t.now c.load.new.t c.args.g.now c.load.new.g c.load.result c.in-Load.is c.requires.ready c.requires.typed c.load.ensures.made
 
 pub expr-returns-in-Not-clause-value : goal.expr-returns-in-Not-clause-value
-expr-returns-in-Not-clause-value t c = 
+expr-returns-in-Not-clause-value t c =
     value_is (entry_as c.args.at.now) c.args.lets.now c.args.e.now (Not c.in-Not.x) c.args.c.now.nodes c.not.new.c.nodes c.args.t.now c.not.new.t c.args.g.now c.not.new.g c.not.result c.in-Not.is c.requires.ready c.requires.typed c.not.ensures.made
 
 pub expr-returns-in-Bin-clause-value : goal.expr-returns-in-Bin-clause-value
-expr-returns-in-Bin-clause-value t c = 
+expr-returns-in-Bin-clause-value t c =
     value_is (entry_as c.args.at.now) c.args.lets.now c.args.e.now (Bin c.in-Bin.op c.in-Bin.x c.in-Bin.y) c.args.c.now.nodes c.bin.new.c.nodes c.args.t.now c.bin.new.t c.args.g.now c.bin.new.g c.bin.result c.in-Bin.is c.requires.ready c.requires.typed c.bin.ensures.made
 
 pub expr-returns-in-Cat-clause-value : goal.expr-returns-in-Cat-clause-value
-expr-returns-in-Cat-clause-value t c = 
+expr-returns-in-Cat-clause-value t c =
     value_is (entry_as c.args.at.now) c.args.lets.now c.args.e.now (Cat c.in-Cat.x c.in-Cat.y) c.args.c.now.nodes c.cat.new.c.nodes c.args.t.now c.cat.new.t c.args.g.now c.cat.new.g c.cat.result c.in-Cat.is c.requires.ready c.requires.typed c.cat.ensures.made
 
 pub expr-returns-in-Cut-clause-value : goal.expr-returns-in-Cut-clause-value
-expr-returns-in-Cut-clause-value t c = 
+expr-returns-in-Cut-clause-value t c =
     value_is (entry_as c.args.at.now) c.args.lets.now c.args.e.now (Cut c.in-Cut.x c.in-Cut.high c.in-Cut.low) c.args.c.now.nodes c.cut.new.c.nodes c.args.t.now c.cut.new.t c.args.g.now c.cut.new.g c.cut.result c.in-Cut.is c.requires.ready c.requires.typed c.cut.ensures.made
 
 pub expr-returns-in-Ext-clause-value : goal.expr-returns-in-Ext-clause-value
-expr-returns-in-Ext-clause-value t c = 
+expr-returns-in-Ext-clause-value t c =
     value_is (entry_as c.args.at.now) c.args.lets.now c.args.e.now (Ext c.in-Ext.x c.in-Ext.to) c.args.c.now.nodes c.ext.new.c.nodes c.args.t.now c.ext.new.t c.args.g.now c.ext.new.g c.ext.result c.in-Ext.is c.requires.ready c.requires.typed c.ext.ensures.made
 
 pub expr-returns-in-Sext-clause-value : goal.expr-returns-in-Sext-clause-value
-expr-returns-in-Sext-clause-value t c = 
+expr-returns-in-Sext-clause-value t c =
     value_is (entry_as c.args.at.now) c.args.lets.now c.args.e.now (Sext c.in-Sext.x c.in-Sext.to) c.args.c.now.nodes c.sext.new.c.nodes c.args.t.now c.sext.new.t c.args.g.now c.sext.new.g c.sext.result c.in-Sext.is c.requires.ready c.requires.typed c.sext.ensures.made
 
 pub expr-returns-in-Sel-clause-value : goal.expr-returns-in-Sel-clause-value
-expr-returns-in-Sel-clause-value t c = 
+expr-returns-in-Sel-clause-value t c =
     value_is (entry_as c.args.at.now) c.args.lets.now c.args.e.now (Sel c.in-Sel.test c.in-Sel.x c.in-Sel.y) c.args.c.now.nodes c.sel.new.c.nodes c.args.t.now c.sel.new.t c.args.g.now c.sel.new.g c.sel.result c.in-Sel.is c.requires.ready c.requires.typed c.sel.ensures.made

@@ -1,6 +1,6 @@
-use Rattle.std.proofs.Common.{◌≡◌, ◌∷◌, ◌+◌, ◌-◌, ◌∙◌, drop, length, refl, sym, ap, rules, arith}
+use Rattle.std.proofs.Common.{◌∷◌, ◌+◌, ◌-◌, ◌∙◌, drop, length, refl, sym, ap, rules, arith}
 use Rattle.std.proofs.lemmas.List.{drop_more, drop_all}
-use Rattle.pg_ast.specs.declared.tree.Stmt.TheVariants.{Let, Store, Pc, Mode, Rel, Bound, Trap, If}
+use Rattle.pg_ast.specs.declared.tree.Stmt.TheVariants.{Let, Pc, Mode, Rel, Bound}
 use Rattle.pg_vec.proofs.Kept.{front_same, front_then, there_later}
 use Rattle.pg_symex.specs.EntryView.{entry_as}
 use Rattle.pg_symex.specs.RunView.{run_as}
@@ -19,7 +19,7 @@ pub stmt-take-requires-clause-typed : goal.stmt-take-requires-clause-typed
 stmt-take-requires-clause-typed t c = let_typed (entry_as c.args.at.now) c.args.s.now c.args.run.now c.in-Let.name c.in-Let.e c.in-Let.is c.requires.typed
 
 pub stmt-returns-in_ok-bits-in-Let-clause-made : goal.stmt-returns-in_ok-bits-in-Let-clause-made
-stmt-returns-in_ok-bits-in-Let-clause-made t c = 
+stmt-returns-in_ok-bits-in-Let-clause-made t c =
     done_form (entry_as c.args.at.now) c.args.s.now (Let c.in-Let.name c.in-Let.e) c.in-Let.e c.args.c.now.nodes c.take.new.c.nodes c.take.new.c.nodes c.args.t.now c.take.new.t c.take.new.t c.args.run.now c.take.new.run (record c.take.new.run { lets = c.push.new.self }) c.in_ok-bits-in-Let.bits (λ x q. let_made c.in-Let.name.bytes x q) c.push.result c.in-Let.is
     (mades.made-let c.in-Let.name c.in-Let.e (entry_as c.args.at.now) (run_as c.args.c.now.nodes c.args.t.now c.args.run.now)) c.in_ok-bits-in-Let.ensures.taken (let_step c.take.new.c.nodes c.take.new.t c.take.new.run c.as_bytes.result.now c.in-Let.name.bytes c.in_ok-bits-in-Let.bits c.push.new.self c.push.result c.as_bytes.ensures c.push.ensures) refl
 
@@ -42,7 +42,7 @@ pub stmt-store-requires-clause-value : goal.stmt-store-requires-clause-value
 stmt-store-requires-clause-value t c = taken_bits (entry_as c.args.at.now) c.in-Store.e c.take-in-Store.new.c.nodes c.take-in-Store-2.new.c.nodes c.take-in-Store.new.t c.take-in-Store-2.new.t c.take-in-Store.new.run c.take-in-Store-2.new.run c.in_ok-value-in-Store.value _ c.in_ok-value-in-Store.ensures.taken (width_later (entry_as c.args.at.now) c.args.run.now c.take-in-Store.new.run c.in-Store.e _ (lets_same c.in_ok-address-in-Store.ensures.taken) ((store_widths (entry_as c.args.at.now) c.args.s.now c.args.run.now c.in-Store.a c.in-Store.e c.in-Store.is c.requires.typed).1))
 
 pub stmt-returns-in_ok-value-in-Store-clause-made : goal.stmt-returns-in_ok-value-in-Store-clause-made
-stmt-returns-in_ok-value-in-Store-clause-made t c = 
+stmt-returns-in_ok-value-in-Store-clause-made t c =
     store_done (entry_as c.args.at.now) c.args.s.now c.in-Store.a c.in-Store.e c.args.c.now.nodes c.take-in-Store.new.c.nodes c.take-in-Store-2.new.c.nodes c.store.new.c.nodes c.args.t.now c.take-in-Store.new.t c.take-in-Store-2.new.t c.store.new.t c.args.run.now c.take-in-Store.new.run c.take-in-Store-2.new.run c.store.new.run c.in_ok-address-in-Store.address c.in_ok-value-in-Store.value c.store.result c.in-Store.is c.in_ok-address-in-Store.ensures.taken c.in_ok-value-in-Store.ensures.taken c.store.ensures.made c.store.ensures.view
 
 pub stmt-take-requires-in-Pc-clause-typed : goal.stmt-take-requires-in-Pc-clause-typed
@@ -58,7 +58,7 @@ pub stmt-assign-requires-clause-same_width : goal.stmt-assign-requires-clause-sa
 stmt-assign-requires-clause-same_width t c = (taken_bits (entry_as c.args.at.now) c.in-Pc.e c.args.c.now.nodes c.take-in-Pc.new.c.nodes c.args.t.now c.take-in-Pc.new.t c.args.run.now c.take-in-Pc.new.run c.in_ok-bits-in-Pc.bits _ c.in_ok-bits-in-Pc.ensures.taken (pc_width (entry_as c.args.at.now) c.args.s.now c.args.run.now c.in-Pc.e c.in-Pc.is c.requires.typed)).wide ∙ sym (taken_ready (entry_as c.args.at.now) c.in-Pc.e c.args.c.now.nodes c.take-in-Pc.new.c.nodes c.args.t.now c.take-in-Pc.new.t c.args.run.now c.take-in-Pc.new.run c.in_ok-bits-in-Pc.bits c.requires.ready c.in_ok-bits-in-Pc.ensures.taken).run.next.p.wide
 
 pub stmt-returns-in_ok-bits-in-Pc-clause-made : goal.stmt-returns-in_ok-bits-in-Pc-clause-made
-stmt-returns-in_ok-bits-in-Pc-clause-made t c = 
+stmt-returns-in_ok-bits-in-Pc-clause-made t c =
     done_form (entry_as c.args.at.now) c.args.s.now (Pc c.in-Pc.e) c.in-Pc.e c.args.c.now.nodes c.take-in-Pc.new.c.nodes c.assign.new.c.nodes c.args.t.now c.take-in-Pc.new.t c.take-in-Pc.new.t c.args.run.now c.take-in-Pc.new.run (record c.take-in-Pc.new.run { next = record c.take-in-Pc.new.run.next { p = c.assign.new.register } }) c.in_ok-bits-in-Pc.bits (λ x q. assign_p x q) c.assign.result c.in-Pc.is
     (mades.made-pc c.in-Pc.e (entry_as c.args.at.now) (run_as c.args.c.now.nodes c.args.t.now c.args.run.now)) c.in_ok-bits-in-Pc.ensures.taken (assigned_step c.take-in-Pc.new.c.nodes c.assign.new.c.nodes c.take-in-Pc.new.t c.take-in-Pc.new.run c.in_ok-bits-in-Pc.bits c.take-in-Pc.new.run.next.p c.assign.new.register (λ b. record c.take-in-Pc.new.run.next { p = b }) c.assign.result c.assign.ensures.made) refl
 
@@ -75,7 +75,7 @@ pub stmt-assign-requires-in-Mode-clause-same_width : goal.stmt-assign-requires-i
 stmt-assign-requires-in-Mode-clause-same_width t c = (taken_bits (entry_as c.args.at.now) c.in-Mode.e c.args.c.now.nodes c.take-in-Mode.new.c.nodes c.args.t.now c.take-in-Mode.new.t c.args.run.now c.take-in-Mode.new.run c.in_ok-bits-in-Mode.bits _ c.in_ok-bits-in-Mode.ensures.taken (mode_width (entry_as c.args.at.now) c.args.s.now c.args.run.now c.in-Mode.e c.in-Mode.is c.requires.typed)).wide ∙ sym (taken_ready (entry_as c.args.at.now) c.in-Mode.e c.args.c.now.nodes c.take-in-Mode.new.c.nodes c.args.t.now c.take-in-Mode.new.t c.args.run.now c.take-in-Mode.new.run c.in_ok-bits-in-Mode.bits c.requires.ready c.in_ok-bits-in-Mode.ensures.taken).run.next.mode.wide
 
 pub stmt-returns-in_ok-bits-in-Mode-clause-made : goal.stmt-returns-in_ok-bits-in-Mode-clause-made
-stmt-returns-in_ok-bits-in-Mode-clause-made t c = 
+stmt-returns-in_ok-bits-in-Mode-clause-made t c =
     done_form (entry_as c.args.at.now) c.args.s.now (Mode c.in-Mode.e) c.in-Mode.e c.args.c.now.nodes c.take-in-Mode.new.c.nodes c.assign-in-Mode.new.c.nodes c.args.t.now c.take-in-Mode.new.t c.take-in-Mode.new.t c.args.run.now c.take-in-Mode.new.run (record c.take-in-Mode.new.run { next = record c.take-in-Mode.new.run.next { mode = c.assign-in-Mode.new.register } }) c.in_ok-bits-in-Mode.bits (λ x q. assign_mode x q) c.assign-in-Mode.result c.in-Mode.is
     (mades.made-mode c.in-Mode.e (entry_as c.args.at.now) (run_as c.args.c.now.nodes c.args.t.now c.args.run.now)) c.in_ok-bits-in-Mode.ensures.taken (assigned_step c.take-in-Mode.new.c.nodes c.assign-in-Mode.new.c.nodes c.take-in-Mode.new.t c.take-in-Mode.new.run c.in_ok-bits-in-Mode.bits c.take-in-Mode.new.run.next.mode c.assign-in-Mode.new.register (λ b. record c.take-in-Mode.new.run.next { mode = b }) c.assign-in-Mode.result c.assign-in-Mode.ensures.made) refl
 
@@ -92,7 +92,7 @@ pub stmt-assign-requires-in-Rel-clause-same_width : goal.stmt-assign-requires-in
 stmt-assign-requires-in-Rel-clause-same_width t c = (taken_bits (entry_as c.args.at.now) c.in-Rel.e c.args.c.now.nodes c.take-in-Rel.new.c.nodes c.args.t.now c.take-in-Rel.new.t c.args.run.now c.take-in-Rel.new.run c.in_ok-bits-in-Rel.bits _ c.in_ok-bits-in-Rel.ensures.taken (rel_width (entry_as c.args.at.now) c.args.s.now c.args.run.now c.in-Rel.e c.in-Rel.is c.requires.typed)).wide ∙ sym (taken_ready (entry_as c.args.at.now) c.in-Rel.e c.args.c.now.nodes c.take-in-Rel.new.c.nodes c.args.t.now c.take-in-Rel.new.t c.args.run.now c.take-in-Rel.new.run c.in_ok-bits-in-Rel.bits c.requires.ready c.in_ok-bits-in-Rel.ensures.taken).run.next.l.wide
 
 pub stmt-returns-in_ok-bits-in-Rel-clause-made : goal.stmt-returns-in_ok-bits-in-Rel-clause-made
-stmt-returns-in_ok-bits-in-Rel-clause-made t c = 
+stmt-returns-in_ok-bits-in-Rel-clause-made t c =
     done_form (entry_as c.args.at.now) c.args.s.now (Rel c.in-Rel.e) c.in-Rel.e c.args.c.now.nodes c.take-in-Rel.new.c.nodes c.assign-in-Rel.new.c.nodes c.args.t.now c.take-in-Rel.new.t c.take-in-Rel.new.t c.args.run.now c.take-in-Rel.new.run (record c.take-in-Rel.new.run { next = record c.take-in-Rel.new.run.next { l = c.assign-in-Rel.new.register } }) c.in_ok-bits-in-Rel.bits (λ x q. assign_l x q) c.assign-in-Rel.result c.in-Rel.is
     (mades.made-rel c.in-Rel.e (entry_as c.args.at.now) (run_as c.args.c.now.nodes c.args.t.now c.args.run.now)) c.in_ok-bits-in-Rel.ensures.taken (assigned_step c.take-in-Rel.new.c.nodes c.assign-in-Rel.new.c.nodes c.take-in-Rel.new.t c.take-in-Rel.new.run c.in_ok-bits-in-Rel.bits c.take-in-Rel.new.run.next.l c.assign-in-Rel.new.register (λ b. record c.take-in-Rel.new.run.next { l = b }) c.assign-in-Rel.result c.assign-in-Rel.ensures.made) refl
 
@@ -109,7 +109,7 @@ pub stmt-assign-requires-in-Bound-clause-same_width : goal.stmt-assign-requires-
 stmt-assign-requires-in-Bound-clause-same_width t c = (taken_bits (entry_as c.args.at.now) c.in-Bound.e c.args.c.now.nodes c.take-in-Bound.new.c.nodes c.args.t.now c.take-in-Bound.new.t c.args.run.now c.take-in-Bound.new.run c.in_ok-bits-in-Bound.bits _ c.in_ok-bits-in-Bound.ensures.taken (bound_width (entry_as c.args.at.now) c.args.s.now c.args.run.now c.in-Bound.e c.in-Bound.is c.requires.typed)).wide ∙ sym (taken_ready (entry_as c.args.at.now) c.in-Bound.e c.args.c.now.nodes c.take-in-Bound.new.c.nodes c.args.t.now c.take-in-Bound.new.t c.args.run.now c.take-in-Bound.new.run c.in_ok-bits-in-Bound.bits c.requires.ready c.in_ok-bits-in-Bound.ensures.taken).run.next.b.wide
 
 pub stmt-returns-in_ok-bits-in-Bound-clause-made : goal.stmt-returns-in_ok-bits-in-Bound-clause-made
-stmt-returns-in_ok-bits-in-Bound-clause-made t c = 
+stmt-returns-in_ok-bits-in-Bound-clause-made t c =
     done_form (entry_as c.args.at.now) c.args.s.now (Bound c.in-Bound.e) c.in-Bound.e c.args.c.now.nodes c.take-in-Bound.new.c.nodes c.assign-in-Bound.new.c.nodes c.args.t.now c.take-in-Bound.new.t c.take-in-Bound.new.t c.args.run.now c.take-in-Bound.new.run (record c.take-in-Bound.new.run { next = record c.take-in-Bound.new.run.next { b = c.assign-in-Bound.new.register } }) c.in_ok-bits-in-Bound.bits (λ x q. assign_b x q) c.assign-in-Bound.result c.in-Bound.is
     (mades.made-bound c.in-Bound.e (entry_as c.args.at.now) (run_as c.args.c.now.nodes c.args.t.now c.args.run.now)) c.in_ok-bits-in-Bound.ensures.taken (assigned_step c.take-in-Bound.new.c.nodes c.assign-in-Bound.new.c.nodes c.take-in-Bound.new.t c.take-in-Bound.new.run c.in_ok-bits-in-Bound.bits c.take-in-Bound.new.run.next.b c.assign-in-Bound.new.register (λ b. record c.take-in-Bound.new.run.next { b = b }) c.assign-in-Bound.result c.assign-in-Bound.ensures.made) refl
 
@@ -120,7 +120,7 @@ pub stmt-take-requires-in-If-clause-typed : goal.stmt-take-requires-in-If-clause
 stmt-take-requires-in-If-clause-typed t c = typed_of (entry_as c.args.at.now) c.args.run.now c.in-If.test _ ((if_fares (entry_as c.args.at.now) c.args.s.now c.args.run.now c.in-If.test c.in-If.held c.in-If.other c.in-If.is c.requires.typed).test)
 
 pub stmt-arms-requires : goal.stmt-arms-requires
-stmt-arms-requires t c = 
+stmt-arms-requires t c =
     let f = (if_fares (entry_as c.args.at.now) c.args.s.now c.args.run.now c.in-If.test c.in-If.held c.in-If.other c.in-If.is c.requires.typed) in
     let ready = taken_ready (entry_as c.args.at.now) c.in-If.test c.args.c.now.nodes c.take-in-If.new.c.nodes c.args.t.now c.take-in-If.new.t c.args.run.now c.take-in-If.new.run c.in_ok-bits-in-If.bits c.requires.ready c.in_ok-bits-in-If.ensures.taken in
     let bits = taken_bits (entry_as c.args.at.now) c.in-If.test c.args.c.now.nodes c.take-in-If.new.c.nodes c.args.t.now c.take-in-If.new.t c.args.run.now c.take-in-If.new.run c.in_ok-bits-in-If.bits _ c.in_ok-bits-in-If.ensures.taken f.test in
@@ -131,17 +131,17 @@ stmt-arms-requires t c =
     (omega (arith, count), search (rules, ready, there, held, other, c.as_slice.ensures, c.bit_0.ensures))
 
 pub stmt-returns-in_ok-bits-in-If-clause-made : goal.stmt-returns-in_ok-bits-in-If-clause-made
-stmt-returns-in_ok-bits-in-If-clause-made t c = 
+stmt-returns-in_ok-bits-in-If-clause-made t c =
     if_form (entry_as c.args.at.now) c.args.s.now c.in-If.test c.in-If.held c.as_slice.result.now c.in-If.other c.args.c.now.nodes c.take-in-If.new.c.nodes c.arms.new.c.nodes c.args.t.now c.take-in-If.new.t c.arms.new.t c.args.run.now c.take-in-If.new.run c.arms.new.run c.in_ok-bits-in-If.bits c.bit_0.result c.arms.result c.in-If.is c.as_slice.ensures c.bit_0.ensures c.in_ok-bits-in-If.ensures.taken c.arms.ensures.made
 
 pub arms-block-requires : goal.arms-block-requires
-arms-block-requires t c = 
+arms-block-requires t c =
     let ready = (arm_ready (entry_as c.args.at.now) c.args.c.now.nodes c.and-2.new.circuit.nodes c.args.t.now c.args.run.now c.in_ok-first.first c.requires.ready (front_then c.args.c.now.nodes c.and.new.circuit.nodes c.and-2.new.circuit.nodes c.and.ensures.kept.front c.and-2.ensures.kept.front) c.and-2.new.circuit.circuit (there_later c.and.new.circuit.nodes c.and-2.new.circuit.nodes c.in_ok-first.first c.and-2.ensures.kept.front c.in_ok-first.ensures.there)) in
     let held = block_later _ c.args.run.now (record c.args.run.now { guards = record c.args.run.now.guards { live = c.in_ok-first.first } }) refl c.requires.held in
     (omega arith, search (rules, ready, held))
 
 pub arms-otherwise-requires : goal.arms-otherwise-requires
-arms-otherwise-requires t c = 
+arms-otherwise-requires t c =
     let ready = (arm_ready (entry_as c.args.at.now) c.block.new.c.nodes c.block.new.c.nodes c.block.new.t c.block.new.run c.in_ok-second.second (block_ready (entry_as c.args.at.now) c.args.held.now c.and-2.new.circuit.nodes c.block.new.c.nodes c.args.t.now c.block.new.t (record c.args.run.now { guards = record c.args.run.now.guards { live = c.in_ok-first.first } }) c.block.new.run (arm_ready (entry_as c.args.at.now) c.args.c.now.nodes c.and-2.new.circuit.nodes c.args.t.now c.args.run.now c.in_ok-first.first c.requires.ready (front_then c.args.c.now.nodes c.and.new.circuit.nodes c.and-2.new.circuit.nodes c.and.ensures.kept.front c.and-2.ensures.kept.front) c.and-2.new.circuit.circuit (there_later c.and.new.circuit.nodes c.and-2.new.circuit.nodes c.in_ok-first.first c.and-2.ensures.kept.front c.in_ok-first.ensures.there)) (block_later _ c.args.run.now (record c.args.run.now { guards = record c.args.run.now.guards { live = c.in_ok-first.first } }) refl c.requires.held) c.in_ok-block.ensures.made) (front_same c.block.new.c.nodes) c.block.new.c.circuit (there_later c.and-2.new.circuit.nodes c.block.new.c.nodes c.in_ok-second.second c.block.ensures.kept c.in_ok-second.ensures.there)) in
     let other = (block_later _ c.args.run.now (record c.block.new.run { guards = record c.block.new.run.guards { live = c.in_ok-second.second } }) (block_lets (entry_as c.args.at.now) c.args.held.now c.and-2.new.circuit.nodes c.block.new.c.nodes c.args.t.now c.block.new.t (record c.args.run.now { guards = record c.args.run.now.guards { live = c.in_ok-first.first } }) c.block.new.run c.in_ok-block.ensures.made) c.requires.other) in
     (omega arith, search (rules, ready, other))
@@ -153,7 +153,7 @@ pub arms-or-requires-clause-right : goal.arms-or-requires-clause-right
 arms-or-requires-clause-right t c = (else_ready (entry_as c.args.at.now) c.args.other.now c.block.new.c.nodes c.otherwise.new.c.nodes c.block.new.t c.otherwise.new.t (record c.block.new.run { guards = record c.block.new.run.guards { live = c.in_ok-second.second } }) c.otherwise.new.run (arm_ready (entry_as c.args.at.now) c.block.new.c.nodes c.block.new.c.nodes c.block.new.t c.block.new.run c.in_ok-second.second (block_ready (entry_as c.args.at.now) c.args.held.now c.and-2.new.circuit.nodes c.block.new.c.nodes c.args.t.now c.block.new.t (record c.args.run.now { guards = record c.args.run.now.guards { live = c.in_ok-first.first } }) c.block.new.run (arm_ready (entry_as c.args.at.now) c.args.c.now.nodes c.and-2.new.circuit.nodes c.args.t.now c.args.run.now c.in_ok-first.first c.requires.ready (front_then c.args.c.now.nodes c.and.new.circuit.nodes c.and-2.new.circuit.nodes c.and.ensures.kept.front c.and-2.ensures.kept.front) c.and-2.new.circuit.circuit (there_later c.and.new.circuit.nodes c.and-2.new.circuit.nodes c.in_ok-first.first c.and-2.ensures.kept.front c.in_ok-first.ensures.there)) (block_later _ c.args.run.now (record c.args.run.now { guards = record c.args.run.now.guards { live = c.in_ok-first.first } }) refl c.requires.held) c.in_ok-block.ensures.made) (front_same c.block.new.c.nodes) c.block.new.c.circuit (there_later c.and-2.new.circuit.nodes c.block.new.c.nodes c.in_ok-second.second c.block.ensures.kept c.in_ok-second.ensures.there)) (block_later _ c.args.run.now (record c.block.new.run { guards = record c.block.new.run.guards { live = c.in_ok-second.second } }) (block_lets (entry_as c.args.at.now) c.args.held.now c.and-2.new.circuit.nodes c.block.new.c.nodes c.args.t.now c.block.new.t (record c.args.run.now { guards = record c.args.run.now.guards { live = c.in_ok-first.first } }) c.block.new.run c.in_ok-block.ensures.made) c.requires.other) c.in_ok-otherwise.ensures.made).run.flow.live
 
 pub arms-returns-clause-made : goal.arms-returns-clause-made
-arms-returns-clause-made t c = 
+arms-returns-clause-made t c =
     if_done (block_made (map stmt_made c.args.held.now)) (else_made (option_map (map stmt_made) c.args.other.now)) (entry_as c.args.at.now) c.args.test c.in_ok-first.first c.in_ok-second.second c.in_ok-live.live c.not-not_test.result c.args.c.now.nodes c.and.new.circuit.nodes c.and-2.new.circuit.nodes c.block.new.c.nodes c.otherwise.new.c.nodes c.or.new.circuit.nodes c.args.t.now c.block.new.t c.otherwise.new.t c.args.run.now c.block.new.run c.otherwise.new.run
     c.in_ok-first.ensures.made c.not-not_test.ensures c.in_ok-second.ensures.made c.in_ok-block.ensures.made c.in_ok-otherwise.ensures.made c.in_ok-live.ensures.made
 
@@ -161,14 +161,14 @@ pub block-truncate-requires : goal.block-truncate-requires
 block-truncate-requires t c = let room = (outer_lets (entry_as c.args.at.now) c.args.stmts.now c.args.c.now.nodes c.in_order.new.c.nodes c.args.t.now c.in_order.new.t c.args.run.now c.in_order.new.run c.in_ok-in_order.ensures.made).0 in omega (arith, room, c.len-outer.ensures)
 
 pub block-returns-clause-made : goal.block-returns-clause-made
-block-returns-clause-made t c = 
+block-returns-clause-made t c =
     block_done (entry_as c.args.at.now) c.args.stmts.now c.args.c.now.nodes c.in_order.new.c.nodes c.args.t.now c.in_order.new.t c.args.run.now c.in_order.new.run c.truncate.new.self (c.truncate.ensures ∙ ap (λ k. drop (length c.in_order.new.run.lets - k) c.in_order.new.run.lets) c.len-outer.ensures ∙ (outer_lets (entry_as c.args.at.now) c.args.stmts.now c.args.c.now.nodes c.in_order.new.c.nodes c.args.t.now c.in_order.new.t c.args.run.now c.in_order.new.run c.in_ok-in_order.ensures.made).1) c.in_ok-in_order.ensures.made
 
 pub in_order-loop-s-init : goal.in_order-loop-s-init
 in_order-loop-s-init t c = way_begins (entry_as c.args.at.now) c.args.stmts.now c.args.c.now.nodes c.args.t.now c.args.run.now c.requires.ready c.requires.typed
 
 pub in_order-stmt-requires : goal.in_order-stmt-requires
-in_order-stmt-requires t c = 
+in_order-stmt-requires t c =
     let i = c.loop-s.s-index in
     let ss = c.args.stmts.now in
     let s = c.s-item.result in
@@ -181,7 +181,7 @@ pub in_order-returns-in_err-stmt-clause-kept : goal.in_order-returns-in_err-stmt
 in_order-returns-in_err-stmt-clause-kept t c = front_then c.args.c.now.nodes c.loop-s.c.nodes c.stmt.new.c.nodes c.loop-s.invariant.front c.stmt.ensures.kept
 
 pub in_order-loop-s-preserved : goal.in_order-loop-s-preserved
-in_order-loop-s-preserved t c = 
+in_order-loop-s-preserved t c =
     let i = c.loop-s.s-index in
     let ss = c.args.stmts.now in
     let s = c.s-item.result in

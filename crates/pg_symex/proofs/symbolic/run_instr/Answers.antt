@@ -1,4 +1,4 @@
-use Rattle.std.proofs.Common.{◌≡◌, ◌∙◌, length, subst, sym, ap}
+use Rattle.std.proofs.Common.{◌∙◌, length, subst, sym, ap}
 use Rattle.pg_word.specs.declared.shape.Shape.{Shape}
 use Rattle.pg_vec.specs.There.{AreThere}
 use Rattle.pg_symex.specs.Exprs.{literal_bits}
