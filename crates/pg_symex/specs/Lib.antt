@@ -1,0 +1,14 @@
+pub mod Flow
+pub mod Exprs
+pub mod Stmts
+pub mod Numbers
+pub mod There
+pub mod Follows
+pub mod Ends
+pub mod Body
+pub mod Runs
+pub mod EntryView
+pub mod FlowView
+pub mod Calls
+pub mod RunView
+pub mod Outcome
