@@ -1,0 +1,15 @@
+pub mod FlagLemmas
+pub mod WithinLemmas
+pub mod ReadingLemmas
+pub mod WalkLemmas
+pub mod MarkedLemmas
+pub mod SoundLemmas
+pub mod KeptLemmas
+pub mod RemovalLemmas
+pub mod TightLemmas
+pub mod CoverLemmas
+pub mod NewLemmas
+pub mod UseLemmas
+pub mod GivenLemmas
+pub mod DraftLemmas
+pub mod ReplayLemmas

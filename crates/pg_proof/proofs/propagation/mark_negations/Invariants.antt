@@ -1,0 +1,11 @@
+use Rattle.std.proofs.Common.{◌≡◌, length, drop}
+use Rattle.pg_proof.specs.Places.{negations, AreWithin}
+use Rattle.pg_proof.specs.Marked.{marked}
+use Rattle.pg_proof.proofs.propagation.mark_negations.Given as goal
+
+abbrev pub invariant-loop-literal : goal.invariant-loop-literal
+invariant-loop-literal l = record {
+  rest : marked l.flags (negations (drop l.literal-index l.literals)) ≡ marked l.initial.flags (negations l.literals);
+  places : length l.flags ≡ length l.initial.flags;
+  within : AreWithin (length l.flags) (drop l.literal-index l.literals);
+}

@@ -1,0 +1,16 @@
+pub mod Flags
+pub mod Places
+pub mod Reading
+pub mod State
+pub mod Refutation
+pub mod Tight
+pub mod Marked
+pub mod Sound
+pub mod Covered
+pub mod Log
+pub mod New
+pub mod Trimmed
+pub mod Numbering
+pub mod Drafts
+pub mod Kept
+pub mod Removal

@@ -1,0 +1,25 @@
+//! A checker of refutations: logs that show, step by step, that clauses cannot all be true.
+//!
+//! A log is checked by reverse unit propagation with hints, as LRAT logs are (Cruz-Filipe and others, 2017): each step adds
+//! a clause, and names the clauses that show it. `Checker` holds the clauses, and takes a step only where they do: so where
+//! it has taken the empty clause, no assignment makes all clauses of the question true, whoever wrote the log.
+//!
+//! It shares nothing with a solver but the literals. `specs/Refutation.antt` says what a valid step is.
+#![tactic(auto)]
+
+mod checker;
+mod cover;
+pub mod laws;
+mod marks;
+mod propagation;
+mod question;
+mod removal;
+mod replay;
+mod step;
+mod tight;
+mod trimming;
+
+pub use checker::Checker;
+pub use trimming::{ActList, trim};
+pub use replay::is_refutation;
+pub use step::{Act, HintList, LitList, ProofFault, Step};
