@@ -1,0 +1,4 @@
+pub mod Cut
+pub mod Trace
+pub mod Listed
+pub mod Learned

@@ -1,0 +1,5 @@
+//! A solver that logs what it learns.
+#![tactic(auto)]
+
+mod flags;
+mod trace;
