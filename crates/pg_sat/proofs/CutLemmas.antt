@@ -80,7 +80,7 @@ swap_neg z y e = sym (ap neg_ℤ e ∙ neg_ℤ-neg_ℤ y)
 
 module _ (held : List (Option (List ℤ))) (set : List ℤ) (z : ℤ) (nonzero : 0 < nat_abs z) (unset : value_of set z ≡ None) where
   -- what was false before a literal was set
-  before_push : (y : ℤ) → y ≢ neg_ℤ z → value_of (set ++ z ∷ []) y ≡ Some false → value_of set y ≡ Some false
+  pub before_push : (y : ℤ) → y ≢ neg_ℤ z → value_of (set ++ z ∷ []) y ≡ Some false → value_of set y ≡ Some false
   before_push y d f =
       sym (value_of-push_other set z y
         (λ e. some-differs (value_of (set ++ z ∷ []) y) (ap (value_of (set ++ z ∷ [])) (sym e) ∙ value_of-push_same set z unset) f)

@@ -5,3 +5,5 @@ pub mod TrailLemmas
 pub mod TraceLemmas
 pub mod StepLemmas
 pub mod NewLemmas
+pub mod Drawn
+pub mod LearnLemmas

@@ -53,7 +53,7 @@ set-from n before (x ∷ xs) z s h =
             (ap (λ (ys : List ℤ). value_of ys z) (sym (append_assoc before (x ∷ []) xs)) ∙ rest.0, rest.1))
 
 module _ (n : ℕ) (set : List ℤ) (are_set : AreSet n [] set) where
-  true_if_set : (z : ℤ) → has set z ≡ true → value_of set z ≡ Some true
+  pub true_if_set : (z : ℤ) → has set z ≡ true → value_of set z ≡ Some true
   true_if_set z h = (set-from n [] set z are_set h).0
 
   false_if_negated : (z : ℤ) → has set (neg_ℤ z) ≡ true → value_of set z ≡ Some false

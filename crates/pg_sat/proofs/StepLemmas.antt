@@ -49,14 +49,14 @@ at_of flags v = by (is_marked flags (pos v)) (is_marked flags (neg_ℤ (pos v)))
     by false true e f = negative e f
     by false false e f = neither e f
 
-listed_positive : (flags : List Bool) (v : ℕ) → is_marked flags (pos v) ≡ true → listed_at flags v ≡ pos v ∷ []
+pub listed_positive : (flags : List Bool) (v : ℕ) → is_marked flags (pos v) ≡ true → listed_at flags v ≡ pos v ∷ []
 listed_positive flags v e = ap (λ b. cond b (pos v ∷ []) (cond (is_marked flags (neg_ℤ (pos v))) (neg_ℤ (pos v) ∷ []) [])) e
 
-listed_negative : (flags : List Bool) (v : ℕ) → is_marked flags (pos v) ≡ false → is_marked flags (neg_ℤ (pos v)) ≡ true → listed_at flags v ≡ neg_ℤ (pos v) ∷ []
+pub listed_negative : (flags : List Bool) (v : ℕ) → is_marked flags (pos v) ≡ false → is_marked flags (neg_ℤ (pos v)) ≡ true → listed_at flags v ≡ neg_ℤ (pos v) ∷ []
 listed_negative flags v e f =
     ap (λ b. cond b (pos v ∷ []) (cond (is_marked flags (neg_ℤ (pos v))) (neg_ℤ (pos v) ∷ []) [])) e ∙ ap (λ b. cond b (neg_ℤ (pos v) ∷ []) []) f
 
-listed_neither : (flags : List Bool) (v : ℕ) → is_marked flags (pos v) ≡ false → is_marked flags (neg_ℤ (pos v)) ≡ false → listed_at flags v ≡ []
+pub listed_neither : (flags : List Bool) (v : ℕ) → is_marked flags (pos v) ≡ false → is_marked flags (neg_ℤ (pos v)) ≡ false → listed_at flags v ≡ []
 listed_neither flags v e f =
     ap (λ b. cond b (pos v ∷ []) (cond (is_marked flags (neg_ℤ (pos v))) (neg_ℤ (pos v) ∷ []) [])) e ∙ ap (λ b. cond b (neg_ℤ (pos v) ∷ []) []) f
 
@@ -67,6 +67,14 @@ step-listed flags v k xs e = ap (λ ys. ys ++ listed flags (v + 1) k) e
 none-listed : (flags : List Bool) (v : ℕ) → listed flags v 0 ≡ []
 unfolding listed
 none-listed flags v = refl
+
+pub listed-next : (flags : List Bool) (i n : ℕ) → i < n → listed flags (i + 1) (n - i) ≡ listed_at flags (i + 1) ++ listed flags (i + 1 + 1) (n - (i + 1))
+listed-next flags i n lt =
+    let e : n - i ≡ suc (n - (i + 1)) = omega arith in
+    ap (listed flags (i + 1)) e ∙ step-listed flags (i + 1) (n - (i + 1)) (listed_at flags (i + 1)) refl
+
+pub listed-end : (flags : List Bool) (i v n : ℕ) → n ≤ i → listed flags v (n - i) ≡ []
+listed-end flags i v n le = let e : n - i ≡ 0 = omega arith in ap (listed flags v) e ∙ none-listed flags v
 
 tests : (above n variables : ℕ) (b : Bool) → above < n → n ≤ variables → b ≡ true → ltb above n && (leb n variables && b) ≡ true
 tests above n variables b lt le e = both_true (ltb above n) (leb n variables && b) (grind (arith, nat_tests)) (both_true (leb n variables) b (grind (arith, nat_tests)) e)
@@ -242,5 +250,16 @@ module _ (variables within : ℕ) (held : List (Option (List ℤ))) (set : List 
         (λ y h. ap (λ (hs : List ℕ). stands_in (hint_clauses held hs) y) is_hints ∙ cut.standing y (marked_of y h)))
       (ap (λ (hs : List ℕ). sets_used (negations step.lits) (hint_clauses held hs)) is_hints ∙ leading.used)
 
-  pub step_false : (y : ℤ) → has step.lits y ≡ true → value_of set y ≡ Some false
-  step_false y h = cut.are_false y (marked_of y h)
+  step_cut : IsCut held set (has step.lits) step.hints
+  step_cut = record {
+    are_false = λ y h. cut.are_false y (marked_of y h);
+    standing = λ y h. ap (λ (hs : List ℕ). stands_in (hint_clauses held hs) y) is_hints ∙ cut.standing y (marked_of y h);
+    leads = λ trail t d. subst (λ (hs : List ℕ). Leads held trail hs) (sym is_hints) (cut.leads trail t (λ y m. d y (listed_of y m)));
+  }
+
+  pub step_learned : (clauses : List (List ℤ)) → held ≡ map Some clauses → IsLearned within clauses set step
+  step_learned clauses e = record {
+    valid = ap (λ (h : List (Option (List ℤ))). fault_of within h step) (sym e) ∙ step_valid;
+    tight = ap (λ (h : List (Option (List ℤ))). is_tight within h step) (sym e) ∙ step_tight;
+    cut = subst (λ (h : List (Option (List ℤ))). IsCut h set (has step.lits) step.hints) e step_cut;
+  }
