@@ -39,8 +39,8 @@ IsCut-begun held set n c e f = record {
   are_false = f;
   standing = λ y h. first_of_two (has (literals_at held n) y) false (ap (λ (d : List ℤ). has d y) (literals-at held n c e) ∙ h);
   leads = λ trail t denied. (
-    let r : reading (has trail) c ≡ Falsified = reading-falsified (has trail) c denied in
-    record { walks = walk-last held trail n c e r; used = used-last held trail n c e r });
+      let r : reading (has trail) c ≡ Falsified = reading-falsified (has trail) c denied in
+      record { walks = walk-last held trail n c e r; used = used-last held trail n c e r });
 }
 
 -- a reason, at a literal that it sets
@@ -83,8 +83,8 @@ module _ (held : List (Option (List ℤ))) (set : List ℤ) (z : ℤ) (nonzero :
   pub before_push : (y : ℤ) → y ≢ neg_ℤ z → value_of (set ++ z ∷ []) y ≡ Some false → value_of set y ≡ Some false
   before_push y d f =
       sym (value_of-push_other set z y
-        (λ e. some-differs (value_of (set ++ z ∷ []) y) (ap (value_of (set ++ z ∷ [])) (sym e) ∙ value_of-push_same set z unset) f)
-        (λ e. d (swap_neg z y e)))
+      (λ e. some-differs (value_of (set ++ z ∷ []) y) (ap (value_of (set ++ z ∷ [])) (sym e) ∙ value_of-push_same set z unset) f)
+      (λ e. d (swap_neg z y e)))
       ∙ f
 
   neg_unset : value_of set (neg_ℤ z) ≡ None
@@ -112,9 +112,9 @@ module _ (held : List (Option (List ℤ))) (set : List ℤ) (z : ℤ) (nonzero :
   }
 
   module _ (n : ℕ) (c : List ℤ) (at : clause_at held n ≡ Some c) (distinct : AreDistinct c) (there : has c z ≡ true)
-    (others : (y : ℤ) → has c y ≡ true → y ≢ z → value_of set y ≡ Some false)
-    (before after : ℤ → Bool) (hints : List ℕ) (cut : IsCut held (set ++ z ∷ []) before hints) (denied : before (neg_ℤ z) ≡ true)
-    (r : IsResolved before after c z) where
+      (others : (y : ℤ) → has c y ≡ true → y ≢ z → value_of set y ≡ Some false)
+      (before after : ℤ → Bool) (hints : List ℕ) (cut : IsCut held (set ++ z ∷ []) before hints) (denied : before (neg_ℤ z) ≡ true)
+      (r : IsResolved before after c z) where
     not_z : (y : ℤ) → after y ≡ true → y ≢ z
     not_z y a e = let f : true ≡ false = sym a ∙ ap after e ∙ r.neither in cc
 
@@ -136,7 +136,7 @@ module _ (held : List (Option (List ℤ))) (set : List ℤ) (z : ℤ) (nonzero :
     denied-cases trail d y b (inl e) = subst (λ (x : ℤ). has (z ∷ trail) x ≡ true) (sym (ap neg_ℤ e ∙ neg_ℤ-neg_ℤ z)) (has-first z trail)
     denied-cases trail d y b (inr e) =
         has-later z trail (neg_ℤ y) (d y (r.kept y b
-          (λ s. some-differs (value_of (set ++ z ∷ []) y) (ap (value_of (set ++ z ∷ [])) s ∙ value_of-push_same set z unset) (cut.are_false y b)) e))
+        (λ s. some-differs (value_of (set ++ z ∷ []) y) (ap (value_of (set ++ z ∷ [])) s ∙ value_of-push_same set z unset) (cut.are_false y b)) e))
 
     -- the negation of a literal that is wanted gives way to the others of its reason
     pub IsCut-resolved : IsCut held set after (n ∷ hints)
@@ -144,12 +144,12 @@ module _ (held : List (Option (List ℤ))) (set : List ℤ) (z : ℤ) (nonzero :
       are_false = λ y a. false_after y a (r.either y a);
       standing = λ y a. standing_after y (r.either y a);
       leads = λ trail t d. (
-        let read : reading (has trail) c ≡ Unit z =
-            reading-unit (has trail) c z distinct there (not_set trail t) (neg_not_set trail t) (λ y h e. d y (r.others y h e)) in
-        let rest : Leads held (z ∷ trail) hints =
-            cut.leads (z ∷ trail) (more_true trail t) (λ y b. denied-cases trail d y b (same_or_not y (neg_ℤ z))) in
-        record {
-          walks = walk-unit held trail n hints c z at read rest.walks;
-          used = used-unit held trail n hints c z at read (cut.standing (neg_ℤ z) denied) rest.used;
-        });
+          let read : reading (has trail) c ≡ Unit z =
+          reading-unit (has trail) c z distinct there (not_set trail t) (neg_not_set trail t) (λ y h e. d y (r.others y h e)) in
+          let rest : Leads held (z ∷ trail) hints =
+          cut.leads (z ∷ trail) (more_true trail t) (λ y b. denied-cases trail d y b (same_or_not y (neg_ℤ z))) in
+          record {
+            walks = walk-unit held trail n hints c z at read rest.walks;
+            used = used-unit held trail n hints c z at read (cut.standing (neg_ℤ z) denied) rest.used;
+          });
     }

@@ -95,7 +95,7 @@ module _ (flags : List Bool) (c : List ℤ) (z : ℤ) (here : IsWithin (length f
 
 -- as the code has them
 module _ (old low mid new : List Bool) (p q : ℕ) (c : List ℤ) (z : ℤ) (e : p ≡ place (neg_ℤ z)) (f : q ≡ place z) (lowers : low ≡ set old p false)
-  (raises : mid ≡ marked low c) where
+    (raises : mid ≡ marked low c) where
   pub length-mid : length mid ≡ length old
   length-mid = ap length raises ∙ length-marked c low ∙ ap length lowers ∙ length-set old p false
 
@@ -106,8 +106,8 @@ module _ (old low mid new : List Bool) (p q : ℕ) (c : List ℤ) (z : ℤ) (e :
   unfolding final raised lowered
   flags-resolved here within ends =
       let whole : new ≡ final old c z here within =
-          ends ∙ ap (λ (k : ℕ). set mid k false) f
-          ∙ ap (λ (fs : List Bool). set fs (place z) false) (raises ∙ ap (λ (fs : List Bool). marked fs c) (lowers ∙ ap (λ (k : ℕ). set old k false) e)) in
+      ends ∙ ap (λ (k : ℕ). set mid k false) f
+      ∙ ap (λ (fs : List Bool). set fs (place z) false) (raises ∙ ap (λ (fs : List Bool). marked fs c) (lowers ∙ ap (λ (k : ℕ). set old k false) e)) in
       subst (λ (fs : List Bool). IsResolved (is_marked old) (is_marked fs) c z) (sym whole) (IsResolved-flags old c z here within)
 
 pub SFits-neg : (z y : ℤ) → y ≡ neg_ℤ z → IsLiteral 2147483647 z → SFits w32 y

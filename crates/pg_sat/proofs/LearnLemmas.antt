@@ -58,7 +58,7 @@ walk-quiet set cs [] q w = cc
 walk-quiet set cs (h ∷ hs) q w = walk-stuck set cs h hs (clause_at (map Some cs) h) q refl w
 
 module _ (n : ℕ) (cs : List (List ℤ)) (set : List ℤ) (z : ℤ) (lits : List ℤ) (hints : List ℕ) (are_set : AreSet n [] set) (nonzero : 0 < nat_abs z)
-  (unset : value_of set z ≡ None) (quiet : IsQuiet cs set) (cut : IsCut (map Some cs) (set ++ z ∷ []) (has lits) hints) where
+    (unset : value_of set z ≡ None) (quiet : IsQuiet cs set) (cut : IsCut (map Some cs) (set ++ z ∷ []) (has lits) hints) where
   never_false : IsCut (map Some cs) set (has lits) hints → ⊥
   never_false c =
       walk-quiet set cs hints (quiet-readings n set are_set cs quiet)
@@ -85,7 +85,7 @@ held_within n (c ∷ cs) h = (AreWithin-literals n c h.0.within, held_within n c
 
 -- with the last literal that was assigned
 module _ (variables : ℕ) (cs : List (List ℤ)) (t : Trail) (last : ℕ) (over : IsOver variables cs t) (right : IsTrail cs t) (lt : last < length t.literals)
-  (quiet : IsQuiet cs (take last t.literals)) (step : Step) (h : IsLearnedWithin variables cs (take (last + 1) t.literals) step) where
+    (quiet : IsQuiet cs (take last t.literals)) (step : Step) (h : IsLearnedWithin variables cs (take (last + 1) t.literals) step) where
   abbrev last_literal : ℤ
   last_literal = get_or t.literals last (pos 0)
 

@@ -7,3 +7,6 @@ pub mod StepLemmas
 pub mod NewLemmas
 pub mod Drawn
 pub mod LearnLemmas
+pub mod JumpLemmas
+pub mod ModelLemmas
+pub mod LogLemmas

@@ -43,14 +43,14 @@ set-from : (n : ℕ) (before zs : List ℤ) (z : ℤ) → AreSet n before zs →
 set-from n before [] z s h = cc
 set-from n before (x ∷ xs) z s h =
     by_member x xs z h
-        (λ e.
-            let first : value_of (before ++ x ∷ []) x ≡ Some true = value_of-push_same before x s.1 in
-            let all : value_of (before ++ x ∷ xs) x ≡ Some true =
-                ap (λ (ys : List ℤ). value_of ys x) (sym (append_assoc before (x ∷ []) xs)) ∙ value_of-after_some (before ++ x ∷ []) xs x true first in
-            (subst (λ (y : ℤ). value_of (before ++ x ∷ xs) y ≡ Some true) e all, subst (λ (y : ℤ). 0 < nat_abs y) e s.0.0))
-        (λ e.
-            let rest = set-from n (before ++ x ∷ []) xs z s.2 e in
-            (ap (λ (ys : List ℤ). value_of ys z) (sym (append_assoc before (x ∷ []) xs)) ∙ rest.0, rest.1))
+    (λ e.
+    let first : value_of (before ++ x ∷ []) x ≡ Some true = value_of-push_same before x s.1 in
+    let all : value_of (before ++ x ∷ xs) x ≡ Some true =
+    ap (λ (ys : List ℤ). value_of ys x) (sym (append_assoc before (x ∷ []) xs)) ∙ value_of-after_some (before ++ x ∷ []) xs x true first in
+    (subst (λ (y : ℤ). value_of (before ++ x ∷ xs) y ≡ Some true) e all, subst (λ (y : ℤ). 0 < nat_abs y) e s.0.0))
+    (λ e.
+    let rest = set-from n (before ++ x ∷ []) xs z s.2 e in
+    (ap (λ (ys : List ℤ). value_of ys z) (sym (append_assoc before (x ∷ []) xs)) ∙ rest.0, rest.1))
 
 module _ (n : ℕ) (set : List ℤ) (are_set : AreSet n [] set) where
   pub true_if_set : (z : ℤ) → has set z ≡ true → value_of set z ≡ Some true

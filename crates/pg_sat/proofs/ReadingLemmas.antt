@@ -69,11 +69,11 @@ one_open : (t : ℤ → Bool) (c : List ℤ) (z : ℤ) → AreDistinct c → has
 one_open t [] z d m n h = cc
 one_open t (x ∷ xs) z d m n h =
     by_member x xs z m
-        (λ e. left t x xs (ap (λ y. t (neg_ℤ y)) e ∙ n)
-            ∙ (let rest : open_of t xs ≡ [] = none_open t xs (λ y k. h y (has-later x xs y k) (λ f. absent_has x xs y d.0 k (e ∙ sym f))) in
-               λ i. e i ∷ rest i))
-        (λ e. dropped t x xs (h x (has-first x xs) (absent_has x xs z d.0 e))
-            ∙ one_open t xs z d.1 e n (λ y k f. h y (has-later x xs y k) f))
+    (λ e. left t x xs (ap (λ y. t (neg_ℤ y)) e ∙ n)
+    ∙ (let rest : open_of t xs ≡ [] = none_open t xs (λ y k. h y (has-later x xs y k) (λ f. absent_has x xs y d.0 k (e ∙ sym f))) in
+    λ i. e i ∷ rest i))
+    (λ e. dropped t x xs (h x (has-first x xs) (absent_has x xs z d.0 e))
+    ∙ one_open t xs z d.1 e n (λ y k f. h y (has-later x xs y k) f))
 
 unit : (t : ℤ → Bool) (z : ℤ) → t z ≡ false → reading_of t (z ∷ []) ≡ Unit z
 unit t z e = ap (λ b. cond b Neither (Unit z)) e

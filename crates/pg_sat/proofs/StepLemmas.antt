@@ -105,11 +105,11 @@ listed-marked flags (suc k) v y h = by (at_of flags v) (listed-marked flags k (v
     by : At flags v → (has (listed flags (v + 1) k) y ≡ true → is_marked flags y ≡ true) → is_marked flags y ≡ true
     by (positive e) rest =
         by_member (pos v) (listed flags (v + 1) k) y (ap (λ (c : List ℤ). has c y) (sym (step-listed flags v k (pos v ∷ []) (listed_positive flags v e))) ∙ h)
-            (λ s. ap (is_marked flags) (sym s) ∙ e) rest
+        (λ s. ap (is_marked flags) (sym s) ∙ e) rest
     by (negative e f) rest =
         by_member (neg_ℤ (pos v)) (listed flags (v + 1) k) y
-            (ap (λ (c : List ℤ). has c y) (sym (step-listed flags v k (neg_ℤ (pos v) ∷ []) (listed_negative flags v e f))) ∙ h)
-            (λ s. ap (is_marked flags) (sym s) ∙ f) rest
+        (ap (λ (c : List ℤ). has c y) (sym (step-listed flags v k (neg_ℤ (pos v) ∷ []) (listed_negative flags v e f))) ∙ h)
+        (λ s. ap (is_marked flags) (sym s) ∙ f) rest
     by (neither e f) rest = rest (ap (λ (c : List ℤ). has c y) (sym (step-listed flags v k [] (listed_neither flags v e f))) ∙ h)
 
 -- and what is marked, of a variable of which one literal alone is, is listed
@@ -170,15 +170,15 @@ has-negations : (c : List ℤ) (y : ℤ) → has c y ≡ true → has (negations
 has-negations [] y h = cc
 has-negations (x ∷ xs) y h =
     by_member x xs y h
-        (λ e. subst (λ (z : ℤ). has (neg_ℤ x ∷ negations xs) (neg_ℤ z) ≡ true) e (has-first (neg_ℤ x) (negations xs)))
-        (λ e. has-later (neg_ℤ x) (negations xs) (neg_ℤ y) (has-negations xs y e))
+    (λ e. subst (λ (z : ℤ). has (neg_ℤ x ∷ negations xs) (neg_ℤ z) ≡ true) e (has-first (neg_ℤ x) (negations xs)))
+    (λ e. has-later (neg_ℤ x) (negations xs) (neg_ℤ y) (has-negations xs y e))
 
 negations-has : (c : List ℤ) (y : ℤ) → has (negations c) y ≡ true → has c (neg_ℤ y) ≡ true
 negations-has [] y h = cc
 negations-has (x ∷ xs) y h =
     by_member (neg_ℤ x) (negations xs) y h
-        (λ e. subst (λ (z : ℤ). has (x ∷ xs) z ≡ true) (sym (neg_ℤ-neg_ℤ x) ∙ ap neg_ℤ e) (has-first x xs))
-        (λ e. has-later x xs (neg_ℤ y) (negations-has xs y e))
+    (λ e. subst (λ (z : ℤ). has (x ∷ xs) z ≡ true) (sym (neg_ℤ-neg_ℤ x) ∙ ap neg_ℤ e) (has-first x xs))
+    (λ e. has-later x xs (neg_ℤ y) (negations-has xs y e))
 
 is_none_of : {A : Type 0} (o : Option A) → o ≡ None → is_none o ≡ true
 is_none_of o e = ap is_none e
@@ -205,8 +205,8 @@ swapped_value set y lt e =
 
 -- a cut's step
 module _ (variables within : ℕ) (held : List (Option (List ℤ))) (set : List ℤ) (flags : List Bool) (hints : List ℕ) (step : Step)
-  (places : AreHeldWithin (2 * within + 2) held) (le : within ≤ variables) (cut : IsCut held set (is_marked flags) hints)
-  (is_lits : step.lits ≡ listed flags 1 variables) (is_hints : step.hints ≡ hints) where
+    (places : AreHeldWithin (2 * within + 2) held) (le : within ≤ variables) (cut : IsCut held set (is_marked flags) hints)
+    (is_lits : step.lits ≡ listed flags 1 variables) (is_hints : step.hints ≡ hints) where
   each_within : (y : ℤ) → is_marked flags y ≡ true → IsWithin (2 * within + 2) y
   each_within y m = standing_within (2 * within + 2) held hints y places (cut.standing y m)
 
@@ -247,7 +247,7 @@ module _ (variables within : ℕ) (held : List (Option (List ℤ))) (set : List 
   step_tight =
       tight-true within held step step_valid
       (all_of (stands_in (hint_clauses held step.hints)) step.lits
-        (λ y h. ap (λ (hs : List ℕ). stands_in (hint_clauses held hs) y) is_hints ∙ cut.standing y (marked_of y h)))
+      (λ y h. ap (λ (hs : List ℕ). stands_in (hint_clauses held hs) y) is_hints ∙ cut.standing y (marked_of y h)))
       (ap (λ (hs : List ℕ). sets_used (negations step.lits) (hint_clauses held hs)) is_hints ∙ leading.used)
 
   step_cut : IsCut held set (has step.lits) step.hints

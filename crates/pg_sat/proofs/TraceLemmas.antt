@@ -30,7 +30,7 @@ begun variables cs set number flags hints are conflict e f =
 
 -- one place back
 module _ (variables : ℕ) (cs : List (List ℤ)) (t : Trail) (q : ℕ) (z : ℤ) (over : IsOver variables cs t) (right : IsTrail cs t) (lt : q < length t.literals)
-  (is : z ≡ get_or t.literals q (pos 0)) where
+    (is : z ≡ get_or t.literals q (pos 0)) where
   abbrev pub before : List ℤ
   before = take q t.literals
 
@@ -73,10 +73,10 @@ module _ (variables : ℕ) (cs : List (List ℤ)) (t : Trail) (q : ℕ) (z : ℤ
       places = same ∙ h.places;
       cut = subst (λ (hs : List ℕ). IsCut (map Some cs) (take q t.literals) (is_marked after) hs) (sym (ap reverse e ∙ reverse-append hints (number ∷ [])))
           (IsCut-resolved (map Some cs) (take q t.literals) z at_place.literal.0 at_place.unset number (trails.clause_at cs number)
-            (held-at cs number reason_numbered) reason_clause.distinct (has-contains (trails.clause_at cs number) z has_reason.unit.there)
-            (λ y m d. AreFalseBut-has (take q t.literals) z (trails.clause_at cs number) y has_reason.unit.others m d)
-            (is_marked flags) (is_marked after) (reverse hints)
-            (subst (λ (xs : List ℤ). IsCut (map Some cs) xs (is_marked flags) (reverse hints)) front h.cut) up r);
+          (held-at cs number reason_numbered) reason_clause.distinct (has-contains (trails.clause_at cs number) z has_reason.unit.there)
+          (λ y m d. AreFalseBut-has (take q t.literals) z (trails.clause_at cs number) y has_reason.unit.others m d)
+          (is_marked flags) (is_marked after) (reverse hints)
+          (subst (λ (xs : List ℤ). IsCut (map Some cs) xs (is_marked flags) (reverse hints)) front h.cut) up r);
     }
 
 -- from a place on all were propagated

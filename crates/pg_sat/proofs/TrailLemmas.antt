@@ -59,8 +59,8 @@ pub AreFalseBut-has : (set : List ℤ) (z : ℤ) (c : List ℤ) (y : ℤ) → Ar
 AreFalseBut-has set z [] y h m d = cc
 AreFalseBut-has set z (x ∷ xs) y h m d =
     by_member x xs y m
-        (λ e. subst (λ (w : ℤ). value_of set w ≡ Some false) e (h.0 (λ s. d (sym e ∙ s))))
-        (λ e. AreFalseBut-has set z xs y h.1 e d)
+    (λ e. subst (λ (w : ℤ). value_of set w ≡ Some false) e (h.0 (λ s. d (sym e ∙ s))))
+    (λ e. AreFalseBut-has set z xs y h.1 e d)
 
 -- clauses by their numbers
 held-from : (cs : List (List ℤ)) (k : ℕ) → k < length cs → option_and_then (λ c. c) (slice_get (map Some cs) k) ≡ Some (get_or cs k [])

@@ -1,21 +1,12 @@
 //! The step that a trace of a conflict shows.
 
-ghost use Rattle.std.specs.Prelude.{◌≡◌, ℕ, ◌+◌, ◌*◌, ◌<◌, ◌≤◌, ◌^◌, ◌++◌, length, reverse, map, Some, pos, neg_ℤ, IfOk, OnOk};
-ghost use Rattle.pg_proof.specs.Places.{place};
+ghost use Rattle.std.specs.Prelude.{◌≡◌, ◌+◌, ◌*◌, ◌<◌, ◌^◌, ◌++◌, length, reverse, IfOk, OnOk};
 ghost use Rattle.pg_sat.specs.Listed.{listed_at, listed};
 
-use crate::flags::{Flags, negation, place};
+use crate::flags::{Flags, literal_of, negation, place};
 use crate::trace::Trace;
 use pg_proof::{HintList, LitList, Step};
 use std::alloc::{AllocError, Global};
-
-/// The literal of a variable that is not negated.
-fn literal_of(variable: u32) -> i32
-    requires { variable < 2 ^ 31 }
-    ensures { result ≡ pos variable }
-{
-    variable as i32
-}
 
 /// Adds the literal of a variable whose flag is up, if one is. The error is want of memory.
 fn push_literal(flags: &Flags, variable: u32, literals: &mut LitList) -> Result<(), AllocError>

@@ -1,6 +1,6 @@
 //! The literals that an analysis of a conflict has come to, as a flag for each literal.
 
-ghost use Rattle.std.specs.Prelude.{◌≡◌, ◌+◌, ◌*◌, ◌<◌, ◌^◌, length, false, neg_ℤ, replicate, slice_set, slice_index_or, IfOk};
+ghost use Rattle.std.specs.Prelude.{◌≡◌, ◌+◌, ◌*◌, ◌<◌, ◌^◌, length, false, pos, neg_ℤ, replicate, slice_set, slice_index_or, IfOk};
 ghost use Rattle.pg_cnf.specs.Literals.{IsLiteral};
 ghost use Rattle.pg_proof.specs.Places.{place, is_marked, IsWithin, AreWithin};
 ghost use Rattle.pg_proof.specs.Marked.{marked};
@@ -15,6 +15,14 @@ pub fn place(literal: i32) -> usize
 {
     let first = 2 * literal.unsigned_abs() as usize;
     if literal < 0 { first + 1 } else { first }
+}
+
+/// The literal of a variable that is not negated.
+pub fn literal_of(variable: u32) -> i32
+    requires { variable < 2 ^ 31 }
+    ensures { result ≡ pos variable }
+{
+    variable as i32
 }
 
 /// The negation of a literal.

@@ -18,7 +18,13 @@ use std::alloc::{AllocError, Global};
 
 /// The step that a conflict shows, from the literals before a place from which on all was propagated. The error is want of
 /// memory.
-fn learn_from(alloc: Global, watches: &Watches, variables: u32, conflict: u32, from: usize) -> Result<Step, AllocError>
+fn learn_from(
+    alloc: Global,
+    watches: &Watches,
+    variables: u32,
+    conflict: u32,
+    from: usize,
+) -> Result<Step, AllocError>
     requires over { IsOver variables watches.now.clauses watches.now.trail }
     requires conflict { IsConflict watches.now.clauses watches.now.trail.literals conflict }
     requires from { from ≤ length watches.now.trail.literals }
@@ -31,7 +37,13 @@ fn learn_from(alloc: Global, watches: &Watches, variables: u32, conflict: u32, f
 
 /// The step that a conflict shows, from the last literal that was assigned on: where nothing was left to propagate before it,
 /// the step is new to unit propagation. The error is want of memory.
-pub fn learn_at(alloc: Global, watches: &Watches, variables: u32, conflict: u32, last: usize) -> Result<Step, AllocError>
+pub fn learn_at(
+    alloc: Global,
+    watches: &Watches,
+    variables: u32,
+    conflict: u32,
+    last: usize,
+) -> Result<Step, AllocError>
     requires over { IsOver variables watches.now.clauses watches.now.trail }
     requires conflict { IsConflict watches.now.clauses watches.now.trail.literals conflict }
     requires there { last < length watches.now.trail.literals }
@@ -47,7 +59,12 @@ pub fn learn_at(alloc: Global, watches: &Watches, variables: u32, conflict: u32,
 }
 
 /// The step of the empty clause, that a conflict shows where no literal was assigned. The error is want of memory.
-pub fn refute(alloc: Global, watches: &Watches, variables: u32, conflict: u32) -> Result<Step, AllocError>
+pub fn refute(
+    alloc: Global,
+    watches: &Watches,
+    variables: u32,
+    conflict: u32,
+) -> Result<Step, AllocError>
     requires over { IsOver variables watches.now.clauses watches.now.trail }
     requires conflict { IsConflict watches.now.clauses watches.now.trail.literals conflict }
     requires propagated { AreDerived watches.now.trail.reasons }

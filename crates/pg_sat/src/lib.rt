@@ -6,9 +6,13 @@
 //! 2001). `specs/Cut.antt` says what is traced.
 #![tactic(auto)]
 
+mod decide;
 mod draw;
 mod flags;
+mod jump;
 mod learn;
 mod trace;
 
+pub use decide::{assignment_of, next_unset};
+pub use jump::{jump_place, last_assigned};
 pub use learn::{learn_at, refute};

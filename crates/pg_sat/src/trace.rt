@@ -21,7 +21,12 @@ pub struct Trace {
 }
 
 /// The literals of a clause that is false. The error is want of memory.
-fn begin(alloc: Global, watches: &Watches, variables: u32, conflict: u32) -> Result<Trace, AllocError>
+fn begin(
+    alloc: Global,
+    watches: &Watches,
+    variables: u32,
+    conflict: u32,
+) -> Result<Trace, AllocError>
     requires over { IsOver variables watches.now.clauses watches.now.trail }
     requires conflict { IsConflict watches.now.clauses watches.now.trail.literals conflict }
     ensures { IfOk result (λ trace. IsTraced variables watches.now.clauses watches.now.trail.literals trace.flags trace.hints.items) }
@@ -34,7 +39,12 @@ fn begin(alloc: Global, watches: &Watches, variables: u32, conflict: u32) -> Res
 }
 
 /// Goes back over one place of the trail, which was propagated. The error is want of memory.
-fn step_back(watches: &Watches, variables: u32, at: usize, trace: &mut Trace) -> Result<(), AllocError>
+fn step_back(
+    watches: &Watches,
+    variables: u32,
+    at: usize,
+    trace: &mut Trace,
+) -> Result<(), AllocError>
     requires over { IsOver variables watches.now.clauses watches.now.trail }
     requires there { at < length watches.now.trail.literals }
     requires propagated { IsSomeNumber (slice_index_or watches.now.trail.reasons at None) }
@@ -57,7 +67,13 @@ fn step_back(watches: &Watches, variables: u32, at: usize, trace: &mut Trace) ->
 
 /// Traces a conflict back to a place of the trail from which on all was propagated. It costs the number of places, and the
 /// length of the reasons that are resolved. The error is want of memory.
-pub fn trace_back(alloc: Global, watches: &Watches, variables: u32, conflict: u32, from: usize) -> Result<Trace, AllocError>
+pub fn trace_back(
+    alloc: Global,
+    watches: &Watches,
+    variables: u32,
+    conflict: u32,
+    from: usize,
+) -> Result<Trace, AllocError>
     requires over { IsOver variables watches.now.clauses watches.now.trail }
     requires conflict { IsConflict watches.now.clauses watches.now.trail.literals conflict }
     requires from { from ≤ length watches.now.trail.literals }

@@ -14,5 +14,5 @@ pub returns : goal.returns
 returns c =
     begun c.args.variables c.args.watches.now.clauses c.args.watches.now.trail.literals c.args.conflict c.mark.new.self c.push.new.self.items c.requires.over.right
     c.requires.conflict (c.mark.ensures ∙ ap (λ (zs : List ℤ). marked c.in_ok-flags.flags zs) c.clause.ensures
-      ∙ ap (λ (fs : List Bool). marked fs (clause_at c.args.watches.now.clauses c.args.conflict)) c.in_ok-flags.ensures)
+    ∙ ap (λ (fs : List Bool). marked fs (clause_at c.args.watches.now.clauses c.args.conflict)) c.in_ok-flags.ensures)
     (c.in_ok-push.ensures.items ∙ ap (λ xs. xs ++ c.args.conflict ∷ []) c.new-hints.ensures.items)

@@ -46,7 +46,7 @@ returns-then-not-is_up c =
     let other : SFits w32 c.negation.result = SFits-neg z c.negation.result n small in
     let p : c.place.result ≡ place (neg_ℤ z) = simp to_z-of_z at c.place.ensures ∙ ap place n in
     let down : is_marked c.args.trace.now.flags (neg_ℤ z) ≡ false =
-        ap (λ (k : ℕ). slice_index_or c.args.trace.now.flags k false) (sym p) ∙ sym c.is_up.ensures ∙ c.if-not-is_up.true in
+    ap (λ (k : ℕ). slice_index_or c.args.trace.now.flags k false) (sym p) ∙ sym c.is_up.ensures ∙ c.if-not-is_up.true in
     passed c.args.variables c.args.watches.now.clauses t c.args.at z c.requires.over c.trail.ensures.right c.requires.there is c.args.trace.now.flags c.args.trace.now.hints.items c.requires.traced down
 
 pub clause-requires : goal.clause-requires
@@ -103,9 +103,9 @@ returns-in_ok-push-in-Some c =
     let r : slice_index_or t.reasons c.args.at None ≡ Some c.in-Some.reason = sym c.in-Some.ensures in
     let clause = reason_clause c.args.variables c.args.watches.now.clauses t c.args.at z c.requires.over c.trail.ensures.right c.requires.there is c.in-Some.reason r in
     let up : is_marked c.args.trace.now.flags (neg_ℤ z) ≡ true =
-        ap (λ (k : ℕ). slice_index_or c.args.trace.now.flags k false) (sym p) ∙ sym c.is_up.ensures ∙ c.if-not-is_up.false in
+    ap (λ (k : ℕ). slice_index_or c.args.trace.now.flags k false) (sym p) ∙ sym c.is_up.ensures ∙ c.if-not-is_up.false in
     let res = simp to_z-of_z at c.resolve.ensures.resolved in
     resolved c.args.variables c.args.watches.now.clauses t c.args.at z c.requires.over c.trail.ensures.right c.requires.there is c.in-Some.reason r
-        c.args.trace.now.flags c.resolve.new.self c.args.trace.now.hints.items c.push.new.self.items c.requires.traced up
-        (subst (λ (zs : List ℤ). IsResolved (is_marked c.args.trace.now.flags) (is_marked c.resolve.new.self) zs z) c.clause.ensures res)
-        c.resolve.ensures.places c.in_ok-push-in-Some.ensures.items
+    c.args.trace.now.flags c.resolve.new.self c.args.trace.now.hints.items c.push.new.self.items c.requires.traced up
+    (subst (λ (zs : List ℤ). IsResolved (is_marked c.args.trace.now.flags) (is_marked c.resolve.new.self) zs z) c.clause.ensures res)
+    c.resolve.ensures.places c.in_ok-push-in-Some.ensures.items

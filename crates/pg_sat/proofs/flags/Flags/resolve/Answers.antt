@@ -14,8 +14,8 @@ put-requires-2 c =
     let q = simp to_z-of_z at c.place-2.ensures in
     subst (λ (k : ℕ). k < length c.mark.new.self) (sym q)
     (subst (λ (n : ℕ). place c.args.literal < n)
-      (sym (length-mid c.args.self.now c.put.new.self c.mark.new.self c.mark.new.self c.place.result c.place-2.result c.args.clause.now c.args.literal (p ∙ ap place n) q c.put.ensures c.mark.ensures))
-      (place-below _ c.args.literal c.requires.here))
+    (sym (length-mid c.args.self.now c.put.new.self c.mark.new.self c.mark.new.self c.place.result c.place-2.result c.args.clause.now c.args.literal (p ∙ ap place n) q c.put.ensures c.mark.ensures))
+    (place-below _ c.args.literal c.requires.here))
 
 pub returns-clause-resolved : goal.returns-clause-resolved
 returns-clause-resolved c =
