@@ -1,5 +1,5 @@
 -- Cuts grow from a clause that is false: by reasons of literals, one after another, the last that was set first.
-use Rattle.std.proofs.Common.{◌≡◌, ◌≢◌, ◌⊎◌, inl, inr, ℕ, zero, suc, ◌+◌, ◌-◌, ◌<◌, ◌≤◌, Bool, true, false, not, cond, ◌||◌, ◌&&◌, List, [], ◌∷◌, ◌++◌, length, map, Option, None, Some, unwrap_or, refl, sym, ap, subst, ◌∙◌, arith, ℤ, pos, neg_ℤ, nat_abs}
+use Rattle.std.proofs.Common.{◌≡◌, ◌≢◌, ◌⊎◌, inl, inr, ℕ, ◌<◌, Bool, true, false, ◌&&◌, List, [], ◌∷◌, ◌++◌, Option, None, Some, unwrap_or, refl, sym, ap, subst, ◌∙◌, ℤ, neg_ℤ, nat_abs}
 use Rattle.std.specs.Ordering.{int_eq}
 use Rattle.std.proofs.Math.IntN.{neg_ℤ-neg_ℤ}
 use Rattle.std.proofs.lemmas.Bool.Decides.{Decides-int_eq}
@@ -7,16 +7,14 @@ use Rattle.pg_cnf.specs.Literals.{AreDistinct}
 use Rattle.pg_watch.specs.Trail.{value_of}
 use Rattle.pg_watch.proofs.Values.{value_of-push_same, value_of-push_other, value_of-after_some, value_of-unset_neg}
 use Rattle.pg_proof.specs.declared.propagation.Reading.{Reading}
-use Rattle.pg_proof.specs.declared.propagation.Reading.TheVariants.{Falsified, Unit, Neither}
-use Rattle.pg_proof.specs.declared.step.ProofFault.{ProofFault}
-use Rattle.pg_proof.specs.declared.step.ProofFault.TheVariants.{UnknownHint}
+use Rattle.pg_proof.specs.declared.propagation.Reading.TheVariants.{Falsified, Unit}
 use Rattle.pg_proof.specs.Places.{has}
 use Rattle.pg_proof.specs.Reading.{reading}
 use Rattle.pg_proof.specs.State.{clause_at}
-use Rattle.pg_proof.specs.Refutation.{is_last, at_reading, at_clause, walk}
+use Rattle.pg_proof.specs.Refutation.{walk}
 use Rattle.pg_proof.specs.Tight.{literals_at, hint_clauses, stands_in, at_set, sets_used}
 use Rattle.pg_sat.specs.Cut.{AreTrue, AreDenied, Leads, IsCut, IsResolved}
-use Rattle.pg_sat.proofs.ReadingLemmas.{false_if, first_of_two, second_of_two, one_of_two, has-first, has-later, has-cases, reading-falsified, reading-unit}
+use Rattle.pg_sat.proofs.ReadingLemmas.{false_if, first_of_two, second_of_two, has-first, has-later, has-cases, reading-falsified, reading-unit}
 
 literals-at : (held : List (Option (List ℤ))) (n : ℕ) (c : List ℤ) → clause_at held n ≡ Some c → literals_at held n ≡ c
 literals-at held n c e = ap (λ (o : Option (List ℤ)). unwrap_or o []) e

@@ -1,5 +1,5 @@
 -- One literal more.
-use Rattle.std.proofs.Common.{◌≡◌, ℕ, zero, suc, ◌+◌, ◌-◌, ◌*◌, ◌<◌, ◌≤◌, Bool, true, false, List, [], ◌∷◌, ◌++◌, get_or, refl, sym, ap, ◌∙◌, arith, ℤ, pos, negsuc, neg_ℤ, append_assoc}
+use Rattle.std.proofs.Common.{◌≡◌, ℕ, zero, suc, ◌+◌, ◌-◌, ◌*◌, ◌<◌, ◌≤◌, Bool, true, false, List, [], ◌∷◌, ◌++◌, sym, ap, ◌∙◌, arith, ℤ, pos, neg_ℤ, append_assoc}
 use Rattle.std.proofs.lemmas.List.{append-nil}
 use Rattle.pg_proof.specs.Places.{place, is_marked}
 use Rattle.pg_sat.specs.Listed.{listed_at, listed}

@@ -1,9 +1,7 @@
 -- Flags of the literals that are wanted.
-use Rattle.std.proofs.Common.{SFits, w32, zero, suc, ◌≡◌, ◌≢◌, ◌⊎◌, inl, inr, ℕ, ◌+◌, ◌*◌, ◌^◌, ◌<◌, ◌≤◌, Bool, true, false, ◌||◌, List, [], ◌∷◌, length, get_or, set, refl, sym, ap, subst, ◌∙◌, arith, ℤ, pos, negsuc, neg_ℤ, nat_abs}
-use Rattle.std.specs.Ordering.{int_eq}
+use Rattle.std.proofs.Common.{SFits, w32, zero, suc, ◌≡◌, ◌≢◌, ◌⊎◌, inl, inr, ℕ, ◌+◌, ◌*◌, ◌^◌, ◌<◌, Bool, true, false, ◌||◌, List, length, set, refl, sym, ap, subst, ◌∙◌, arith, ℤ, pos, negsuc, neg_ℤ}
 use Rattle.std.proofs.lemmas.List.{length-set, get_or-set_same, get_or-set_other}
 use Rattle.std.proofs.lemmas.Int.{ints}
-use Rattle.std.proofs.Math.IntN.{neg_ℤ-neg_ℤ}
 use Rattle.pg_proof.specs.Places.{has, place, is_marked, IsWithin, AreWithin}
 use Rattle.pg_proof.specs.Marked.{marked}
 use Rattle.pg_proof.proofs.MarkedLemmas.{place-same, place-below, nat_abs-neg, length-marked, is_marked-marked}

@@ -1,14 +1,11 @@
 -- Where the trail is cut after a conflict.
-use Rattle.std.proofs.Common.{◌≡◌, ◌≢◌, ◌⊎◌, inl, inr, ℕ, zero, suc, ◌+◌, ◌-◌, ◌*◌, ◌<◌, ◌≤◌, Bool, true, false, not, List, [], ◌∷◌, ◌++◌, length, get_or, map, take, drop, Option, Some, None, slice_get, refl, sym, ap, subst, ◌∙◌, arith, ℤ, pos, neg_ℤ, nat_abs}
-use Rattle.std.specs.Option.{option_map}
+use Rattle.std.proofs.Common.{◌≡◌, ◌≢◌, ◌⊎◌, inl, inr, ℕ, ◌+◌, ◌<◌, ◌≤◌, Bool, true, false, List, ◌++◌, length, get_or, take, drop, Option, Some, None, slice_get, refl, sym, ap, subst, ◌∙◌, arith, ℤ, pos, neg_ℤ}
 use Rattle.std.proofs.lemmas.List.{take-take, take_more, take-append-drop, drop_more}
 use Rattle.std.proofs.lemmas.Option.{slice_get-get_or}
 use Rattle.std.proofs.lemmas.Bool.{cases_lt}
-use Rattle.pg_cnf.specs.Literals.{IsLiteral}
-use Rattle.pg_watch.specs.Trail.{Trail, value_of, IsTrail, IsOpen, IsUnit, AreFalse, AreDerived, IsSomeNumber, AreSet}
+use Rattle.pg_watch.specs.Trail.{Trail, value_of, IsTrail, IsOpen, IsUnit, AreDerived, IsSomeNumber}
 use Rattle.pg_watch.specs.Watched.{IsAssigned}
 use Rattle.pg_watch.proofs.Values.{value_of-after_some, value_of-unset_neg, value_of-push_neg}
-use Rattle.pg_watch.proofs.WatchedLemmas.{assigned-within}
 use Rattle.pg_proof.specs.Places.{has}
 use Rattle.pg_sat.specs.Learned.{IsAsserting}
 use Rattle.pg_sat.specs.Jump.{IsLast, IsJump}

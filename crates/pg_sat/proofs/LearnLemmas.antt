@@ -1,28 +1,24 @@
 -- What is learned, and what it is worth.
-use Rattle.std.proofs.Common.{◌≡◌, ◌≢◌, ◌⊎◌, inl, inr, ℕ, zero, suc, ◌+◌, ◌-◌, ◌*◌, ◌<◌, ◌≤◌, Bool, true, false, List, [], ◌∷◌, ◌++◌, length, get_or, map, reverse, take, Option, Some, None, slice_get, refl, sym, ap, subst, ◌∙◌, arith, ℤ, pos, neg_ℤ, nat_abs}
+use Rattle.std.proofs.Common.{◌≡◌, ℕ, zero, suc, ◌+◌, ◌*◌, ◌<◌, Bool, true, false, List, [], ◌∷◌, ◌++◌, length, get_or, map, reverse, take, Option, Some, None, slice_get, refl, sym, ap, subst, ◌∙◌, arith, ℤ, pos, neg_ℤ, nat_abs}
 use Rattle.std.specs.Prelude.{Result, Ok, Err, IfOk}
 use Rattle.std.specs.declared.alloc.AllocError.{AllocError}
 use Rattle.std.specs.Option.{option_and_then}
-use Rattle.std.proofs.Math.IntN.{neg_ℤ-neg_ℤ}
 use Rattle.std.proofs.lemmas.List.{take_more}
-use Rattle.pg_cnf.specs.Literals.{IsLiteral, AreClauses}
+use Rattle.pg_cnf.specs.Literals.{AreClauses}
 use Rattle.pg_watch.specs.Trail.{Trail, value_of, IsTrail, IsQuiet, AreSet}
-use Rattle.pg_watch.proofs.Values.{value_of-push_other, value_of-unset_neg}
-use Rattle.pg_proof.specs.declared.propagation.Reading.{Reading}
-use Rattle.pg_proof.specs.declared.propagation.Reading.TheVariants.{Falsified, Unit, Neither}
-use Rattle.pg_proof.specs.declared.step.ProofFault.{ProofFault}
-use Rattle.pg_proof.specs.declared.step.ProofFault.TheVariants.{UnknownHint, NotUnit, NoConflict}
+use Rattle.pg_watch.proofs.Values.{value_of-unset_neg}
+use Rattle.pg_proof.specs.declared.propagation.Reading.TheVariants.{Neither}
 use Rattle.pg_proof.specs.declared.step.Step.{Step}
-use Rattle.pg_proof.specs.Places.{has, is_marked}
+use Rattle.pg_proof.specs.Places.{has}
 use Rattle.pg_proof.specs.Reading.{reading}
 use Rattle.pg_proof.specs.State.{clause_at, AreHeldWithin}
-use Rattle.pg_proof.specs.Refutation.{is_last, at_reading, at_clause, walk}
+use Rattle.pg_proof.specs.Refutation.{walk}
 use Rattle.pg_proof.specs.New.{AreQuiet, IsNew}
-use Rattle.pg_sat.specs.Cut.{AreTrue, AreDenied, Leads, IsCut}
+use Rattle.pg_sat.specs.Cut.{IsCut}
 use Rattle.pg_sat.specs.Trace.{IsOver, IsTraced}
 use Rattle.pg_sat.specs.Listed.{listed}
-use Rattle.pg_sat.specs.Learned.{IsLearned, IsLearnedWithin, IsAsserting}
-use Rattle.pg_sat.proofs.CutLemmas.{same_or_not, IsCut-passed, before_push}
+use Rattle.pg_sat.specs.Learned.{IsLearnedWithin, IsAsserting}
+use Rattle.pg_sat.proofs.CutLemmas.{IsCut-passed, before_push}
 use Rattle.pg_sat.proofs.StepLemmas.{step_learned}
 use Rattle.pg_sat.proofs.NewLemmas.{true_if_set, set_if_false, quiet-readings, IsNew-quiet, new_not_covered}
 use Rattle.pg_sat.proofs.TrailLemmas.{IsAt, AreSet-at, AreWithin-literals}

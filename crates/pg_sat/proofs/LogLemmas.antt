@@ -1,16 +1,15 @@
 -- A log with one step more.
-use Rattle.std.proofs.Common.{◌≡◌, ◌≢◌, ◌⊎◌, inl, inr, ℕ, zero, suc, ◌+◌, ◌-◌, ◌*◌, ◌<◌, ◌≤◌, Bool, true, false, not, cond, ◌||◌, ◌&&◌, List, [], ◌∷◌, ◌++◌, length, get_or, map, Option, Some, None, is_none, refl, sym, ap, subst, ◌∙◌, arith, ℤ, pos, neg_ℤ, nat_abs, append_assoc}
-use Rattle.std.specs.Prelude.{⊤, IsTrue, IsSomeAnd}
+use Rattle.std.proofs.Common.{◌≡◌, ℕ, suc, cond, List, [], ◌∷◌, ◌++◌, length, map, Option, Some, None, is_none, refl, sym, ap, subst, ◌∙◌, ℤ, append_assoc}
 use Rattle.std.specs.Option.{option_and_then}
-use Rattle.std.proofs.lemmas.List.{append-nil, map-append, length-append}
+use Rattle.std.proofs.lemmas.List.{append-nil, map-append}
 use Rattle.pg_proof.specs.declared.step.Step.{Step}
 use Rattle.pg_proof.specs.declared.step.Act.{Act}
-use Rattle.pg_proof.specs.declared.step.Act.TheVariants.{Add, Remove}
-use Rattle.pg_proof.specs.State.{State, begun, is_empty, with_clause, variables_of}
+use Rattle.pg_proof.specs.declared.step.Act.TheVariants.{Add}
+use Rattle.pg_proof.specs.State.{State, begun, with_clause, variables_of}
 use Rattle.pg_proof.specs.Refutation.{fault_of}
-use Rattle.pg_proof.specs.Log.{after_act, after_acts_from, after_acts, IsClosedLog, IsWorth, IsSpentFrom, IsSpent}
+use Rattle.pg_proof.specs.Log.{after_act, after_acts_from, IsWorth, IsSpentFrom}
 use Rattle.pg_proof.specs.New.{IsNew}
-use Rattle.pg_sat.specs.Solving.{clauses_of, AreNew, IsLog}
+use Rattle.pg_sat.specs.Solving.{clauses_of, AreNew}
 
 -- the state after steps
 logged : State → List Step → State

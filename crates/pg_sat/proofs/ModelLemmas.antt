@@ -1,12 +1,11 @@
 -- Where each variable is set and nothing is left to propagate, all clauses are true.
-use Rattle.std.proofs.Common.{◌≡◌, ◌≢◌, ◌⊎◌, inl, inr, ℕ, zero, suc, ◌+◌, ◌-◌, ◌*◌, ◌<◌, ◌≤◌, Bool, true, false, not, ◌||◌, ◌&&◌, List, [], ◌∷◌, ◌++◌, length, get_or, Option, Some, None, refl, sym, ap, subst, ◌∙◌, arith, ℤ, pos, negsuc, neg_ℤ, nat_abs}
-use Rattle.std.specs.List.{list_any, list_all}
+use Rattle.std.proofs.Common.{◌≡◌, ◌≢◌, ◌⊎◌, inl, inr, ℕ, zero, suc, ◌+◌, ◌<◌, ◌≤◌, Bool, true, false, not, ◌||◌, List, [], ◌∷◌, ◌++◌, length, get_or, Option, Some, None, refl, sym, ap, subst, ◌∙◌, arith, ℤ, pos, negsuc, neg_ℤ}
 use Rattle.std.specs.Option.{option_map}
 use Rattle.std.proofs.Math.ListN.{get_or-append}
 use Rattle.std.proofs.Math.Seq.{get_or-append_seam}
 use Rattle.std.proofs.lemmas.List.{length-append}
 use Rattle.std.proofs.lemmas.Bool.{cases_lt}
-use Rattle.pg_cnf.specs.Literals.{IsLiteral, AreLiterals, IsClause, AreClauses}
+use Rattle.pg_cnf.specs.Literals.{IsLiteral, AreLiterals, AreClauses}
 use Rattle.pg_cnf.specs.Truth.{literal_true, clause_true, clauses_true}
 use Rattle.pg_watch.specs.Trail.{value_of, AreFalse, IsOpen, IsQuiet}
 use Rattle.pg_watch.proofs.Values.{value_of-neg, value_of-unset_neg}

@@ -1,23 +1,22 @@
 -- A clause of which all literals but one are false before a place where nothing was left to propagate is new.
-use Rattle.std.proofs.Common.{◌≡◌, ◌≢◌, ◌⊎◌, inl, inr, ℕ, zero, suc, ◌<◌, ◌≤◌, Bool, true, false, not, cond, ◌||◌, ◌&&◌, List, [], ◌∷◌, ◌++◌, length, map, Option, Some, None, refl, sym, ap, subst, ◌∙◌, arith, ℤ, neg_ℤ, nat_abs, get_or, append_assoc}
-use Rattle.std.specs.Prelude.{Contains, ⊤}
+use Rattle.std.proofs.Common.{◌≡◌, ◌≢◌, ℕ, suc, ◌<◌, Bool, true, false, not, cond, ◌||◌, List, [], ◌∷◌, ◌++◌, map, Option, Some, None, refl, sym, ap, subst, ◌∙◌, arith, ℤ, neg_ℤ, nat_abs, append_assoc}
+use Rattle.std.specs.Prelude.{Contains}
 use Rattle.std.specs.Ordering.{int_eq}
 use Rattle.std.specs.Option.{option_map}
 use Rattle.std.specs.List.{list_any, list_all}
 use Rattle.std.proofs.Math.IntN.{neg_ℤ-neg_ℤ}
 use Rattle.std.proofs.lemmas.Bool.Decides.{Decides-int_eq}
-use Rattle.pg_cnf.specs.Literals.{IsLiteral, AreClauses}
-use Rattle.pg_watch.specs.Trail.{value_of, AreFalse, AreFalseBut, IsUnit, IsFalsified, IsOpen, IsQuiet, AreSet}
+use Rattle.pg_cnf.specs.Literals.{AreClauses}
+use Rattle.pg_watch.specs.Trail.{value_of, AreFalse, AreFalseBut, IsOpen, IsQuiet, AreSet}
 use Rattle.pg_watch.proofs.Values.{value_of-push_same, value_of-after_some, value_of-neg}
-use Rattle.pg_proof.specs.declared.propagation.Reading.{Reading}
-use Rattle.pg_proof.specs.declared.propagation.Reading.TheVariants.{Falsified, Unit, Neither}
+use Rattle.pg_proof.specs.declared.propagation.Reading.TheVariants.{Unit, Neither}
 use Rattle.pg_proof.specs.Places.{has}
 use Rattle.pg_proof.specs.Reading.{open_of, reading_of, reading}
 use Rattle.pg_proof.specs.New.{AreQuiet, IsNew}
-use Rattle.pg_proof.specs.Covered.{passes, is_covered}
+use Rattle.pg_proof.specs.Covered.{is_covered}
 use Rattle.pg_proof.proofs.NewLemmas.{new_uncovered}
 use Rattle.pg_sat.proofs.ReadingLemmas.{false_if, has-first, has-later, by_member}
-use Rattle.pg_sat.proofs.CutLemmas.{same_or_not, some-differs, none-differs}
+use Rattle.pg_sat.proofs.CutLemmas.{some-differs, none-differs}
 
 -- what has a value is set
 step-value : (x z : ℤ) (xs : List ℤ) (a b : Bool) → int_eq x z ≡ a → int_eq x (neg_ℤ z) ≡ b → (v : Bool) → cond a (Some true) (cond b (Some false) (value_of xs z)) ≡ Some v →

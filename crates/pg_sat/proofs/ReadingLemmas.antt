@@ -1,9 +1,8 @@
 -- What a clause says where all its literals are false, or all but one.
-use Rattle.std.proofs.Common.{◌≡◌, ◌≢◌, ◌⊎◌, inl, inr, ℕ, Bool, true, false, not, cond, ◌||◌, ◌&&◌, List, [], ◌∷◌, refl, sym, ap, subst, ◌∙◌, ℤ, neg_ℤ}
+use Rattle.std.proofs.Common.{◌≡◌, ◌≢◌, ◌⊎◌, inl, inr, Bool, true, false, not, cond, ◌||◌, List, [], ◌∷◌, refl, sym, ap, ◌∙◌, ℤ, neg_ℤ}
 use Rattle.std.specs.Ordering.{int_eq}
 use Rattle.std.proofs.lemmas.Bool.Decides.{Decides-int_eq}
 use Rattle.pg_cnf.specs.Literals.{IsAbsent, AreDistinct}
-use Rattle.pg_proof.specs.declared.propagation.Reading.{Reading}
 use Rattle.pg_proof.specs.declared.propagation.Reading.TheVariants.{Falsified, Unit, Neither}
 use Rattle.pg_proof.specs.Places.{has}
 use Rattle.pg_proof.specs.Reading.{open_of, reading_of, reading}

@@ -1,24 +1,23 @@
 -- The step of a cut: its literals in order, and its hints.
-use Rattle.std.proofs.Common.{◌≡◌, ◌≢◌, ◌⊎◌, inl, inr, ℕ, zero, suc, ◌+◌, ◌-◌, ◌*◌, ◌^◌, ◌<◌, ◌≤◌, Bool, true, false, ltb, leb, cond, ◌||◌, ◌&&◌, List, [], ◌∷◌, ◌++◌, length, map, reverse, Option, Some, None, is_none, unwrap_or, refl, sym, ap, subst, ◌∙◌, arith, ℤ, pos, negsuc, neg_ℤ, nat_abs}
-use Rattle.std.specs.List.{list_any, list_all}
+use Rattle.std.proofs.Common.{◌≡◌, ◌≢◌, ◌⊎◌, inl, inr, ℕ, zero, suc, ◌+◌, ◌-◌, ◌*◌, ◌<◌, ◌≤◌, Bool, true, false, ltb, leb, cond, ◌&&◌, List, [], ◌∷◌, ◌++◌, map, Option, Some, None, is_none, refl, sym, ap, subst, ◌∙◌, arith, ℤ, pos, negsuc, neg_ℤ, nat_abs}
+use Rattle.std.specs.List.{list_all}
 use Rattle.std.proofs.Math.IntN.{neg_ℤ-neg_ℤ}
 use Rattle.std.proofs.lemmas.Bool.{cases_lt}
 use Rattle.std.proofs.lemmas.Bool.Decides.{nat_tests}
-use Rattle.pg_cnf.specs.Literals.{IsLiteral, AreLiterals, IsClause, AreClauses}
 use Rattle.pg_watch.specs.Trail.{value_of}
 use Rattle.pg_watch.proofs.Values.{value_of-neg}
 use Rattle.pg_proof.specs.declared.step.Step.{Step}
 use Rattle.pg_proof.specs.Places.{has, negations, is_marked, IsWithin, AreWithin}
-use Rattle.pg_proof.specs.State.{clause_at, AreHeldWithin, variables_of_clause, variables_of}
+use Rattle.pg_proof.specs.State.{AreHeldWithin}
 use Rattle.pg_proof.specs.Refutation.{are_ascending, walk, fault_of}
 use Rattle.pg_proof.specs.Tight.{literals_at, hint_clauses, stands_in, sets_used, is_tight}
 use Rattle.pg_proof.proofs.TightLemmas.{AreWithin-literals}
 use Rattle.pg_proof.proofs.MarkedLemmas.{nat_abs-neg}
-use Rattle.pg_proof.proofs.WithinLemmas.{both, less, AreWithin-ascending}
-use Rattle.pg_sat.specs.Cut.{AreTrue, AreDenied, Leads, IsCut}
+use Rattle.pg_proof.proofs.WithinLemmas.{both, less}
+use Rattle.pg_sat.specs.Cut.{AreTrue, Leads, IsCut}
 use Rattle.pg_sat.specs.Listed.{listed_at, listed}
 use Rattle.pg_sat.specs.Learned.{IsLearned}
-use Rattle.pg_sat.proofs.ReadingLemmas.{first_of_two, second_of_two, one_of_two, has-first, has-later, has-cases, by_member}
+use Rattle.pg_sat.proofs.ReadingLemmas.{one_of_two, has-first, has-later, by_member}
 use Rattle.pg_sat.proofs.CutLemmas.{both_true}
 
 -- literals that are within places

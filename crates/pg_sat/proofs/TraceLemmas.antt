@@ -1,10 +1,10 @@
 -- A trace goes back along the trail.
-use Rattle.std.proofs.Common.{◌≡◌, ◌≢◌, ◌⊎◌, inl, inr, ℕ, zero, suc, ◌+◌, ◌-◌, ◌*◌, ◌^◌, ◌<◌, ◌≤◌, Bool, true, false, List, [], ◌∷◌, ◌++◌, length, get_or, take, drop, map, reverse, replicate, Option, Some, None, refl, sym, ap, subst, ◌∙◌, arith, ℤ, pos, neg_ℤ, nat_abs}
-use Rattle.std.proofs.lemmas.List.{take_more, take_all, reverse-append, length-replicate, get_or-drop, length-drop}
-use Rattle.pg_cnf.specs.Literals.{IsLiteral, AreLiterals, IsClause, AreClauses}
+use Rattle.std.proofs.Common.{◌≡◌, ℕ, zero, suc, ◌+◌, ◌-◌, ◌*◌, ◌<◌, ◌≤◌, Bool, true, false, List, [], ◌∷◌, ◌++◌, length, get_or, take, drop, map, reverse, replicate, Option, Some, None, sym, ap, subst, ◌∙◌, arith, ℤ, pos, neg_ℤ}
+use Rattle.std.proofs.lemmas.List.{take_more, reverse-append, length-replicate, get_or-drop, length-drop}
+use Rattle.pg_cnf.specs.Literals.{IsClause, AreClauses}
 use Rattle.pg_watch.specs.Trail.{Trail, value_of, IsTrail, IsReason, HasReason, IsConflict, IsNumber, IsSomeNumber, AreDerived}
 use Rattle.pg_watch.specs.Trail as trails
-use Rattle.pg_proof.specs.Places.{has, place, is_marked, IsWithin, AreWithin}
+use Rattle.pg_proof.specs.Places.{has, is_marked, IsWithin, AreWithin}
 use Rattle.pg_proof.specs.Marked.{marked}
 use Rattle.pg_proof.proofs.MarkedLemmas.{shows-marked, length-marked}
 use Rattle.pg_sat.specs.Cut.{IsCut, IsResolved}

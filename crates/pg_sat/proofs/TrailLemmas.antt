@@ -1,5 +1,5 @@
 -- The literal at a place of a trail, and its reason.
-use Rattle.std.proofs.Common.{◌≡◌, ◌≢◌, ◌⊎◌, inl, inr, ℕ, zero, suc, ◌+◌, ◌-◌, ◌*◌, ◌<◌, ◌≤◌, Bool, true, false, List, [], ◌∷◌, ◌++◌, length, get_or, take, map, Option, Some, None, slice_get, refl, sym, ap, subst, ◌∙◌, arith, ℤ, pos, neg_ℤ, nat_abs, append_assoc}
+use Rattle.std.proofs.Common.{◌≡◌, ◌≢◌, ℕ, zero, suc, ◌+◌, ◌-◌, ◌*◌, ◌<◌, true, false, List, [], ◌∷◌, ◌++◌, length, get_or, take, map, Option, Some, None, slice_get, refl, sym, subst, ◌∙◌, arith, ℤ, append_assoc}
 use Rattle.std.specs.Prelude.{Contains}
 use Rattle.std.specs.Option.{option_and_then}
 use Rattle.std.proofs.lemmas.List.{append-nil}
@@ -7,7 +7,7 @@ use Rattle.pg_cnf.specs.Literals.{IsLiteral, AreLiterals, IsClause, AreClauses}
 use Rattle.pg_watch.specs.Trail.{value_of, AreFalse, AreFalseBut, AreSet, HaveReasons, HasReason, IsNumber}
 use Rattle.pg_watch.specs.Trail as trails
 use Rattle.pg_watch.proofs.Steps.{AreClauses-at}
-use Rattle.pg_proof.specs.Places.{has, IsWithin, AreWithin}
+use Rattle.pg_proof.specs.Places.{has, AreWithin}
 use Rattle.pg_proof.specs.State.{clause_at}
 use Rattle.pg_sat.proofs.ReadingLemmas.{has-first, has-later, by_member}
 

@@ -1,5 +1,5 @@
 -- Where the trail is cut after a conflict.
-use Rattle.std.specs.Prelude.{◌≡◌, ℕ, ◌+◌, ◌<◌, ℤ, List, take, drop, Some, None, slice_get}
+use Rattle.std.specs.Prelude.{ℕ, ◌+◌, ◌<◌, ℤ, List, take, drop}
 use Rattle.pg_watch.specs.Trail.{Trail, IsOpen, AreDerived}
 use Rattle.pg_watch.specs.Watched.{IsAssigned}
 

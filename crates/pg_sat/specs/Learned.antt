@@ -1,5 +1,5 @@
 -- What a conflict teaches.
-use Rattle.std.specs.Prelude.{◌≡◌, ◌≢◌, ℕ, ◌+◌, ◌*◌, ◌≤◌, Bool, true, false, ℤ, neg_ℤ, List, map, Some, None}
+use Rattle.std.specs.Prelude.{◌≡◌, ◌≢◌, ℕ, ◌+◌, ◌*◌, ◌≤◌, true, false, ℤ, neg_ℤ, List, map, Some, None}
 use Rattle.pg_proof.specs.declared.step.Step.{Step}
 use Rattle.pg_proof.specs.State.{AreHeldWithin}
 use Rattle.pg_proof.specs.Refutation.{fault_of}

@@ -1,4 +1,4 @@
-use Rattle.std.proofs.Common.{SFits, w32, ◌≡◌, ◌∙◌, ◌+◌, ◌<◌, ◌≤◌, ℤ, List, Option, Bool, None, pos, neg_ℤ, arith, ap, sym, subst}
+use Rattle.std.proofs.Common.{SFits, w32, ◌≡◌, ◌∙◌, ◌+◌, pos, neg_ℤ, arith, ap, sym, subst}
 use Rattle.std.proofs.lemmas.Int.{to_z-of_z}
 use Rattle.pg_cnf.specs.Literals.{IsLiteral}
 use Rattle.pg_watch.specs.Trail.{value_of}

@@ -1,10 +1,10 @@
-use Rattle.std.proofs.Common.{SFits, w32, List, ℤ, ℕ, Bool, true, false, pos, neg_ℤ, length, subst, sym, ap, ◌≡◌, ◌∙◌, ◌<◌, ◌+◌, ◌*◌, ◌++◌, ◌∷◌, [], Some, None, slice_index_or, arith}
+use Rattle.std.proofs.Common.{SFits, w32, List, ℤ, ℕ, false, pos, neg_ℤ, length, subst, sym, ap, ◌≡◌, ◌∙◌, ◌<◌, slice_index_or, arith}
 use Rattle.std.proofs.lemmas.Int.{to_z-of_z}
 use Rattle.pg_cnf.specs.Literals.{IsLiteral}
-use Rattle.pg_proof.specs.Places.{place, is_marked, AreWithin}
+use Rattle.pg_proof.specs.Places.{place, is_marked}
 use Rattle.pg_proof.proofs.MarkedLemmas.{place-below}
 use Rattle.pg_sat.proofs.FlagLemmas.{IsWithin-neg, SFits-neg, SFits-literal}
-use Rattle.pg_sat.proofs.TraceLemmas.{at_place, within_places, passed, resolved, reason_numbered, reason_clause}
+use Rattle.pg_sat.proofs.TraceLemmas.{at_place, within_places}
 use Rattle.pg_sat.proofs.jump.is_denied.Goals as goal
 
 pub negation-requires : goal.negation-requires

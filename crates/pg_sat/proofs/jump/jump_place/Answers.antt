@@ -1,4 +1,4 @@
-use Rattle.std.proofs.Common.{◌≡◌, ◌∙◌, ◌+◌, ◌*◌, ◌-◌, ◌<◌, ◌≤◌, ℕ, ℤ, Bool, List, false, true, Some, None, pos, neg_ℤ, slice_index_or, arith, length, replicate, subst, sym, ap, []}
+use Rattle.std.proofs.Common.{◌≡◌, ◌∙◌, ◌+◌, ◌*◌, ◌-◌, ◌<◌, ℕ, ℤ, Bool, List, false, true, Some, None, pos, neg_ℤ, slice_index_or, arith, length, subst, sym, ap, []}
 use Rattle.std.proofs.lemmas.List.{length-replicate}
 use Rattle.std.proofs.lemmas.Option.{slice_get-get_or}
 use Rattle.pg_watch.proofs.Steps.{length-reasons}

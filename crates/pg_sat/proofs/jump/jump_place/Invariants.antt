@@ -1,4 +1,4 @@
-use Rattle.std.proofs.Common.{◌≤◌, length, drop}
+use Rattle.std.proofs.Common.{◌≤◌}
 use Rattle.pg_watch.specs.Watched.{IsAssigned}
 use Rattle.pg_sat.proofs.JumpLemmas.{NoneBetween}
 use Rattle.pg_sat.proofs.jump.jump_place.Given as goal

@@ -1,4 +1,4 @@
-use Rattle.std.proofs.Common.{◌≡◌, ◌+◌, ◌-◌, ◌<◌, ◌≤◌, ℕ, arith, length, drop, subst, sym, ap, []}
+use Rattle.std.proofs.Common.{◌≡◌, ◌+◌, ◌-◌, ℕ, arith, length, drop, subst, sym, ap, []}
 use Rattle.std.proofs.lemmas.List.{drop_all}
 use Rattle.pg_watch.specs.Trail.{AreDerived}
 use Rattle.pg_watch.proofs.Steps.{length-reasons}

@@ -1,4 +1,4 @@
-use Rattle.std.proofs.Common.{List, ℤ, length, subst, sym, ap, ◌≡◌, ◌∙◌, ◌++◌, ◌∷◌, [], Bool}
+use Rattle.std.proofs.Common.{List, ℤ, length, subst, sym, ap, ◌∙◌, ◌++◌, ◌∷◌, [], Bool}
 use Rattle.pg_watch.specs.Trail.{clause_at}
 use Rattle.pg_proof.specs.Places.{AreWithin}
 use Rattle.pg_proof.specs.Marked.{marked}

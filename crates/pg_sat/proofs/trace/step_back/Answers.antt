@@ -1,4 +1,4 @@
-use Rattle.std.proofs.Common.{SFits, w32, List, ℤ, ℕ, Bool, true, false, pos, neg_ℤ, length, subst, sym, ap, ◌≡◌, ◌∙◌, ◌<◌, ◌+◌, ◌*◌, ◌++◌, ◌∷◌, [], Some, None, slice_index_or, arith}
+use Rattle.std.proofs.Common.{SFits, w32, List, ℤ, ℕ, true, false, pos, neg_ℤ, length, subst, sym, ap, ◌≡◌, ◌∙◌, ◌<◌, Some, None, slice_index_or, arith}
 use Rattle.std.proofs.lemmas.Int.{to_z-of_z}
 use Rattle.pg_cnf.specs.Literals.{IsLiteral}
 use Rattle.pg_watch.specs.Trail.{clause_at}

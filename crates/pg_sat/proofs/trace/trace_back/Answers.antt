@@ -1,4 +1,4 @@
-use Rattle.std.proofs.Common.{◌≡◌, ◌-◌, ◌+◌, ◌≤◌, ◌<◌, ℕ, arith, length, take, drop, subst, sym, refl, []}
+use Rattle.std.proofs.Common.{◌≡◌, ◌-◌, ℕ, arith, take, subst, []}
 use Rattle.pg_watch.proofs.Steps.{length-reasons}
 use Rattle.pg_sat.specs.Trace.{IsTraced}
 use Rattle.pg_sat.proofs.TraceLemmas.{derived-from}

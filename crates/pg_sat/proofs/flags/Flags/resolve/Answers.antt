@@ -1,4 +1,4 @@
-use Rattle.std.proofs.Common.{SFits, w32, ◌≡◌, ◌∙◌, ◌<◌, length, ap, subst, sym, ℕ}
+use Rattle.std.proofs.Common.{SFits, w32, ◌∙◌, ◌<◌, length, ap, subst, sym, ℕ}
 use Rattle.std.proofs.lemmas.Int.{to_z-of_z}
 use Rattle.pg_proof.specs.Places.{place}
 use Rattle.pg_proof.proofs.MarkedLemmas.{place-below}
