@@ -10,3 +10,5 @@ pub mod LearnLemmas
 pub mod JumpLemmas
 pub mod ModelLemmas
 pub mod LogLemmas
+pub mod SolvingLemmas
+pub mod ConflictLemmas

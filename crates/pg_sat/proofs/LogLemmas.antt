@@ -1,15 +1,19 @@
 -- A log with one step more.
-use Rattle.std.proofs.Common.{◌≡◌, ℕ, suc, cond, List, [], ◌∷◌, ◌++◌, length, map, Option, Some, None, is_none, refl, sym, ap, subst, ◌∙◌, ℤ, append_assoc}
+use Rattle.std.proofs.Common.{◌≡◌, ℕ, suc, Bool, true, false, ◌||◌, arith, cond, List, [], ◌∷◌, ◌++◌, length, map, Option, Some, None, is_none, refl, sym, ap, subst, ◌∙◌, ℤ, append_assoc}
+use Rattle.std.specs.Prelude.{IsTrue, IsSomeAnd}
 use Rattle.std.specs.Option.{option_and_then}
-use Rattle.std.proofs.lemmas.List.{append-nil, map-append}
+use Rattle.std.proofs.lemmas.List.{append-nil, map-append, length-append}
 use Rattle.pg_proof.specs.declared.step.Step.{Step}
 use Rattle.pg_proof.specs.declared.step.Act.{Act}
 use Rattle.pg_proof.specs.declared.step.Act.TheVariants.{Add}
-use Rattle.pg_proof.specs.State.{State, begun, with_clause, variables_of}
+use Rattle.pg_proof.specs.State.{State, begun, is_empty, with_clause, variables_of}
 use Rattle.pg_proof.specs.Refutation.{fault_of}
-use Rattle.pg_proof.specs.Log.{after_act, after_acts_from, IsWorth, IsSpentFrom}
+use Rattle.pg_proof.specs.Tight.{is_tight}
+use Rattle.pg_proof.specs.Covered.{is_covered}
+use Rattle.pg_proof.specs.Log.{after_act, after_acts_from, after_acts, IsClosedLog, IsWorth, IsSpentFrom}
 use Rattle.pg_proof.specs.New.{IsNew}
-use Rattle.pg_sat.specs.Solving.{clauses_of, AreNew}
+use Rattle.pg_sat.proofs.ReadingLemmas.{second_of_two}
+use Rattle.pg_sat.specs.Solving.{clauses_of, AreNew, IsLog}
 
 -- the state after steps
 logged : State → List Step → State
@@ -64,3 +68,37 @@ module _ (question : List (List ℤ)) (ss : List Step) (cs : List (List ℤ)) (s
   valid-of step e =
       ap (λ (n : ℕ). fault_of n (logged (begun question) ss).held step) (logged-variables (begun question) ss)
       ∙ ap (λ (h : List (Option (List ℤ))). fault_of (variables_of question) h step) held-of ∙ e
+
+-- a step that is worth its place, and one that ends the log
+module _ (question : List (List ℤ)) (ss : List Step) (cs : List (List ℤ)) (same : cs ≡ question ++ clauses_of ss) (log : IsLog question ss) where
+  worth-of : (step : Step) → fault_of (variables_of question) (map Some cs) step ≡ None → is_empty step.lits ≡ false →
+      is_tight (variables_of question) (map Some cs) step ≡ true → is_covered (map Some cs) step.lits ≡ false → IsWorth (logged (begun question) ss) step
+  worth-of step v e t f = record {
+    valid = valid-of question ss cs same step v;
+    some = e;
+    tight = ap (λ (n : ℕ). is_tight n (logged (begun question) ss).held step) (logged-variables (begun question) ss)
+        ∙ ap (λ (h : List (Option (List ℤ))). is_tight (variables_of question) h step) (held-of question ss cs same) ∙ t;
+    fresh = ap (λ (h : List (Option (List ℤ))). is_covered h step.lits) (held-of question ss cs same) ∙ f;
+  }
+
+  pub log_more : (step : Step) → fault_of (variables_of question) (map Some cs) step ≡ None → is_empty step.lits ≡ false →
+      is_tight (variables_of question) (map Some cs) step ≡ true → is_covered (map Some cs) step.lits ≡ false → IsNew cs step.lits → IsLog question (ss ++ step ∷ [])
+  log_more step v e t f n =
+      let long : length (ss ++ step ∷ []) ≡ suc (length ss) = omega (arith, length-append ss (step ∷ [])) in
+      record {
+        spent = subst (λ (k : ℕ). IsSpentFrom (begun question) k (map Add (ss ++ step ∷ []))) (sym long)
+            (spent-more (begun question) ss step log.spent (worth-of step v e t f));
+        fresh = new-more question ss step log.fresh (subst (λ (ds : List (List ℤ)). IsNew ds step.lits) same n);
+      }
+
+  closed-state : (step : Step) → step.lits ≡ [] → (b : Bool) → IsTrue (b || is_empty step.lits)
+  closed-state step e b = second_of_two b (is_empty step.lits) (ap is_empty e)
+
+  pub log_closed : (step : Step) → fault_of (variables_of question) (map Some cs) step ≡ None → step.lits ≡ [] → IsClosedLog question (map Add (ss ++ step ∷ []))
+  log_closed step v e =
+      let last = logged (begun question) ss in
+      let whole : after_acts question (map Add (ss ++ step ∷ [])) ≡ Some (with_clause last step.lits) =
+          ap (after_acts question) (map-append Add ss (step ∷ []))
+          ∙ after-steps (begun question) ss (Add step ∷ []) log.spent
+          ∙ ap (λ (o : Option State). option_and_then (λ after. after_acts_from after []) o) (accepted last step (valid-of question ss cs same step v)) in
+      subst (λ (o : Option State). IsSomeAnd o (λ after. IsTrue after.closed)) (sym whole) (closed-state step e last.closed)

@@ -6,13 +6,17 @@
 //! 2001). `specs/Cut.antt` says what is traced.
 #![tactic(auto)]
 
+mod conflict;
 mod decide;
 mod draw;
 mod flags;
 mod jump;
 mod learn;
+mod search;
 mod trace;
 
+pub use conflict::back;
 pub use decide::{assignment_of, next_unset};
 pub use jump::{jump_place, last_assigned};
 pub use learn::{learn_at, refute};
+pub use search::{advance, start};
