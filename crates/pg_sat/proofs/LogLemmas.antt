@@ -98,7 +98,7 @@ module _ (question : List (List ℤ)) (ss : List Step) (cs : List (List ℤ)) (s
   log_closed step v e =
       let last = logged (begun question) ss in
       let whole : after_acts question (map Add (ss ++ step ∷ [])) ≡ Some (with_clause last step.lits) =
-          ap (after_acts question) (map-append Add ss (step ∷ []))
-          ∙ after-steps (begun question) ss (Add step ∷ []) log.spent
-          ∙ ap (λ (o : Option State). option_and_then (λ after. after_acts_from after []) o) (accepted last step (valid-of question ss cs same step v)) in
+      ap (after_acts question) (map-append Add ss (step ∷ []))
+      ∙ after-steps (begun question) ss (Add step ∷ []) log.spent
+      ∙ ap (λ (o : Option State). option_and_then (λ after. after_acts_from after []) o) (accepted last step (valid-of question ss cs same step v)) in
       subst (λ (o : Option State). IsSomeAnd o (λ after. IsTrue after.closed)) (sym whole) (closed-state step e last.closed)

@@ -30,7 +30,7 @@ module _ (s t : Trail) (extends : Extends s t) where
   old-below d a lt =
       slice_get-get_or s.reasons d None lt
       ∙ ap Some (ap (λ (rs : List (Option ℕ)). get_or rs d None) (sym extends.reasons) ∙ get_or-take (length s.reasons) t.reasons d None lt
-        ∙ get_or_from_slice_get t.reasons d None None a)
+      ∙ get_or_from_slice_get t.reasons d None None a)
 
   not-above : (d : ℕ) → IsAssigned t d → length s.reasons ≤ d → ⊥
   not-above d a le =
@@ -60,6 +60,7 @@ quiet_assigned cs t z right here q d a = by (assigned-push t.reasons None d a)
   where
     long : length t.reasons ≡ length t.literals
     long = length-reasons cs [] t.literals t.reasons right.reasoned
+
     by : (slice_get t.reasons d ≡ Some None) ⊎ (d ≡ length t.reasons) → IsQuiet cs (take d (t.literals ++ z ∷ []))
     by (inl old) =
         let lt = assigned-within cs t d right old in

@@ -24,7 +24,12 @@ pub fn start(cnf: &Cnf, watches: &mut Watches) -> Result<Fix, AllocError>
 }
 
 /// Assigns a literal that is unset, where nothing is left to propagate, and sets what follows. The error is want of memory.
-pub fn advance(cnf: &Cnf, watches: &mut Watches, steps: &[Step], literal: i32) -> Result<Fix, AllocError>
+pub fn advance(
+    cnf: &Cnf,
+    watches: &mut Watches,
+    steps: &[Step],
+    literal: i32,
+) -> Result<Fix, AllocError>
     requires solving { IsSolving cnf.now.clauses cnf.now.variables watches.old.clauses watches.old.trail steps.now }
     requires quiet { watches.old.quiet ≡ true }
     requires nothing_left { IsQuiet watches.old.clauses watches.old.trail.literals }

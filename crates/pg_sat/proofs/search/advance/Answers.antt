@@ -14,4 +14,4 @@ returns-clause-solving c =
     let grown = simp to_z-of_z at c.assign.ensures.trail in
     if_done c.assign.result (Extends (pushed old.trail c.args.literal None) new.trail) (IsSolving cnf.clauses cnf.variables new.clauses new.trail c.args.steps.now) grown
     (λ e. advanced cnf.clauses cnf.variables old.clauses new.clauses old.trail new.trail c.args.literal c.args.steps.now c.requires.solving c.trail-trail.ensures.right
-      c.requires.nothing_left c.requires.free c.assign.ensures.clauses e)
+    c.requires.nothing_left c.requires.free c.assign.ensures.clauses e)

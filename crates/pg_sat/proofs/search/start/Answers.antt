@@ -11,4 +11,4 @@ returns-clause-solving c =
     let new = c.settle.new.self in
     if_done c.settle.result (Extends old.trail new.trail) (IsSolving cnf.clauses cnf.variables new.clauses new.trail []) c.settle.ensures.trail
     (λ e. started cnf.clauses cnf.variables new.clauses old.trail new.trail cnf.few_variables cnf.are_clauses (c.settle.ensures.clauses ∙ c.requires.clauses)
-      c.requires.variables c.requires.reasons e)
+    c.requires.variables c.requires.reasons e)
