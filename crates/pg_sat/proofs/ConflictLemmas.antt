@@ -1,23 +1,21 @@
 -- What is kept where a clause was learned and the trail was cut.
-use Rattle.std.proofs.Common.{◌≡◌, ◌≢◌, ◌⊎◌, inl, inr, ℕ, ◌+◌, ◌*◌, ◌^◌, ◌<◌, ◌≤◌, Bool, true, false, ltb, leb, ◌&&◌, cond, List, [], ◌∷◌, ◌++◌, length, map, take, get_or, Option, Some, None, refl, sym, ap, subst, ◌∙◌, arith, ℤ, pos, neg_ℤ, nat_abs, append_assoc}
+use Rattle.std.proofs.Common.{◌≡◌, ℕ, ◌+◌, ◌*◌, ◌<◌, ◌≤◌, Bool, true, false, ltb, leb, ◌&&◌, cond, List, [], ◌∷◌, ◌++◌, map, Option, Some, None, refl, sym, ap, subst, ◌∙◌, arith, ℤ, neg_ℤ, nat_abs, append_assoc}
 use Rattle.std.proofs.lemmas.List.{map-append}
-use Rattle.pg_cnf.specs.Literals.{IsLiteral, AreLiterals, IsAbsent, AreDistinct, IsClause, AreClauses}
-use Rattle.pg_watch.specs.Trail.{Trail, IsTrail, IsQuiet, Extends, cut}
-use Rattle.pg_watch.proofs.WatchedLemmas.{assigned-within}
+use Rattle.pg_cnf.specs.Literals.{AreLiterals, IsAbsent, AreDistinct, IsClause, AreClauses}
+use Rattle.pg_watch.specs.Trail.{Trail, IsTrail, Extends, cut}
 use Rattle.pg_proof.specs.declared.step.Step.{Step}
 use Rattle.pg_proof.specs.declared.step.ProofFault.{ProofFault}
 use Rattle.pg_proof.specs.declared.step.ProofFault.TheVariants.{UnknownLit}
-use Rattle.pg_proof.specs.Places.{has, negations, IsWithin, AreWithin}
+use Rattle.pg_proof.specs.Places.{has, negations, AreWithin}
 use Rattle.pg_proof.specs.State.{variables_of, is_empty, AreHeldWithin}
 use Rattle.pg_proof.specs.Refutation.{are_ascending, walk, fault_of}
 use Rattle.pg_proof.specs.Covered.{is_covered}
 use Rattle.pg_proof.specs.New.{IsNew}
 use Rattle.pg_proof.proofs.SoundLemmas.{valid_within}
 use Rattle.pg_proof.proofs.WithinLemmas.{both, less, AreHeldWithin-push}
-use Rattle.pg_sat.specs.Trace.{IsOver}
-use Rattle.pg_sat.specs.Jump.{IsLast, IsJump}
+use Rattle.pg_sat.specs.Jump.{IsJump}
 use Rattle.pg_sat.specs.Learned.{IsLearned, IsLearnedWithin, IsAsserting}
-use Rattle.pg_sat.specs.Solving.{clauses_of, IsLog, AreQuietBefore, IsSolving}
+use Rattle.pg_sat.specs.Solving.{clauses_of, AreQuietBefore, IsSolving}
 use Rattle.pg_sat.proofs.LogLemmas.{log_more, clauses_of-more}
 use Rattle.pg_sat.proofs.SolvingLemmas.{quiet_extended, quiet_cut}
 

@@ -1,23 +1,22 @@
 -- What is kept while a question is solved, as the trail grows.
-use Rattle.std.proofs.Common.{◌≡◌, ◌≢◌, ◌⊎◌, inl, inr, ℕ, zero, suc, ◌+◌, ◌-◌, ◌*◌, ◌^◌, ◌<◌, ◌≤◌, Bool, true, false, List, [], ◌∷◌, ◌++◌, length, get_or, map, take, drop, Option, Some, None, slice_get, refl, sym, ap, subst, ◌∙◌, arith, ℤ, pos, neg_ℤ, nat_abs}
-use Rattle.std.specs.Prelude.{⊤, Result, Ok, Err, OnOk}
+use Rattle.std.proofs.Common.{◌≡◌, ◌⊎◌, inl, inr, ℕ, ◌^◌, ◌<◌, ◌≤◌, List, [], ◌∷◌, ◌++◌, length, get_or, take, Option, Some, None, slice_get, sym, ap, subst, ◌∙◌, arith, ℤ}
+use Rattle.std.specs.Prelude.{Result, Ok, Err, OnOk}
 use Rattle.std.specs.declared.alloc.AllocError.{AllocError}
 use Rattle.pg_watch.specs.declared.fix.Fix.{Fix}
 use Rattle.std.proofs.lemmas.Bool.{cases_lt}
 use Rattle.std.proofs.lemmas.List.{take-take, take_all, get_or-take, take-append-le, append-nil, length-append}
 use Rattle.std.proofs.lemmas.Option.{slice_get-get_or, get_or_from_slice_get, slice_get_within}
-use Rattle.pg_cnf.specs.Literals.{IsLiteral, AreLiterals, IsClause, AreClauses, AreDistinct, IsAbsent}
-use Rattle.pg_watch.specs.Trail.{Trail, value_of, IsTrail, IsOpen, IsQuiet, AreDerived, IsSomeNumber, Extends, pushed, cut}
+use Rattle.pg_cnf.specs.Literals.{IsLiteral, AreLiterals, AreClauses}
+use Rattle.pg_watch.specs.Trail.{Trail, IsTrail, IsOpen, IsQuiet, IsSomeNumber, Extends, pushed, cut}
 use Rattle.pg_watch.specs.Watched.{IsAssigned}
 use Rattle.pg_watch.proofs.Steps.{length-reasons, IsTrail-push, Extends-longer}
 use Rattle.pg_watch.proofs.WatchedLemmas.{assigned-within, assigned-push, assigned-take, Cut}
 use Rattle.pg_proof.specs.declared.step.Step.{Step}
-use Rattle.pg_proof.specs.State.{variables_of_clause, variables_of, AreHeldWithin}
+use Rattle.pg_proof.specs.State.{variables_of_clause, variables_of}
 use Rattle.pg_proof.proofs.KeptLemmas.{AreHeldWithin-begun}
-use Rattle.pg_sat.specs.Trace.{IsOver}
 use Rattle.pg_sat.specs.Models.{IsFree}
 use Rattle.pg_sat.specs.Jump.{IsJump}
-use Rattle.pg_sat.specs.Solving.{clauses_of, AreNew, IsLog, AreQuietBefore, IsSolving}
+use Rattle.pg_sat.specs.Solving.{AreQuietBefore, IsSolving}
 use Rattle.pg_sat.proofs.TraceLemmas.{derived-from}
 
 -- what was propagated was not assigned

@@ -1,4 +1,4 @@
-use Rattle.std.proofs.Common.{◌≡◌, ◌∙◌, ◌+◌, ◌*◌, ◌<◌, ◌≤◌, ◌++◌, ◌∷◌, [], ℕ, ℤ, List, arith, ap, sym, subst, take, pos, slice_index_or}
+use Rattle.std.proofs.Common.{◌≡◌, ◌∙◌, ◌+◌, ◌*◌, ◌++◌, ◌∷◌, [], ℕ, ℤ, List, arith, ap, sym, subst, take, pos, slice_index_or}
 use Rattle.pg_cnf.specs.Literals.{IsClause}
 use Rattle.pg_watch.specs.Trail.{Trail, IsTrail, Extends, cut}
 use Rattle.pg_watch.proofs.WatchedLemmas.{assigned-within}

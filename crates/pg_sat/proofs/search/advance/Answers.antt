@@ -1,4 +1,4 @@
-use Rattle.std.proofs.Common.{SFits, w32, ◌≡◌, None}
+use Rattle.std.proofs.Common.{SFits, w32, None}
 use Rattle.std.proofs.lemmas.Int.{to_z-of_z}
 use Rattle.pg_watch.specs.Trail.{Extends, pushed}
 use Rattle.pg_sat.specs.Solving.{IsSolving}

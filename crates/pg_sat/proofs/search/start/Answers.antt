@@ -1,4 +1,4 @@
-use Rattle.std.proofs.Common.{◌≡◌, ◌∙◌, []}
+use Rattle.std.proofs.Common.{◌∙◌, []}
 use Rattle.pg_watch.specs.Trail.{Extends}
 use Rattle.pg_sat.specs.Solving.{IsSolving}
 use Rattle.pg_sat.proofs.SolvingLemmas.{started, if_done}
