@@ -1,0 +1,14 @@
+pub mod ReadingLemmas
+pub mod CutLemmas
+pub mod FlagLemmas
+pub mod TrailLemmas
+pub mod TraceLemmas
+pub mod StepLemmas
+pub mod NewLemmas
+pub mod Drawn
+pub mod LearnLemmas
+pub mod JumpLemmas
+pub mod ModelLemmas
+pub mod LogLemmas
+pub mod SolvingLemmas
+pub mod ConflictLemmas

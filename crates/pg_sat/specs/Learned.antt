@@ -1,0 +1,26 @@
+-- What a conflict teaches.
+use Rattle.std.specs.Prelude.{◌≡◌, ◌≢◌, ℕ, ◌+◌, ◌*◌, ◌≤◌, true, false, ℤ, neg_ℤ, List, map, Some, None}
+use Rattle.pg_proof.specs.declared.step.Step.{Step}
+use Rattle.pg_proof.specs.State.{AreHeldWithin}
+use Rattle.pg_proof.specs.Refutation.{fault_of}
+use Rattle.pg_proof.specs.Tight.{is_tight}
+use Rattle.pg_proof.specs.Places.{has}
+use Rattle.pg_watch.specs.Trail.{value_of}
+use Rattle.pg_sat.specs.Cut.{IsCut}
+
+-- a step over clauses that is valid and tight, and whose literals are all false: a cut
+pub record IsLearned (variables : ℕ) (clauses : List (List ℤ)) (set : List ℤ) (step : Step) : Type 0 where
+  pub valid : fault_of variables (map Some clauses) step ≡ None
+  pub tight : is_tight variables (map Some clauses) step ≡ true
+  pub cut : IsCut (map Some clauses) set (has step.lits) step.hints
+
+-- whatever the greatest variable of the clauses is
+abbrev pub IsLearnedWithin : ℕ → List (List ℤ) → List ℤ → Step → Type 0
+IsLearnedWithin variables clauses set step =
+    (n : ℕ) → n ≤ variables → AreHeldWithin (2 * n + 2) (map Some clauses) → IsLearned n clauses set step
+
+-- all literals but the negation of one are false, and that one is unset
+pub record IsAsserting (set : List ℤ) (z : ℤ) (lits : List ℤ) : Type 0 where
+  pub there : has lits (neg_ℤ z) ≡ true
+  pub unset : value_of set (neg_ℤ z) ≡ None
+  pub others : (y : ℤ) → has lits y ≡ true → neg_ℤ z ≢ y → value_of set y ≡ Some false

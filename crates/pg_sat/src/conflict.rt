@@ -1,0 +1,58 @@
+//! What is done at a conflict: the trail is cut, and the clause that was learned is held.
+
+ghost use Rattle.std.specs.Prelude.{◌≡◌, ◌+◌, ◌<◌, ◌-◌, ◌^◌, length, IfOk, OnOk};
+ghost use Rattle.pg_cnf.specs.Literals.{IsClause};
+ghost use Rattle.pg_watch.specs.Trail.{IsConflict};
+ghost use Rattle.pg_watch.specs.Fixes.{IsEnd, is_quiet};
+ghost use Rattle.pg_sat.specs.Jump.{IsLast};
+ghost use Rattle.pg_sat.specs.Solving.{IsSolving};
+
+use crate::jump::jump_place;
+use crate::learn::learn_at;
+use pg_cnf::{Clause, Cnf};
+use pg_proof::Step;
+use pg_watch::{Fix, Watches};
+use smallvec::SmallVec;
+use std::alloc::{AllocError, Global};
+
+/// The clause of some literals. The error is want of memory.
+fn clause_of(alloc: Global, lits: &[i32]) -> Result<Clause, AllocError>
+    requires { IsClause 2147483647 lits.now }
+    ensures { IfOk result (λ clause. clause ≡ lits.now) }
+{
+    let mut literals = SmallVec::new(alloc);
+    for literal in lits {
+        literals.push(*literal)?;
+    }
+    Ok(Clause::new(literals))
+}
+
+/// Learns from a conflict where a literal was assigned: the step goes to the log, the trail is cut, the clause is held, and
+/// what follows is set. The error is want of memory.
+pub fn back(
+    alloc: Global,
+    cnf: &Cnf,
+    watches: &mut Watches,
+    steps: &mut Vec<Step>,
+    conflict: u32,
+    last: usize,
+) -> Result<Fix, AllocError>
+    requires solving { IsSolving cnf.now.clauses cnf.now.variables watches.old.clauses watches.old.trail steps.old.items }
+    requires conflict { IsConflict watches.old.clauses watches.old.trail.literals conflict }
+    requires last { IsLast watches.old.trail last }
+    requires room { length watches.old.clauses + 1 < 2 ^ 32 - 1 }
+    ensures solving { OnOk result (IsSolving cnf.now.clauses cnf.now.variables watches.new.clauses watches.new.trail steps.new.items) }
+    ensures end { IfOk result (IsEnd watches.new.clauses watches.new.trail.literals) }
+    ensures quiet { IfOk result (λ fix. watches.new.quiet ≡ is_quiet fix) }
+    ensures steps { OnOk result (length steps.new.items ≡ length steps.old.items + 1) }
+{
+    let _trail = watches.trail();
+    let step = learn_at(alloc, watches, cnf.variables, conflict, last)?;
+    let jump = jump_place(alloc, watches, cnf.variables, step.lits.as_slice(), last)?;
+    let clause = clause_of(alloc, step.lits.as_slice())?;
+    steps.push(step)?;
+    watches.undo(jump);
+    watches.add(&clause)?;
+    let _cut = watches.trail();
+    watches.settle()
+}

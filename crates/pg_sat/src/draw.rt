@@ -1,0 +1,62 @@
+//! The step that a trace of a conflict shows.
+
+ghost use Rattle.std.specs.Prelude.{◌≡◌, ◌+◌, ◌*◌, ◌<◌, ◌^◌, ◌++◌, length, reverse, IfOk, OnOk};
+ghost use Rattle.pg_sat.specs.Listed.{listed_at, listed};
+
+use crate::flags::{Flags, literal_of, negation, place};
+use crate::trace::Trace;
+use pg_proof::{HintList, LitList, Step};
+use std::alloc::{AllocError, Global};
+
+/// Adds the literal of a variable whose flag is up, if one is. The error is want of memory.
+fn push_literal(flags: &Flags, variable: u32, literals: &mut LitList) -> Result<(), AllocError>
+    requires positive { 0 < variable }
+    requires small { variable < 2 ^ 31 }
+    requires places { 2 * variable + 1 < length flags.now }
+    ensures { OnOk result (literals.new ≡ literals.old ++ listed_at flags.now variable) }
+{
+    let literal = literal_of(variable);
+    let other = negation(literal);
+    if flags.is_up(place(literal)) {
+        return literals.push(literal);
+    }
+    if flags.is_up(place(other)) {
+        return literals.push(other);
+    }
+    Ok(())
+}
+
+/// The literals whose flags are up, ascending by variable. It costs the number of variables. The error is want of memory.
+#[tactic(auto, using(crate::proofs::Drawn::listed_on, crate::proofs::Drawn::listed_whole))]
+fn literals_up(alloc: Global, flags: &Flags, variables: u32) -> Result<LitList, AllocError>
+    requires small { variables < 2 ^ 31 }
+    requires places { length flags.now ≡ 2 * variables + 2 }
+    ensures { IfOk result (λ literals. literals ≡ listed flags.now 1 variables) }
+{
+    let mut literals = LitList::new(alloc);
+    for index in 0..variables {
+        push_literal(flags, index + 1, &mut literals)?;
+    }
+    Ok(literals)
+}
+
+/// The numbers in the other order. The error is want of memory.
+fn reversed(alloc: Global, hints: &[u32]) -> Result<HintList, AllocError>
+    ensures { IfOk result (λ made. made ≡ reverse hints.now) }
+{
+    let made = hints.iter().rev().copied().collect(alloc)?;
+    Ok(HintList::from_vec(made))
+}
+
+/// The step that a trace shows: the literals whose flags are up, and the hints in the order in which they are used. The error
+/// is want of memory.
+pub fn step_of(alloc: Global, trace: &Trace, variables: u32) -> Result<Step, AllocError>
+    requires small { variables < 2 ^ 31 }
+    requires places { length trace.now.flags ≡ 2 * variables + 2 }
+    ensures lits { IfOk result (λ step. step.lits ≡ listed trace.now.flags 1 variables) }
+    ensures hints { IfOk result (λ step. step.hints ≡ reverse trace.now.hints.items) }
+{
+    let lits = literals_up(alloc, &trace.flags, variables)?;
+    let hints = reversed(alloc, trace.hints.as_slice())?;
+    Ok(Step { lits, hints })
+}

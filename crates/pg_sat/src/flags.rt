@@ -1,0 +1,98 @@
+//! The literals that an analysis of a conflict has come to, as a flag for each literal.
+
+ghost use Rattle.std.specs.Prelude.{◌≡◌, ◌+◌, ◌*◌, ◌<◌, ◌^◌, length, false, pos, neg_ℤ, replicate, slice_set, slice_index_or, IfOk};
+ghost use Rattle.pg_cnf.specs.Literals.{IsLiteral};
+ghost use Rattle.pg_proof.specs.Places.{place, is_marked, IsWithin, AreWithin};
+ghost use Rattle.pg_proof.specs.Marked.{marked};
+ghost use Rattle.pg_sat.specs.Cut.{IsResolved};
+
+use std::alloc::{AllocError, Global};
+use std::marker::Model;
+
+/// Where the flag of a literal stands: two places for each variable.
+pub fn place(literal: i32) -> usize
+    ensures { result ≡ place literal }
+{
+    let first = 2 * literal.unsigned_abs() as usize;
+    if literal < 0 { first + 1 } else { first }
+}
+
+/// The literal of a variable that is not negated.
+pub fn literal_of(variable: u32) -> i32
+    requires { variable < 2 ^ 31 }
+    ensures { result ≡ pos variable }
+{
+    variable as i32
+}
+
+/// The negation of a literal.
+pub fn negation(literal: i32) -> i32
+    requires { IsLiteral 2147483647 literal }
+    ensures { result ≡ neg_ℤ literal }
+{
+    -literal
+}
+
+/// A flag for each literal of some variables, up or down.
+#[derive(Drop)]
+pub struct Flags {
+    flags: Vec<bool>,
+}
+
+impl Model for Flags {
+    ghost use Rattle.std.specs.Prelude.{Bool, List};
+
+    ghost Value = { List Bool };
+
+    ghost view = { λ f. f.flags.items };
+}
+
+impl Flags {
+    /// All down, for so many variables. The error is want of memory.
+    pub fn new(alloc: Global, variables: u32) -> Result<Flags, AllocError>
+        ensures { IfOk result (λ flags. flags ≡ replicate (2 * variables + 2) false) }
+    {
+        let places = 2 * variables as usize + 2;
+        let flags = vec![in alloc; false; places]?;
+        Ok(Flags { flags })
+    }
+
+    /// Whether the flag at a place is up.
+    pub fn is_up(&self, at: usize) -> bool
+        requires { at < length self.now }
+        ensures { result ≡ slice_index_or self.now at false }
+    {
+        self.flags[at]
+    }
+
+    /// Puts the flag at a place up or down.
+    fn put(&mut self, at: usize, up: bool)
+        requires { at < length self.old }
+        ensures { self.new ≡ slice_set self.old at up }
+    {
+        self.flags[at] = up;
+    }
+
+    /// Puts the flag of each literal of a clause up.
+    pub fn mark(&mut self, clause: &[i32])
+        requires { AreWithin (length self.old) clause.now }
+        ensures { self.new ≡ marked self.old clause.now }
+    {
+        for literal in clause {
+            self.put(place(*literal), true);
+        }
+    }
+
+    /// In place of the negation of a literal, whose flag is up, those of the other literals of its clause go up.
+    pub fn resolve(&mut self, literal: i32, clause: &[i32])
+        requires literal { IsLiteral 2147483647 literal }
+        requires here { IsWithin (length self.old) literal }
+        requires within { AreWithin (length self.old) clause.now }
+        ensures resolved { IsResolved (is_marked self.old) (is_marked self.new) clause.now literal }
+        ensures places { length self.new ≡ length self.old }
+    {
+        self.put(place(negation(literal)), false);
+        self.mark(clause);
+        self.put(place(literal), false);
+    }
+}
