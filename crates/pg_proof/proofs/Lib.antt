@@ -15,3 +15,4 @@ pub mod DraftLemmas
 pub mod ReplayLemmas
 pub mod NamedLemmas
 pub mod TrimLemmas
+pub mod TidyLemmas

@@ -14,7 +14,7 @@ ghost use Rattle.pg_proof.specs.Drafts.{AreKept};
 ghost use Rattle.pg_proof.specs.Numbering.{adds_empty, raised, raised_if, new_number, AreUsed, AreEarlier, AreNeeded, AreValid, renumbered, with_kept, with_number};
 
 use crate::checker::closes;
-use crate::marks::Marks;
+use crate::marks::{Marks, is_up};
 use crate::step::{Act, HintList, LitList, Step};
 use pg_cnf::Cnf;
 use sqlite_items::Items;
@@ -36,16 +36,6 @@ fn step_count(acts: &[Act]) -> usize
         }
     }
     count
-}
-
-/// Whether the flag at a place is up; there may be none.
-fn is_up(flags: &Marks, place: usize) -> bool
-    ensures { result ≡ slice_index_or flags.now place false }
-{
-    if place < flags.len() {
-        return flags.has(place);
-    }
-    false
 }
 
 /// Puts the flags of these numbers up, where there are such.
