@@ -16,3 +16,4 @@ pub mod ReplayLemmas
 pub mod NamedLemmas
 pub mod TrimLemmas
 pub mod TidyLemmas
+pub mod SpentLemmas
