@@ -243,7 +243,7 @@ act_closed : {act : Act} (state after : State) → Accepted state after act → 
 act_closed state after (added step f m) = ap (λ (x : State). x.closed) m
 act_closed state after (gone ns held w m) = ap (λ (x : State). x.closed) m ∙ sym (or_none state.closed)
 
-closed_after : (acts : List Act) (state final : State) → after_acts_from state acts ≡ Some final → final.closed ≡ state.closed || list_any adds_empty acts
+pub closed_after : (acts : List Act) (state final : State) → after_acts_from state acts ≡ Some final → final.closed ≡ state.closed || list_any adds_empty acts
 closed_after [] state final e = let s : state ≡ final = same_Some state final e in ap (λ (x : State). x.closed) (sym s) ∙ sym (or_none state.closed)
 closed_after (act ∷ acts) state final e =
     let p = first_act (after_act state act) acts final e in

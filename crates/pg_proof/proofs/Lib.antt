@@ -17,3 +17,4 @@ pub mod NamedLemmas
 pub mod TrimLemmas
 pub mod TidyLemmas
 pub mod SpentLemmas
+pub mod TidiedLemmas

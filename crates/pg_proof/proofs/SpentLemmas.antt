@@ -8,7 +8,7 @@ use Rattle.pg_proof.specs.declared.step.Act.{Act}
 use Rattle.pg_proof.specs.declared.step.Act.TheVariants.{Add, Remove}
 use Rattle.pg_proof.specs.State.{clause_at}
 use Rattle.pg_proof.specs.Removal.{without}
-use Rattle.pg_proof.specs.Trimmed.{has_hint, is_named, step_count}
+use Rattle.pg_proof.specs.Trimmed.{has_hint, is_named}
 use Rattle.pg_proof.specs.Numbering.{raised, are_up, AreAtMost, AreEarlier}
 use Rattle.pg_proof.specs.Tidied.{is_fresh, fresh, named_flags}
 use Rattle.pg_proof.proofs.WithinLemmas.{both}
