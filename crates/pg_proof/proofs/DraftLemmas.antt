@@ -151,7 +151,7 @@ IsDraft-begun question flags = record {
         let past : length question < h = grind (arith, nat_tests) in
         absurd (omega (arith, past, number_below (map Some question) h c e, length-map question (λ d. Some d)))
 
-valid_added : (o : Option ProofFault) (state after : State) → o ≡ None → (if is_none o then Some after else None) ≡ Some after
+pub valid_added : (o : Option ProofFault) (state after : State) → o ≡ None → (if is_none o then Some after else None) ≡ Some after
 valid_added o state after e = ap (λ x. if is_none x then Some after else None) e
 
 -- one step more, which is left out or kept

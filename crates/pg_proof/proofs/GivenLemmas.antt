@@ -155,7 +155,7 @@ numbered held last c (suc k) e = by (get_cases held last c k (same_clause (slice
     by (inr f) = new (ap suc f.0 ∙ omega arith) f.1
 
 -- what a closed log says of its steps, where nothing is taken away
-abbrev IsSub : List (Option (List ℤ)) → List (Option (List ℤ)) → Type 0
+abbrev pub IsSub : List (Option (List ℤ)) → List (Option (List ℤ)) → Type 0
 IsSub held all = (h : ℕ) (c : List ℤ) → clause_at held h ≡ Some c → clause_at all h ≡ Some c
 
 mapped_sub : (held all : List (Option (List ℤ))) (hs : List ℕ) → IsSub held all → AreMapped held all (λ h. h) hs
@@ -180,7 +180,7 @@ sub_gone : (held : List (Option (List ℤ))) (j : ℕ) → IsSub (set held j Non
 sub_gone held j zero c e = e
 sub_gone held j (suc k) c e = some_flat (slice_get held k) c (get-gone held j k c (same_clause (slice_get (set held j None) k) c e))
 
-IsSub-without : (ns : List ℕ) (held after all : List (Option (List ℤ))) → without held ns ≡ Some after → IsSub held all → IsSub after all
+pub IsSub-without : (ns : List ℕ) (held after all : List (Option (List ℤ))) → without held ns ≡ Some after → IsSub held all → IsSub after all
 IsSub-without [] held after all e s = let same : held ≡ after = cc in subst (λ x. IsSub x all) same s
 IsSub-without (m ∷ ns) held after all e s =
     IsSub-without ns (set held (m - 1) None) after all (one_of _ _ after e) (λ h c f. s h c (sub_gone held (m - 1) h c f))
@@ -243,7 +243,7 @@ act_closed : {act : Act} (state after : State) → Accepted state after act → 
 act_closed state after (added step f m) = ap (λ (x : State). x.closed) m
 act_closed state after (gone ns held w m) = ap (λ (x : State). x.closed) m ∙ sym (or_none state.closed)
 
-closed_after : (acts : List Act) (state final : State) → after_acts_from state acts ≡ Some final → final.closed ≡ state.closed || list_any adds_empty acts
+pub closed_after : (acts : List Act) (state final : State) → after_acts_from state acts ≡ Some final → final.closed ≡ state.closed || list_any adds_empty acts
 closed_after [] state final e = let s : state ≡ final = same_Some state final e in ap (λ (x : State). x.closed) (sym s) ∙ sym (or_none state.closed)
 closed_after (act ∷ acts) state final e =
     let p = first_act (after_act state act) acts final e in

@@ -15,3 +15,6 @@ pub mod DraftLemmas
 pub mod ReplayLemmas
 pub mod NamedLemmas
 pub mod TrimLemmas
+pub mod TidyLemmas
+pub mod SpentLemmas
+pub mod TidiedLemmas

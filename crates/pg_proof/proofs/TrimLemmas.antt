@@ -8,9 +8,9 @@ use Rattle.pg_proof.specs.declared.step.Act.{Act}
 use Rattle.pg_proof.specs.declared.step.Act.TheVariants.{Add, Remove}
 use Rattle.pg_proof.specs.State.{variables_of, is_empty}
 use Rattle.pg_proof.specs.Refutation.{fault_of}
-use Rattle.pg_proof.specs.Trimmed.{full, shown, IsPart, AddsEmpty, EndsEmpty, IsTrimmed, step_count, is_named}
+use Rattle.pg_proof.specs.Trimmed.{full, shown, IsPart, AddsEmpty, EndsEmpty, step_count, is_named}
 use Rattle.pg_proof.specs.Numbering.{adds_empty, are_up, AreUsed, AreEarlier, AreValid, new_number, renumbered, is_next_used, with_kept, with_number, AreNeeded, is_used_hint}
-use Rattle.pg_proof.specs.Drafts.{IsDraft, AreKept, ArePending, AreReached}
+use Rattle.pg_proof.specs.Drafts.{IsDraft, IsPicked, AreKept, ArePending, AreReached}
 use Rattle.pg_proof.proofs.UseLemmas.{step_count-take, step_count-append, count_next}
 use Rattle.std.proofs.lemmas.Bool.{false≢true}
 use Rattle.pg_proof.proofs.DraftLemmas.{IsPart-more, shown-append, new_number-new, IsDraft-begun, IsDraft-step, valid_at, used_at, draft_keep, kept_reached, or_second}
@@ -159,7 +159,7 @@ module _ (question : List (List ℤ)) (flags : List Bool) (acts made : List Act)
       ∙ omega (arith, length-append made (Add (renumbered (length question) numbers step) ∷ [])))
       p (omega (arith, more, all_kept.draft.as_many))
 
-  done : IsTrimmed question acts (made ++ Add (renumbered (length question) numbers step) ∷ [])
+  done : IsPicked question acts (made ++ Add (renumbered (length question) numbers step) ∷ [])
   done =
       let kept = draft_keep question flags (take k (take (k + 1) acts)) made numbers step d step_valid hints_up in
       let reached = kept_reached question flags (take k (take (k + 1) acts)) made numbers step d step_valid hints_up in
@@ -172,10 +172,12 @@ module _ (question : List (List ℤ)) (flags : List Bool) (acts made : List Act)
             (subst (λ x. IsPart (shown (map Some question) (made ++ Add (renumbered (length question) numbers step) ∷ [])) (shown (map Some question) x)) (sym split) kept.part));
         last = EndsEmpty-last made (Add (renumbered (length question) numbers step)) (no_literals step.lits empty);
         named = named_all;
+        steps = all_kept.draft.as_many;
+        few = omega (arith, all_kept.few_made, lt);
       }
 
-  pub trimmed_last : (after : List Act) → after ≡ with_kept (length question) flags numbers made (Add step) → IsTrimmed question acts after
-  trimmed_last after e = subst (IsTrimmed question acts) (sym (e ∙ kept_last)) done
+  pub picked_last : (after : List Act) → after ≡ with_kept (length question) flags numbers made (Add step) → IsPicked question acts after
+  picked_last after e = subst (IsPicked question acts) (sym (e ∙ kept_last)) done
 
 -- the act at the first place of an empty clause
 empty_act : (act : Act) → adds_empty act ≡ true → (step : Step) × (act ≡ Add step) × (is_empty step.lits ≡ true)
@@ -191,14 +193,14 @@ pub any_place : (acts : List Act) → list_any adds_empty acts ≡ true → posi
 any_place [] e = cc
 any_place (act ∷ acts) e = first_place (adds_empty act) acts e (any_place acts)
 
-pub trimmed_end : (question : List (List ℤ)) (flags : List Bool) (acts made after : List Act) (numbers : List ℕ) (k : ℕ) (act : Act) → k < length acts →
+pub picked_end : (question : List (List ℤ)) (flags : List Bool) (acts made after : List Act) (numbers : List ℕ) (k : ℕ) (act : Act) → k < length acts →
     drop k (take (k + 1) acts) ≡ act ∷ drop (k + 1) (take (k + 1) acts) → adds_empty act ≡ true →
     AreValid (variables_of question) (map Some question) (take (k + 1) acts) → AreUsed flags (length question) (take (k + 1) acts) →
     get_or flags (length question + step_count (take (k + 1) acts)) false ≡ true →
     AreEarlier (length question) (take (k + 1) acts) → AreNeeded flags (length question + step_count (take (k + 1) acts)) (length question) (take (k + 1) acts) →
     AreKept question flags (take (k + 1) acts) numbers made k →
-    after ≡ with_kept (length question) flags numbers made act → IsTrimmed question acts after
-trimmed_end question flags acts made after numbers k act lt here empty valid used last early needed kept_so made_is =
+    after ≡ with_kept (length question) flags numbers made act → IsPicked question acts after
+picked_end question flags acts made after numbers k act lt here empty valid used last early needed kept_so made_is =
     let p = empty_act act empty in
-    trimmed_last question flags acts made numbers k p.0 lt (here ∙ ap (λ a. a ∷ drop (k + 1) (take (k + 1) acts)) p.1) p.2 valid used last early needed kept_so after
+    picked_last question flags acts made numbers k p.0 lt (here ∙ ap (λ a. a ∷ drop (k + 1) (take (k + 1) acts)) p.1) p.2 valid used last early needed kept_so after
     (made_is ∙ ap (with_kept (length question) flags numbers made) p.1)

@@ -16,7 +16,7 @@ both_up true b e f = f
 both_up false b e f = cc
 
 -- flags that are raised
-set_up : (flags : List Bool) (p q : ℕ) (b : Bool) → eqb q p ≡ b → get_or flags q false ≡ true → get_or (set flags p true) q false ≡ true
+pub set_up : (flags : List Bool) (p q : ℕ) (b : Bool) → eqb q p ≡ b → get_or flags q false ≡ true → get_or (set flags p true) q false ≡ true
 set_up [] p q b e h = h
 set_up (f ∷ flags) zero zero b e h = refl
 set_up (f ∷ flags) zero (suc q) b e h = h
@@ -37,7 +37,7 @@ pub length-raised : (ps : List ℕ) (flags : List Bool) → length (raised flags
 length-raised [] flags = refl
 length-raised (p ∷ ps) flags = length-raised ps (set flags p true) ∙ length-set flags p true
 
-raised_itself : (ps : List ℕ) (flags : List Bool) (n : ℕ) → AreAtMost n ps → n < length flags → are_up (raised flags ps) ps ≡ true
+pub raised_itself : (ps : List ℕ) (flags : List Bool) (n : ℕ) → AreAtMost n ps → n < length flags → are_up (raised flags ps) ps ≡ true
 raised_itself [] flags n a lt = refl
 raised_itself (p ∷ ps) flags n a lt =
     let room : p < length flags = omega (arith, a.0) in
@@ -85,7 +85,7 @@ or_later true c e = refl
 or_later false c e = e
 
 -- a flag that is up was up, or is one of those that were put up
-set_from : (flags : List Bool) (p q : ℕ) → get_or (set flags p true) q false ≡ true → (get_or flags q false ≡ true) ⊎ (p ≡ q)
+pub set_from : (flags : List Bool) (p q : ℕ) → get_or (set flags p true) q false ≡ true → (get_or flags q false ≡ true) ⊎ (p ≡ q)
 set_from [] p q h = inl h
 set_from (f ∷ flags) zero zero h = inr refl
 set_from (f ∷ flags) zero (suc q) h = inl h
@@ -95,7 +95,7 @@ set_from (f ∷ flags) (suc p) (suc q) h = ⊎_elim (λ k. inl k) (λ e. inr (ap
 same_eq : (a b : ℕ) → a ≡ b → eqb a b ≡ true
 same_eq a b e = grind (arith, nat_tests)
 
-raised_from : (ps : List ℕ) (flags : List Bool) (q : ℕ) → get_or (raised flags ps) q false ≡ true → (get_or flags q false ≡ true) ⊎ (has_hint ps q ≡ true)
+pub raised_from : (ps : List ℕ) (flags : List Bool) (q : ℕ) → get_or (raised flags ps) q false ≡ true → (get_or flags q false ≡ true) ⊎ (has_hint ps q ≡ true)
 raised_from [] flags q h = inl h
 raised_from (p ∷ ps) flags q h =
     ⊎_elim

@@ -1,10 +1,10 @@
 -- What is kept of a log, as far as it was read.
-use Rattle.std.specs.Prelude.{◌≡◌, ℕ, ◌≤◌, Bool, true, false, nat_le, ◌||◌, map, length, take, ℤ, List, Option, Some, slice_index_or, ◌+◌, ◌<◌, ◌⊎◌, drop}
+use Rattle.std.specs.Prelude.{◌≡◌, ℕ, ◌≤◌, Bool, true, false, nat_le, ◌||◌, map, length, take, ℤ, List, Option, Some, slice_index_or, ◌+◌, ◌<◌, ◌⊎◌, drop, suc}
 use Rattle.pg_proof.specs.declared.step.Act.{Act}
 use Rattle.pg_proof.specs.State.{clause_at, variables_of}
 use Rattle.pg_proof.specs.Kept.{state_of}
-use Rattle.pg_proof.specs.Log.{after_acts}
-use Rattle.pg_proof.specs.Trimmed.{full, shown, IsPart, step_count, is_named}
+use Rattle.pg_proof.specs.Log.{after_acts, IsClosedLog}
+use Rattle.pg_proof.specs.Trimmed.{full, shown, IsPart, EndsEmpty, step_count, is_named}
 use Rattle.pg_proof.specs.Numbering.{new_number, is_used_hint}
 
 -- a clause that is used is held under its new number
@@ -43,3 +43,12 @@ pub record AreKept (question : List (List ℤ)) (flags : List Bool) (log : List 
   pub few_numbers : length numbers ≤ k
   pub pending : ArePending (length question) flags (length question + step_count log) numbers made (drop k log)
   pub reached : AreReached (length question) flags numbers made
+
+-- the steps of a log that its empty clause is made of, before any clause is taken away
+pub record IsPicked (question : List (List ℤ)) (given log : List Act) : Type 0 where
+  pub closed : IsClosedLog question log
+  pub part : IsPart (shown (map Some question) log) (shown (map Some question) given)
+  pub last : EndsEmpty log
+  pub named : (p : ℕ) → suc p < step_count log → is_named (length question + p + 1) log ≡ true
+  pub steps : step_count log ≡ length log
+  pub few : length log ≤ length given

@@ -11,6 +11,7 @@ pub mod Log
 pub mod New
 pub mod Trimmed
 pub mod Numbering
+pub mod Tidied
 pub mod Drafts
 pub mod Kept
 pub mod Removal

@@ -5,6 +5,8 @@ use Rattle.pg_proof.specs.declared.step.Act.{Act}
 use Rattle.pg_proof.specs.declared.step.Act.TheVariants.{Add, Remove}
 use Rattle.pg_proof.specs.Tight.{hint_clauses}
 use Rattle.pg_proof.specs.Log.{IsClosedLog}
+use Rattle.pg_proof.specs.State.{State, clause_at, begun, with_clause}
+use Rattle.pg_proof.specs.Removal.{after_removal}
 
 -- all clauses that have a number after acts, also those that were taken away
 abbrev pub full : List (Option (List ℤ)) → List Act → List (Option (List ℤ))
@@ -49,10 +51,31 @@ EndsEmpty [] = ⊥
 EndsEmpty (act ∷ []) = AddsEmpty act
 EndsEmpty (act ∷ next ∷ acts) = EndsEmpty (next ∷ acts)
 
+-- each clause of a step that is held is a hint of one of some acts
+abbrev pub AreServing : ℕ → List (Option (List ℤ)) → List Act → Type 0
+AreServing question held acts = (h : ℕ) (c : List ℤ) → question < h → clause_at held h ≡ Some c → is_named h acts ≡ true
+
+-- clauses of the question are not among some numbers
+abbrev pub AreOfSteps : ℕ → List ℕ → Type 0
+AreOfSteps question [] = ⊤
+AreOfSteps question (n ∷ ns) = (question < n) × AreOfSteps question ns
+
+-- where a step is added, each clause of a step that is held is a hint of it or of a later one. The question's clauses stay
+abbrev pub IsTidyFrom : ℕ → State → List Act → Type 0
+IsTidyFrom question state [] = ⊤
+IsTidyFrom question state (Add step ∷ acts) = AreServing question state.held (Add step ∷ acts) × IsTidyFrom question (with_clause state step.lits) acts
+IsTidyFrom question state (Remove numbers ∷ acts) =
+    AreOfSteps question numbers × ((after : State) → after_removal state numbers ≡ Some after → IsTidyFrom question after acts)
+
+abbrev pub IsTidy : List (List ℤ) → List Act → Type 0
+IsTidy question acts = IsTidyFrom (length question) (begun question) acts
+
 -- a log of the question, closed as the given one is. What its steps show, and of what, is part of what those of the given one
--- do, its last act adds the empty clause, and each other step is a hint of another: a later one, since hints are earlier numbers
+-- do, its last act adds the empty clause, and each other step is a hint of another: a later one, since hints are earlier numbers.
+-- A step's clause is taken away once no later step has it as a hint
 pub record IsTrimmed (question : List (List ℤ)) (given log : List Act) : Type 0 where
   pub closed : IsClosedLog question log
   pub part : IsPart (shown (map Some question) log) (shown (map Some question) given)
   pub last : EndsEmpty log
   pub named : (p : ℕ) → suc p < step_count log → is_named (length question + p + 1) log ≡ true
+  pub tidy : IsTidy question log

@@ -16,6 +16,7 @@ mod question;
 mod removal;
 mod replay;
 mod step;
+mod tidying;
 mod tight;
 mod trimming;
 

@@ -82,6 +82,16 @@ impl Marks {
     }
 }
 
+/// Whether the flag at a place is up; there may be none.
+pub fn is_up(flags: &Marks, place: usize) -> bool
+    ensures { result ≡ slice_index_or flags.now place false }
+{
+    if place < flags.len() {
+        return flags.has(place);
+    }
+    false
+}
+
 /// So many zeros. The error is want of memory.
 fn zeros(alloc: Global, places: usize) -> Result<Vec<u64>, AllocError>
     ensures { IfOk result (λ stamps. stamps.items ≡ replicate places 0) }

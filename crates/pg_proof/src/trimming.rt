@@ -1,8 +1,8 @@
 //! Leaving out the steps of a log that show nothing.
 //!
 //! `trim` walks a log twice. Backward from the empty clause it flags the clauses that a used step's hints name; forward it
-//! keeps the steps whose clauses are flagged, with their hints under the numbers that are left. Both walks cost the length
-//! of the log. Nothing is checked on the way: that the log is closed is the caller's to know, as from a `Checker`.
+//! keeps the steps whose clauses are flagged, with their hints under the numbers that are left. A third walk, over what is
+//! kept, takes clauses away behind their last use (`tidying`). Each walk costs the length of the log. Nothing is checked on the way: that the log is closed is the caller's to know, as from a `Checker`.
 
 ghost use Rattle.std.specs.Prelude.{◌≡◌, ◌+◌, ◌*◌, ◌-◌, ◌<◌, ◌≤◌, ◌^◌, ◌++◌, ◌∷◌, [], length, map, Some, take, false, true, slice_index_or, IfOk, OnOk, IsTrue};
 ghost use Rattle.std.specs.List.{list_any, position_or_len};
@@ -10,12 +10,13 @@ ghost use Rattle.pg_proof.specs.declared.step.Act.{Act};
 ghost use Rattle.pg_proof.specs.State.{variables_of};
 ghost use Rattle.pg_proof.specs.Log.{IsClosedLog};
 ghost use Rattle.pg_proof.specs.Trimmed.{IsTrimmed, step_count};
-ghost use Rattle.pg_proof.specs.Drafts.{AreKept};
+ghost use Rattle.pg_proof.specs.Drafts.{AreKept, IsPicked};
 ghost use Rattle.pg_proof.specs.Numbering.{adds_empty, raised, raised_if, new_number, AreUsed, AreEarlier, AreNeeded, AreValid, renumbered, with_kept, with_number};
 
 use crate::checker::closes;
-use crate::marks::Marks;
+use crate::marks::{Marks, is_up};
 use crate::step::{Act, HintList, LitList, Step};
+use crate::tidying::tidied;
 use pg_cnf::Cnf;
 use sqlite_items::Items;
 use std::alloc::{AllocError, Global};
@@ -36,16 +37,6 @@ fn step_count(acts: &[Act]) -> usize
         }
     }
     count
-}
-
-/// Whether the flag at a place is up; there may be none.
-fn is_up(flags: &Marks, place: usize) -> bool
-    ensures { result ≡ slice_index_or flags.now place false }
-{
-    if place < flags.len() {
-        return flags.has(place);
-    }
-    false
 }
 
 /// Puts the flags of these numbers up, where there are such.
@@ -235,16 +226,12 @@ fn kept_before(
     Ok(Draft { made, numbers })
 }
 
-/// A closed log without the steps that its empty clause is not made of. Each step that is kept has the same literals, and its
-/// hints name the same clauses under the numbers that are left. The last act adds the empty clause, and each other step is a
-/// hint of a later one. Nothing is taken away in it, and it is a closed log of this question too. The error is want of
-/// memory.
-///
-/// It costs the length of the log.
-pub fn trim(alloc: Global, cnf: &Cnf, acts: &[Act]) -> Result<ActList, AllocError>
+/// The steps of a closed log that its empty clause is made of, with their hints under the numbers that are left. The error is
+/// want of memory.
+fn picked(alloc: Global, cnf: &Cnf, acts: &[Act]) -> Result<Vec<Act>, AllocError>
     requires closed { IsClosedLog cnf.now.clauses acts.now }
     requires few { length cnf.now.clauses + length acts.now + 1 < 2 ^ 32 }
-    ensures { IfOk result (λ log. IsTrimmed cnf.now.clauses acts.now log) }
+    ensures { IfOk result (λ made. IsPicked cnf.now.clauses acts.now made.items) }
 {
     let question = cnf.clauses.len();
     let end = end_of(acts);
@@ -255,5 +242,22 @@ pub fn trim(alloc: Global, cnf: &Cnf, acts: &[Act]) -> Result<ActList, AllocErro
         mut numbers,
     } = kept_before(alloc, cnf, &used, log, end)?;
     keep(alloc, question, &used, &mut made, &mut numbers, &log[end])?;
-    Ok(ActList::from_vec(made))
+    Ok(made)
+}
+
+/// A closed log without the steps that its empty clause is not made of. Each step that is kept has the same literals, and its
+/// hints name the same clauses under the numbers that are left. The last act adds the empty clause, and each other step is a
+/// hint of a later one. Behind the step that names it last its clause is taken away, so that where a step is added, those
+/// clauses of steps are held that are hints of it or of a later one; the hints of the last act stay. It is a closed log of
+/// this question too. The error is want of memory.
+///
+/// It costs the length of the log.
+pub fn trim(alloc: Global, cnf: &Cnf, acts: &[Act]) -> Result<ActList, AllocError>
+    requires closed { IsClosedLog cnf.now.clauses acts.now }
+    requires few { length cnf.now.clauses + length acts.now + 1 < 2 ^ 32 }
+    ensures { IfOk result (λ log. IsTrimmed cnf.now.clauses acts.now log) }
+{
+    let steps = picked(alloc, cnf, acts)?;
+    let log = tidied(alloc, cnf.clauses.len(), steps)?;
+    Ok(ActList::from_vec(log))
 }

@@ -188,8 +188,8 @@ const GIVEN: [(&[i32], &[u32]); 5] = [
     (&[-2], &[3, 4]),
 ];
 
-/// What is kept of them.
-const KEPT: [(&[i32], &[u32]); 2] = [(&[2], &[1, 2]), (&[], &[5, 3, 4])];
+/// What is kept of them: literals that are added and their hints, or none and the numbers that are taken away.
+const KEPT: [(Option<&[i32]>, &[u32]); 2] = [(Some(&[2]), &[1, 2]), (Some(&[]), &[5, 3, 4])];
 
 /// So many of the given steps, with the second's clause taken away at the third.
 fn given(alloc: Global, count: usize) -> Result<Vec<Act>, AllocError> {
@@ -205,10 +205,13 @@ fn given(alloc: Global, count: usize) -> Result<Vec<Act>, AllocError> {
     Ok(acts)
 }
 
-fn adds(act: &Act, lits: &[i32], hints: &[u32]) -> bool {
+fn is_due(act: &Act, lits: Option<&[i32]>, numbers: &[u32]) -> bool {
     match act {
-        Act::Add(step) => step.lits.as_slice() == lits && step.hints.as_slice() == hints,
-        Act::Remove(_) => false,
+        Act::Add(step) => match lits {
+            Some(lits) => step.lits.as_slice() == lits && step.hints.as_slice() == numbers,
+            None => false,
+        },
+        Act::Remove(gone) => lits.is_none() && gone.as_slice() == numbers,
     }
 }
 
@@ -227,8 +230,40 @@ fn what_shows_nothing_is_left_out(rt: HostRuntime) -> Result<(), Fail> {
     assert!(rt; closed);
     let log = trim(alloc, &cnf, acts)?;
     assert!(rt; log.len() == KEPT.len());
-    for (act, (lits, hints)) in log.as_slice().iter().zip(KEPT) {
-        assert!(rt; adds(act, lits, hints), "{lits:?}");
+    for (act, (lits, numbers)) in log.as_slice().iter().zip(KEPT) {
+        assert!(rt; is_due(act, lits, numbers), "{numbers:?}");
+    }
+    Ok(())
+}
+
+/// Steps, of which the second is the last that has the first as a hint.
+const CHAIN: [(&[i32], &[u32]); 3] = [(&[2], &[1, 2]), (&[1], &[5, 3]), (&[], &[6, 2, 4])];
+
+/// The same, with the first step's clause taken away where it has served.
+const TIDIED: [(Option<&[i32]>, &[u32]); 4] = [
+    (Some(&[2]), &[1, 2]),
+    (Some(&[1]), &[5, 3]),
+    (None, &[5]),
+    (Some(&[]), &[6, 2, 4]),
+];
+
+#[test]
+fn what_has_served_is_taken_away(rt: HostRuntime) -> Result<(), Fail> {
+    let alloc = rt.alloc();
+    let cnf = question(&rt, alloc)?;
+    assert!(rt; cnf.clauses.len() == 4);
+    let mut acts = Vec::new(alloc);
+    for (lits, hints) in CHAIN {
+        acts.push(Act::Add(step(alloc, lits, hints)?))?;
+    }
+    let acts = acts.as_slice();
+    assert!(rt; acts.len() == 3);
+    let closed = is_refutation(alloc, &cnf, acts)?;
+    assert!(rt; closed);
+    let log = trim(alloc, &cnf, acts)?;
+    assert!(rt; log.len() == TIDIED.len());
+    for (act, (lits, numbers)) in log.as_slice().iter().zip(TIDIED) {
+        assert!(rt; is_due(act, lits, numbers), "{numbers:?}");
     }
     Ok(())
 }
