@@ -14,6 +14,7 @@ use pg_host::DirShelf;
 use pg_read::{DESC_BYTES, DescFault, read_desc};
 use pg_valid::{Machine, TypeFault, check};
 use std::alloc::{AllocError, Global};
+use std::io::ErrorKind;
 use std::process::ExitCode;
 use std::rt::Files;
 use std::{env, str};
@@ -66,6 +67,7 @@ fn main(rt: HostRuntime) -> ExitCode {
 fn show_all(rt: &HostRuntime) -> Result<(), Fault> {
     let words: Vec<String> = match env::args(rt) {
         Ok(args) => args.collect(rt.alloc())?,
+        Err(error) if error.kind() == ErrorKind::OutOfMemory => return Err(Fault::Memory),
         Err(_) => return Err(Fault::Usage),
     };
     let [_, name] = words.as_slice() else {

@@ -3,7 +3,7 @@
 //! Both runs have the same registers but for the mode, which is an input of its own in each; and both touch the cells of the
 //! same storage. The last gates say that the cells are those of one storage.
 
-ghost use Rattle.std.specs.Prelude.{◌≡◌, ◌<◌, ◌≤◌, [], length, IsTrue, OnOk};
+ghost use Rattle.std.specs.Prelude.{◌≡◌, ◌<◌, [], length, IsTrue, OnOk};
 ghost use Rattle.pg_vec.specs.There.{AreThere};
 ghost use Rattle.pg_cells.specs.Over.{IsOver};
 ghost use Rattle.pg_symex.specs.There.{AreBits, AreRegs};
@@ -65,8 +65,8 @@ fn inputs(alloc: Global, circuit: &mut Circuit, count: u32) -> Result<Bits, Allo
     Ok(Bits::from_vec(gates))
 }
 
-/// One run of an instruction, over cells without a write. The error is want of memory; it is given as well where what is
-/// asked of cells and registers does not hold, which does not happen.
+/// One run of an instruction, over cells without a write. The error is want of memory. That cells and registers have the
+/// widths of the machine is tested, since no type says it, and answered the same way where they have not.
 fn run(
     alloc: Global,
     machine: &Machine,
