@@ -1,0 +1,129 @@
+//! Two runs of one instruction over one storage, as gates.
+//!
+//! Both runs have the same registers but for the mode, which is an input of its own in each; and both touch the cells of the
+//! same storage. The last gates say that the cells are those of one storage.
+
+ghost use Rattle.std.specs.Prelude.{◌≡◌, ◌<◌, [], length, IsTrue, OnOk};
+ghost use Rattle.pg_vec.specs.There.{AreThere};
+ghost use Rattle.pg_cells.specs.Over.{IsOver};
+ghost use Rattle.pg_symex.specs.There.{AreBits, AreRegs};
+
+use pg_cells::Touched;
+use pg_circuit::Circuit;
+use pg_symex::{Regs, run_symbolic};
+use pg_valid::Machine;
+use pg_vec::Bits;
+use std::alloc::{AllocError, Global};
+
+/// What is counted of a circuit.
+#[derive(Clone, Copy)]
+pub struct Counts {
+    /// All its nodes, the inputs and the constant among them.
+    pub nodes: usize,
+    /// Its inputs.
+    pub inputs: usize,
+    /// The cells that are touched.
+    pub cells: usize,
+}
+
+/// The counts of the circuit of an instruction, of a number below `count()`. The error is want of memory.
+pub fn counted(alloc: Global, machine: &Machine, instr: usize) -> Result<Counts, AllocError>
+    requires { instr < length machine.now.desc.instrs }
+{
+    let shape = machine.shape();
+    let mut circuit = Circuit::new(alloc)?;
+    let mut touched = Touched::new(alloc, shape.w, shape.a);
+    let mut regs = Regs {
+        mode: inputs(alloc, &mut circuit, 1)?,
+        p: inputs(alloc, &mut circuit, shape.a)?,
+        l: inputs(alloc, &mut circuit, shape.a)?,
+        b: inputs(alloc, &mut circuit, shape.a)?,
+        v: inputs(alloc, &mut circuit, shape.a)?,
+    };
+    let other_mode = inputs(alloc, &mut circuit, 1)?;
+    run(alloc, machine, instr, &mut circuit, &mut touched, &regs)?;
+    touched.rewind();
+    regs.mode = other_mode;
+    run(alloc, machine, instr, &mut circuit, &mut touched, &regs)?;
+    touched.consistent(&mut circuit)?;
+    Ok(Counts {
+        nodes: circuit.len(),
+        inputs: circuit.inputs(),
+        cells: touched.cells().len(),
+    })
+}
+
+/// A string of so many new inputs, 1 to 64. The error is want of memory.
+fn inputs(alloc: Global, circuit: &mut Circuit, count: u32) -> Result<Bits, AllocError> {
+    let mut gates = Vec::new(alloc);
+    for _ in 0..count {
+        gates.push(circuit.input()?)?;
+    }
+    if gates.is_empty() || gates.len() > 64 {
+        return Err(AllocError);
+    }
+    Ok(Bits::from_vec(gates))
+}
+
+/// One run of an instruction, over cells without a write. The error is want of memory. That cells and registers have the
+/// widths of the machine is tested, since no type says it, and answered the same way where they have not.
+fn run(
+    alloc: Global,
+    machine: &Machine,
+    instr: usize,
+    circuit: &mut Circuit,
+    touched: &mut Touched,
+    regs: &Regs,
+) -> Result<(), AllocError>
+    requires instr { instr < length machine.now.desc.instrs }
+    requires over { IsOver circuit.old.nodes touched.old }
+    requires no_write { touched.old.writes ≡ [] }
+    ensures { OnOk result (IsOver circuit.new.nodes touched.new) }
+{
+    if !are_cells_of(machine, touched) || !are_regs(circuit, machine.shape().a, regs) {
+        return Err(AllocError);
+    }
+    let _outcome = run_symbolic(alloc, machine, instr, circuit, touched, regs)?;
+    if are_cells_of(machine, touched) {
+        Ok(())
+    } else {
+        Err(AllocError)
+    }
+}
+
+/// Whether cells have the widths of a machine.
+fn are_cells_of(machine: &Machine, touched: &Touched) -> bool
+    ensures word { IsTrue result → touched.now.w ≡ machine.now.desc.word }
+    ensures address { IsTrue result → touched.now.a ≡ machine.now.desc.address }
+{
+    let shape = machine.shape();
+    touched.word_width() == shape.w && touched.address_width() == shape.a
+}
+
+/// Whether registers are of the circuit and of these widths.
+fn are_regs(circuit: &Circuit, a: u32, regs: &Regs) -> bool
+    ensures { IsTrue result → AreRegs (length circuit.now.nodes) a regs.now }
+{
+    are_bits(circuit, 1, &regs.mode)
+        && are_bits(circuit, a, &regs.p)
+        && are_bits(circuit, a, &regs.l)
+        && are_bits(circuit, a, &regs.b)
+        && are_bits(circuit, a, &regs.v)
+}
+
+/// Whether a string is of the circuit and of this width.
+fn are_bits(circuit: &Circuit, width: u32, bits: &Bits) -> bool
+    ensures { IsTrue result → AreBits (length circuit.now.nodes) width bits.now }
+{
+    bits.width() == width && is_there(circuit, bits)
+}
+
+/// Whether the gates of a string are in the circuit.
+fn is_there(circuit: &Circuit, bits: &Bits) -> bool
+    ensures { IsTrue result → AreThere (length circuit.now.nodes) bits.now }
+{
+    let size = circuit.len();
+    bits.as_slice()
+        .iter()
+        .all(|gate| (gate.number as usize) < size)
+}
