@@ -4,7 +4,7 @@ use Rattle.std.proofs.lemmas.List.{take-take, take_more, take-append-drop, drop_
 use Rattle.std.proofs.lemmas.Option.{slice_get-get_or}
 use Rattle.std.proofs.lemmas.Bool.{cases_lt}
 use Rattle.pg_watch.specs.Trail.{Trail, value_of, IsTrail, IsOpen, IsUnit, AreDerived, IsSomeNumber}
-use Rattle.pg_watch.specs.Watched.{IsAssigned}
+use Rattle.pg_watch.specs.Assigned.{IsAssigned}
 use Rattle.pg_watch.proofs.Values.{value_of-after_some, value_of-unset_neg, value_of-push_neg}
 use Rattle.pg_proof.specs.Places.{has}
 use Rattle.pg_sat.specs.Learned.{IsAsserting}

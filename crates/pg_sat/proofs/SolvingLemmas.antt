@@ -8,7 +8,7 @@ use Rattle.std.proofs.lemmas.List.{take-take, take_all, get_or-take, take-append
 use Rattle.std.proofs.lemmas.Option.{slice_get-get_or, get_or_from_slice_get, slice_get_within}
 use Rattle.pg_cnf.specs.Literals.{IsLiteral, AreLiterals, AreClauses}
 use Rattle.pg_watch.specs.Trail.{Trail, IsTrail, IsOpen, IsQuiet, IsSomeNumber, Extends, pushed, cut}
-use Rattle.pg_watch.specs.Watched.{IsAssigned}
+use Rattle.pg_watch.specs.Assigned.{IsAssigned}
 use Rattle.pg_watch.proofs.Steps.{length-reasons, IsTrail-push, Extends-longer}
 use Rattle.pg_watch.proofs.WatchedLemmas.{assigned-within, assigned-push, assigned-take, Cut}
 use Rattle.pg_proof.specs.declared.step.Step.{Step}

@@ -1,7 +1,7 @@
 -- Where the trail is cut after a conflict.
 use Rattle.std.specs.Prelude.{ℕ, ◌+◌, ◌<◌, ℤ, List, take, drop}
 use Rattle.pg_watch.specs.Trail.{Trail, IsOpen, AreDerived}
-use Rattle.pg_watch.specs.Watched.{IsAssigned}
+use Rattle.pg_watch.specs.Assigned.{IsAssigned}
 
 -- the last literal that was assigned
 pub record IsLast (trail : Trail) (place : ℕ) : Type 0 where

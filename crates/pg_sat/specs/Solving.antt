@@ -6,7 +6,7 @@ use Rattle.pg_proof.specs.State.{variables_of, AreHeldWithin, begun}
 use Rattle.pg_proof.specs.Log.{IsSpentFrom}
 use Rattle.pg_proof.specs.New.{IsNew}
 use Rattle.pg_watch.specs.Trail.{Trail, IsQuiet}
-use Rattle.pg_watch.specs.Watched.{IsAssigned}
+use Rattle.pg_watch.specs.Assigned.{IsAssigned}
 use Rattle.pg_sat.specs.Trace.{IsOver}
 
 -- the clauses of steps

@@ -6,7 +6,7 @@
 ghost use Rattle.std.specs.Prelude.{◌≡◌, ◌+◌, ◌*◌, ◌<◌, length, take, IfOk, MatchOption, slice_index_or, neg_ℤ, pos};
 ghost use Rattle.pg_proof.specs.Places.{is_marked, AreWithin};
 ghost use Rattle.pg_watch.specs.Trail.{AreDerived};
-ghost use Rattle.pg_watch.specs.Watched.{IsAssigned};
+ghost use Rattle.pg_watch.specs.Assigned.{IsAssigned};
 ghost use Rattle.pg_sat.specs.Trace.{IsOver};
 ghost use Rattle.pg_sat.specs.Learned.{IsAsserting};
 ghost use Rattle.pg_sat.specs.Jump.{IsLast, IsJump};

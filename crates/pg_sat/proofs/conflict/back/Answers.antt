@@ -1,6 +1,7 @@
-use Rattle.std.proofs.Common.{◌≡◌, ◌∙◌, ◌+◌, ◌*◌, ◌++◌, ◌∷◌, [], ℕ, ℤ, List, arith, ap, sym, subst, take, pos, slice_index_or}
+use Rattle.std.proofs.Common.{◌≡◌, ◌∙◌, ◌+◌, ◌*◌, ◌++◌, ◌∷◌, [], ℕ, ℤ, List, arith, ap, sym, subst, take, pos, slice_index_or, None}
 use Rattle.pg_cnf.specs.Literals.{IsClause}
 use Rattle.pg_watch.specs.Trail.{Trail, IsTrail, Extends, cut}
+use Rattle.std.proofs.lemmas.Option.{get_or_from_slice_get}
 use Rattle.pg_watch.proofs.WatchedLemmas.{assigned-within}
 use Rattle.pg_proof.specs.declared.step.Step.{Step}
 use Rattle.pg_proof.specs.Places.{AreWithin}
@@ -63,3 +64,10 @@ returns-clause-solving c =
     c.in_ok-step.ensures.learned c.settle.new.self.clauses c.settle.new.self.trail jump (slice_index_or old.trail.literals c.args.last (pos 0))
     (take c.args.last old.trail.literals) c.trail-trail.ensures.right c.in_ok-step.ensures.asserting c.in_ok-step.ensures.fresh c.in_ok-step.ensures.uncovered
     jumps (c.settle.ensures.clauses ∙ held) right (subst (λ (t : Trail). Extends t c.settle.new.self.trail) cut_trail extends)))
+
+pub undo-requires-clause-within : goal.undo-requires-clause-within
+undo-requires-clause-within c =
+    assigned-within c.args.watches.now.clauses c.args.watches.now.trail c.in_ok-jump.jump c.trail-trail.ensures.right c.in_ok-jump.ensures.assigned
+
+pub undo-requires-clause-assigned : goal.undo-requires-clause-assigned
+undo-requires-clause-assigned c = get_or_from_slice_get c.args.watches.now.trail.reasons c.in_ok-jump.jump None None c.in_ok-jump.ensures.assigned

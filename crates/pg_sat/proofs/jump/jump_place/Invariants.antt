@@ -1,5 +1,5 @@
 use Rattle.std.proofs.Common.{◌≤◌}
-use Rattle.pg_watch.specs.Watched.{IsAssigned}
+use Rattle.pg_watch.specs.Assigned.{IsAssigned}
 use Rattle.pg_sat.proofs.JumpLemmas.{NoneBetween}
 use Rattle.pg_sat.proofs.jump.jump_place.Given as goal
 
