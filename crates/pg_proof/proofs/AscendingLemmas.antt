@@ -1,5 +1,5 @@
 -- Numbers in order: a sort puts them so, and what is held without their clauses is the same.
-use Rattle.std.proofs.Common.{◌≡◌, ◌≢◌, ℕ, zero, suc, ◌+◌, ◌-◌, ◌<◌, ◌≤◌, Bool, true, false, cond, eqb, leb, if◌then◌else◌, List, [], ◌∷◌, length, get_or, set, Option, Some, None, is_some, refl, sym, ap, subst, ◌∙◌, arith, ℤ, count_by, IsPermutation}
+use Rattle.std.proofs.Common.{◌≡◌, ◌≢◌, ℕ, zero, suc, ◌+◌, ◌-◌, ◌<◌, ◌≤◌, Bool, true, false, cond, eqb, leb, if◌then◌else◌, List, [], ◌∷◌, length, get_or, set, Option, None, is_some, refl, sym, ap, subst, ◌∙◌, arith, ℤ, count_by, IsPermutation}
 use Rattle.std.specs.Prelude.{⊤}
 use Rattle.std.specs.List.Sorted.{IsNonDecreasing}
 use Rattle.std.proofs.lemmas.List.Recursion.{is_count_by}
