@@ -17,4 +17,5 @@ pub mod NamedLemmas
 pub mod TrimLemmas
 pub mod TidyLemmas
 pub mod SpentLemmas
+pub mod AscendingLemmas
 pub mod TidiedLemmas

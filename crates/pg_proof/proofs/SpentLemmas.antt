@@ -17,14 +17,14 @@ use Rattle.pg_proof.proofs.GivenLemmas.{IsSub-without}
 use Rattle.pg_proof.proofs.UseLemmas.{set_up, set_from, raised_keeps, raised_itself, raised_from, length-raised, or_first, or_later}
 
 -- a clause that is taken away, and the others
-get-set_other : (held : List (Option (List ℤ))) (j k : ℕ) → k ≢ j → slice_get (set held j None) k ≡ slice_get held k
+pub get-set_other : (held : List (Option (List ℤ))) (j k : ℕ) → k ≢ j → slice_get (set held j None) k ≡ slice_get held k
 get-set_other [] j k ne = refl
 get-set_other (d ∷ held) zero zero ne = absurd (ne refl)
 get-set_other (d ∷ held) zero (suc k) ne = refl
 get-set_other (d ∷ held) (suc j) zero ne = refl
 get-set_other (d ∷ held) (suc j) (suc k) ne = get-set_other held j k (λ e. ne (ap suc e))
 
-clause_at-set_other : (held : List (Option (List ℤ))) (n h : ℕ) → 0 < n → h ≢ n → clause_at (set held (n - 1) None) h ≡ clause_at held h
+pub clause_at-set_other : (held : List (Option (List ℤ))) (n h : ℕ) → 0 < n → h ≢ n → clause_at (set held (n - 1) None) h ≡ clause_at held h
 clause_at-set_other held n zero lt ne = refl
 clause_at-set_other held n (suc k) lt ne = ap (option_and_then (λ c. c)) (get-set_other held (n - 1) k (λ e. ne (omega (arith, e, lt))))
 

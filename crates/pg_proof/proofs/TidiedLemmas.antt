@@ -15,16 +15,17 @@ use Rattle.pg_proof.specs.Removal.{without, after_removal}
 use Rattle.pg_proof.specs.Kept.{state_of}
 use Rattle.pg_proof.specs.Log.{after_acts_from}
 use Rattle.pg_proof.specs.Tight.{hint_clauses}
-use Rattle.pg_proof.specs.Trimmed.{shown, IsPart, EndsEmpty, IsTrimmed, step_count, has_hint, is_named, AreServing, AreOfSteps, IsTidyFrom}
+use Rattle.pg_proof.specs.Trimmed.{shown, IsPart, EndsEmpty, IsTrimmed, step_count, has_hint, is_named, AreServing, AreAscending, IsTidyFrom}
 use Rattle.pg_proof.specs.Numbering.{adds_empty, AreAtMost, AreEarlier, AreValid}
 use Rattle.pg_proof.specs.Drafts.{IsPicked}
-use Rattle.pg_proof.specs.Tidied.{is_fresh, fresh, named_flags, with_removal, backward, tidied}
+use Rattle.pg_proof.specs.Tidied.{is_fresh, fresh, ascending, named_flags, with_removal, backward, tidied}
 use Rattle.pg_proof.proofs.GivenLemmas.{AreMapped, AreKnown, Numbered, numbered, clause_at-push, clause_at-last, fault_of-mapped, known_hints, given_log, number_below, closed_after, IsSub-without}
 use Rattle.pg_proof.proofs.RemovalLemmas.{length-without}
 use Rattle.pg_proof.proofs.WithinLemmas.{both}
 use Rattle.std.specs.List.{list_any}
 use Rattle.pg_proof.proofs.DraftLemmas.{valid_added}
 use Rattle.pg_proof.proofs.UseLemmas.{or_first, or_later}
+use Rattle.pg_proof.proofs.AscendingLemmas.{AreFrom, ascending-from, without-ascending}
 use Rattle.pg_proof.proofs.SpentLemmas.{either, up_or_down, AreGone, AreHeld, gone, length-named_flags, named_up, up_named}
 
 -- acts in order: a step, a removal, and what is made of the others
@@ -34,7 +35,7 @@ removal (n ∷ ns) = Remove (n ∷ ns) ∷ []
 
 abbrev gap : ℕ → ℕ → Step → List Act → List Act
 gap q places step [] = []
-gap q places step (next ∷ acts) = removal (fresh q (named_flags places (next ∷ acts)) step.hints)
+gap q places step (next ∷ acts) = removal (ascending (fresh q (named_flags places (next ∷ acts)) step.hints))
 
 with_removal-some : (made : List Act) (ns : List ℕ) → 0 < length made → with_removal made ns ≡ made ++ removal ns
 with_removal-some [] ns lt = absurd (omega (arith, lt))
@@ -45,7 +46,7 @@ some_last : (acts : List Act) (act : Act) → 0 < length (acts ++ act ∷ [])
 some_last acts act = omega (arith, length-append acts (act ∷ []))
 
 backward-some : (q places : ℕ) (act : Act) (acts : List Act) → 0 < length (backward q places (act ∷ acts))
-backward-some q places (Add step) acts = some_last (with_removal (backward q places acts) (fresh q (named_flags places acts) step.hints)) (Add step)
+backward-some q places (Add step) acts = some_last (with_removal (backward q places acts) (ascending (fresh q (named_flags places acts) step.hints))) (Add step)
 backward-some q places (Remove ns) acts = some_last (backward q places acts) (Remove ns)
 
 reverse-removal : (ns : List ℕ) → reverse (removal ns) ≡ removal ns
@@ -56,7 +57,7 @@ tidied-step : (q places : ℕ) (step : Step) (acts : List Act) → tidied q plac
 tidied-step q places step [] = refl
 tidied-step q places step (next ∷ acts) =
     let back = backward q places (next ∷ acts) in
-    let ns = fresh q (named_flags places (next ∷ acts)) step.hints in
+    let ns = ascending (fresh q (named_flags places (next ∷ acts)) step.hints) in
     reverse-append (with_removal back ns) (Add step ∷ [])
     ∙ ap (λ x. Add step ∷ x)
     (ap reverse (with_removal-some back ns (backward-some q places next acts)) ∙ reverse-append back (removal ns) ∙ ap (λ x. x ++ reverse back) (reverse-removal ns))
@@ -71,7 +72,7 @@ removal-skip f (n ∷ ns) xs skip = skip (n ∷ ns)
 
 gap-skip : {A : Type 0} (f : List Act → A) (q places : ℕ) (step : Step) (acts xs : List Act) → ((ms : List ℕ) → f (Remove ms ∷ xs) ≡ f xs) → f (gap q places step acts ++ xs) ≡ f xs
 gap-skip f q places step [] xs skip = refl
-gap-skip f q places step (next ∷ acts) xs skip = removal-skip f (fresh q (named_flags places (next ∷ acts)) step.hints) xs skip
+gap-skip f q places step (next ∷ acts) xs skip = removal-skip f (ascending (fresh q (named_flags places (next ∷ acts)) step.hints)) xs skip
 
 named-tidied : (acts : List Act) (q places h : ℕ) → is_named h (tidied q places acts) ≡ is_named h acts
 named-tidied [] q places h = refl
@@ -115,11 +116,11 @@ ends-tidied (Remove ns ∷ next ∷ acts) q places e =
 past_of : (a b : ℕ) (c : Bool) → ltb a b && c ≡ true → a < b
 past_of a b c e = let t = (both (ltb a b) c e).0 in grind (arith, nat_tests, t)
 
-one_fresh : (b : Bool) (q : ℕ) (flags : List Bool) (h : ℕ) (ns : List ℕ) → is_fresh q flags h ≡ b → AreOfSteps q ns → AreOfSteps q ((if b then h ∷ [] else []) ++ ns)
-one_fresh true q flags h ns e of = (past_of q h (not (get_or flags h false)) e, of)
+one_fresh : (b : Bool) (q : ℕ) (flags : List Bool) (h : ℕ) (ns : List ℕ) → is_fresh q flags h ≡ b → AreFrom (q + 1) ns → AreFrom (q + 1) ((if b then h ∷ [] else []) ++ ns)
+one_fresh true q flags h ns e of = let p = past_of q h (not (get_or flags h false)) e in (omega (arith, p), of)
 one_fresh false q flags h ns e of = of
 
-fresh-of_steps : (hs : List ℕ) (q : ℕ) (flags : List Bool) → AreOfSteps q (fresh q flags hs)
+fresh-of_steps : (hs : List ℕ) (q : ℕ) (flags : List Bool) → AreFrom (q + 1) (fresh q flags hs)
 fresh-of_steps [] q flags = tt
 fresh-of_steps (h ∷ hs) q flags = one_fresh (is_fresh q flags h) q flags h (fresh q (set flags h true) hs) refl (fresh-of_steps hs q (set flags h true))
 
@@ -127,7 +128,7 @@ fresh-of_steps (h ∷ hs) q flags = one_fresh (is_fresh q flags h) q flags h (fr
 abbrev Runs : ℕ → State → List Act → Type 0
 Runs q state acts = ((final : State) × (after_acts_from state acts ≡ Some final)) × IsTidyFrom q state acts
 
-removal_runs : (q variables : ℕ) (closed : Bool) (held after : List (Option (List ℤ))) (ns : List ℕ) (acts : List Act) → without held ns ≡ Some after → AreOfSteps q ns →
+removal_runs : (q variables : ℕ) (closed : Bool) (held after : List (Option (List ℤ))) (ns : List ℕ) (acts : List Act) → without held ns ≡ Some after → AreAscending (q + 1) ns →
     Runs q (state_of variables after closed) acts → Runs q (state_of variables held closed) (removal ns ++ acts)
 removal_runs q variables closed held after [] acts e of r = subst (λ x. Runs q (state_of variables x closed) acts) (sym (same_Some held after e)) r
 removal_runs q variables closed held after (n ∷ ns) acts e of r =
@@ -255,7 +256,8 @@ module _ (q places variables : ℕ) (all held : List (Option (List ℤ))) (close
 
   gap_runs : (tail : List Act) → Runs q (state_of variables left.0 (closed || is_empty step.lits)) tail →
       Runs q (state_of variables longer (closed || is_empty step.lits)) (gap q places step acts ++ tail)
-  gap_runs tail r = removal_runs q variables (closed || is_empty step.lits) longer left.0 (fresh q flags step.hints) tail left.1.removed (fresh-of_steps step.hints q flags) r
+  gap_runs tail r = removal_runs q variables (closed || is_empty step.lits) longer left.0 (ascending (fresh q flags step.hints)) tail
+      (without-ascending (fresh q flags step.hints) longer ∙ left.1.removed) (ascending-from (q + 1) (fresh q flags step.hints) (fresh-of_steps step.hints q flags)) r
 
 step_runs : (q variables : ℕ) (held : List (Option (List ℤ))) (closed : Bool) (step : Step) (tail : List Act) → fault_of variables held step ≡ None →
     AreServing q held (Add step ∷ tail) → Runs q (state_of variables (held ++ Some step.lits ∷ []) (closed || is_empty step.lits)) tail →

@@ -1,5 +1,5 @@
 -- A log with each step's clause taken away behind the act that names it last, made from its end backward.
-use Rattle.std.specs.Prelude.{ℕ, Bool, true, false, ◌&&◌, not, nat_lt, if◌then◌else◌, List, [], ◌∷◌, ◌++◌, replicate, reverse, slice_index_or, slice_set}
+use Rattle.std.specs.Prelude.{ℕ, Bool, true, false, ◌&&◌, not, nat_lt, nat_le, if◌then◌else◌, List, [], ◌∷◌, ◌++◌, replicate, reverse, slice_index_or, slice_set}
 use Rattle.pg_proof.specs.declared.step.Act.{Act}
 use Rattle.pg_proof.specs.declared.step.Act.TheVariants.{Add, Remove}
 use Rattle.pg_proof.specs.Numbering.{raised}
@@ -12,6 +12,15 @@ is_fresh question flags h = nat_lt question h && not (slice_index_or flags h fal
 abbrev pub fresh : ℕ → List Bool → List ℕ → List ℕ
 fresh question flags [] = []
 fresh question flags (h ∷ hs) = (if is_fresh question flags h then h ∷ [] else []) ++ fresh question (slice_set flags h true) hs
+
+-- numbers put in order, least first
+abbrev pub placed : ℕ → List ℕ → List ℕ
+placed n [] = n ∷ []
+placed n (m ∷ ms) = (if nat_le n m then n ∷ m ∷ ms else m ∷ placed n ms)
+
+abbrev pub ascending : List ℕ → List ℕ
+ascending [] = []
+ascending (n ∷ ns) = placed n (ascending ns)
 
 -- the flags with those of an act's hints put up
 abbrev pub with_named : List Bool → Act → List Bool
@@ -31,7 +40,7 @@ with_removal (act ∷ made) (n ∷ ns) = (act ∷ made) ++ Remove (n ∷ ns) ∷
 
 -- acts backward, with one more, and a removal between of what it is the last to name
 abbrev pub with_act : ℕ → List Bool → List Act → Act → List Act
-with_act question flags made (Add step) = with_removal made (fresh question flags step.hints) ++ Add step ∷ []
+with_act question flags made (Add step) = with_removal made (ascending (fresh question flags step.hints)) ++ Add step ∷ []
 with_act question flags made (Remove gone) = made ++ Remove gone ∷ []
 
 abbrev pub backward : ℕ → ℕ → List Act → List Act

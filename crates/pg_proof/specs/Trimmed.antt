@@ -1,5 +1,5 @@
 -- Logs that show the same with fewer steps.
-use Rattle.std.specs.Prelude.{◌≡◌, ⊤, ◌⊎◌, ◌++◌, map, ℤ, List, [], ◌∷◌, Option, Some, ℕ, suc, ◌+◌, ◌<◌, Bool, true, false, ◌||◌, nat_eq, length}
+use Rattle.std.specs.Prelude.{◌≡◌, ⊤, ◌⊎◌, ◌++◌, map, ℤ, List, [], ◌∷◌, Option, Some, ℕ, suc, ◌+◌, ◌<◌, ◌≤◌, Bool, true, false, ◌||◌, nat_eq, length}
 use Rattle.std.specs.List.{list_any}
 use Rattle.pg_proof.specs.declared.step.Act.{Act}
 use Rattle.pg_proof.specs.declared.step.Act.TheVariants.{Add, Remove}
@@ -55,17 +55,18 @@ EndsEmpty (act ∷ next ∷ acts) = EndsEmpty (next ∷ acts)
 abbrev pub AreServing : ℕ → List (Option (List ℤ)) → List Act → Type 0
 AreServing question held acts = (h : ℕ) (c : List ℤ) → question < h → clause_at held h ≡ Some c → is_named h acts ≡ true
 
--- clauses of the question are not among some numbers
-abbrev pub AreOfSteps : ℕ → List ℕ → Type 0
-AreOfSteps question [] = ⊤
-AreOfSteps question (n ∷ ns) = (question < n) × AreOfSteps question ns
+-- numbers ascend from a least one on
+abbrev pub AreAscending : ℕ → List ℕ → Type 0
+AreAscending least [] = ⊤
+AreAscending least (n ∷ ns) = (least ≤ n) × AreAscending n ns
 
--- where a step is added, each clause of a step that is held is a hint of it or of a later one. The question's clauses stay
+-- where a step is added, each clause of a step that is held is a hint of it or of a later one. What is taken away ascends, and
+-- the question's clauses stay
 abbrev pub IsTidyFrom : ℕ → State → List Act → Type 0
 IsTidyFrom question state [] = ⊤
 IsTidyFrom question state (Add step ∷ acts) = AreServing question state.held (Add step ∷ acts) × IsTidyFrom question (with_clause state step.lits) acts
 IsTidyFrom question state (Remove numbers ∷ acts) =
-    AreOfSteps question numbers × ((after : State) → after_removal state numbers ≡ Some after → IsTidyFrom question after acts)
+    AreAscending (question + 1) numbers × ((after : State) → after_removal state numbers ≡ Some after → IsTidyFrom question after acts)
 
 abbrev pub IsTidy : List (List ℤ) → List Act → Type 0
 IsTidy question acts = IsTidyFrom (length question) (begun question) acts

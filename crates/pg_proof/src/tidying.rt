@@ -2,12 +2,12 @@
 //!
 //! `trim` hands over the steps that it kept. Backward from the last of them, `tidied` flags the numbers that hints name: one
 //! that was not flagged before is named for the last time. A removal of those of steps' clauses stands behind the act, so
-//! that a checker of the log holds few clauses at a time.
+//! that a checker of the log holds few clauses at a time. Its numbers ascend.
 
 ghost use Rattle.std.specs.Prelude.{◌≡◌, ◌+◌, ◌<◌, ◌^◌, ◌++◌, ◌∷◌, [], true, length, replicate, slice_set, IfOk, OnOk};
 ghost use Rattle.pg_proof.specs.declared.step.Act.{Act};
 ghost use Rattle.pg_proof.specs.Numbering.{raised};
-ghost use Rattle.pg_proof.specs.Tidied.{is_fresh, fresh, with_named, with_removal, with_act, tidied};
+ghost use Rattle.pg_proof.specs.Tidied.{is_fresh, fresh, ascending, with_named, with_removal, with_act, tidied};
 
 use crate::marks::{Marks, is_up};
 use crate::step::{Act, HintList};
@@ -33,17 +33,33 @@ fn fresh_hints(
     question: usize,
     flags: &mut Marks,
     hints: &[u32],
-) -> Result<HintList, AllocError>
-    ensures fresh { IfOk result (λ made. made ≡ fresh question flags.old hints.now) }
+) -> Result<Vec<u32>, AllocError>
+    ensures fresh { IfOk result (λ made. made.items ≡ fresh question flags.old hints.now) }
     ensures up { OnOk result (flags.new ≡ raised flags.old hints.now) }
 {
-    let mut made = HintList::new(alloc);
+    let mut made = Vec::new(alloc);
     for hint in hints {
         if name(flags, question, *hint) {
             made.push(*hint)?;
         }
     }
     Ok(made)
+}
+
+/// Puts numbers in order, least first.
+fn sort(numbers: &mut [u32])
+    ensures sorted { numbers.new ≡ ascending numbers.old }
+    ensures places { length numbers.new ≡ length numbers.old }
+{
+    numbers.sort_unstable();
+}
+
+/// Numbers in order, least first.
+fn ascending(mut numbers: Vec<u32>) -> HintList
+    ensures { result ≡ ascending numbers.items }
+{
+    sort(numbers.as_mut_slice());
+    HintList::from_vec(numbers)
 }
 
 /// Adds a removal to acts that are made backward, if there are acts and numbers. The error is want of memory.
@@ -71,7 +87,7 @@ fn push_act(
 {
     if let Act::Add(step) = &act {
         let gone = fresh_hints(alloc, question, flags, step.hints.as_slice())?;
-        push_removal(made, gone)?;
+        push_removal(made, ascending(gone))?;
     }
     made.push(act)?;
     Ok(())
@@ -80,7 +96,7 @@ fn push_act(
 /// Acts with each step's clause taken away behind the act that names it last, but none behind the last act. The error is
 /// want of memory.
 ///
-/// It costs the length of the log.
+/// It costs the length of the log, and the sorting of what each act is the last to name.
 pub fn tidied(alloc: Global, question: usize, acts: Vec<Act>) -> Result<Vec<Act>, AllocError>
     requires { question + length acts.items + 1 < 2 ^ 32 }
     ensures { IfOk result (λ made. made.items ≡ tidied question (question + length acts.items + 1) acts.items) }

@@ -2,7 +2,8 @@
 //!
 //! `trim` walks a log twice. Backward from the empty clause it flags the clauses that a used step's hints name; forward it
 //! keeps the steps whose clauses are flagged, with their hints under the numbers that are left. A third walk, over what is
-//! kept, takes clauses away behind their last use (`tidying`). Each walk costs the length of the log. Nothing is checked on the way: that the log is closed is the caller's to know, as from a `Checker`.
+//! kept, takes clauses away behind their last use (`tidying`). Each walk costs the length of the log, and the last one sorts
+//! what it takes away. Nothing is checked on the way: that the log is closed is the caller's to know, as from a `Checker`.
 
 ghost use Rattle.std.specs.Prelude.{◌≡◌, ◌+◌, ◌*◌, ◌-◌, ◌<◌, ◌≤◌, ◌^◌, ◌++◌, ◌∷◌, [], length, map, Some, take, false, true, slice_index_or, IfOk, OnOk, IsTrue};
 ghost use Rattle.std.specs.List.{list_any, position_or_len};
@@ -248,10 +249,10 @@ fn picked(alloc: Global, cnf: &Cnf, acts: &[Act]) -> Result<Vec<Act>, AllocError
 /// A closed log without the steps that its empty clause is not made of. Each step that is kept has the same literals, and its
 /// hints name the same clauses under the numbers that are left. The last act adds the empty clause, and each other step is a
 /// hint of a later one. Behind the step that names it last its clause is taken away, so that where a step is added, those
-/// clauses of steps are held that are hints of it or of a later one; the hints of the last act stay. It is a closed log of
-/// this question too. The error is want of memory.
+/// clauses of steps are held that are hints of it or of a later one; the hints of the last act stay. The numbers of a removal
+/// ascend, and none is that of a clause of the question. It is a closed log of this question too. The error is want of memory.
 ///
-/// It costs the length of the log.
+/// It costs the length of the log, and the sorting of each removal.
 pub fn trim(alloc: Global, cnf: &Cnf, acts: &[Act]) -> Result<ActList, AllocError>
     requires closed { IsClosedLog cnf.now.clauses acts.now }
     requires few { length cnf.now.clauses + length acts.now + 1 < 2 ^ 32 }
