@@ -1,6 +1,5 @@
 -- How many writes come with statements: at most as many as they have accesses.
-use Rattle.std.proofs.Common.{◌≡◌, ℕ, ◌+◌, ◌≤◌, List, [], ◌∷◌, ◌++◌, length, map, Option, None, Some, refl, sym, ap, subst, arith}
-use Rattle.std.specs.Option.{option_map}
+use Rattle.std.proofs.Common.{◌≡◌, ℕ, ◌+◌, ◌≤◌, List, [], ◌∷◌, ◌++◌, length, map, None, Some, refl, sym, ap, subst, arith}
 use Rattle.std.proofs.lemmas.List.{length_push}
 use Rattle.pg_circuit.specs.declared.node.Gate.{Gate}
 use Rattle.pg_circuit.specs.declared.node.Node.{Node}
@@ -12,7 +11,7 @@ use Rattle.pg_ast.specs.declared.tree.Stmt.TheVariants.{Let, Store, Pc, Mode, Re
 use Rattle.pg_ast.specs.declared.tree.Stmt.TheOpen as Open
 use Rattle.pg_ast.specs.declared.tree.Stmt.TheFolds.{ind-Stmt, map-Stmt}
 use Rattle.pg_ast.specs.declared.tree.Stmt.TheViews.{roll-Stmt}
-use Rattle.pg_valid.specs.Limits.{Tally, both, all_of, if_any, stmt_tally}
+use Rattle.pg_valid.specs.Limits.{Tally, both, all_of, stmt_tally}
 use Rattle.pg_valid.proofs.CheckStmtEquations.{stmt_tally-store, stmt_tally-if}
 use Rattle.pg_symex.specs.declared.run.Run.{Run}
 use Rattle.pg_symex.specs.Flow.{SymEntry, SymRun}
