@@ -28,7 +28,7 @@ use Rattle.pg_symex.specs.Numbers.{entry_value}
 use Rattle.pg_symex.specs.There.{IsSymEntry, sym_setting}
 use Rattle.pg_symex.specs.Stmts.{SymDeed, assigned, trap_made, with_lets_of, with_live, joined_made, other_made, if_made, in_order_made, block_made, else_made, stmt_made}
 use Rattle.pg_symex.specs.Ends.{IsSymRun, Does}
-use Rattle.pg_symex.specs.Calls.{widths_of}
+use Rattle.pg_symex.specs.Calls.{widths_of, AddsFew, stmts_cost}
 use Rattle.pg_symex.specs.RunView.{run_as, IsUnderWay, Fares, FaresInBlock, IsDone, OnTheWay}
 use Rattle.pg_symex.proofs.StmtEquations as mades
 use Rattle.pg_symex.proofs.ExprForms.{entry-later}
@@ -36,6 +36,7 @@ use Rattle.pg_symex.proofs.IfForms.{guard-run}
 use Rattle.pg_symex.proofs.StmtForms.{nothing-does}
 use Rattle.pg_symex.proofs.StmtLaw.{stmt_right, in_order-right, block-right}
 use Rattle.pg_symex.proofs.RunLaw.{with_proofs, with_proofs-first}
+use Rattle.pg_symex.proofs.WriteCounts.{stmt_done_writes}
 use Rattle.pg_symex.proofs.StmtSteps.{under_way, lets_widths}
 
 -- ---- lets
@@ -128,7 +129,7 @@ arm_ready at n0 n t r live u g c l = record {
 -- ---- statements in order
 
 pub way_begins : (at : SymEntry) (ss : List Stmt) (n : List Node) (t : View) (r : Run) → IsUnderWay at n t r → Fares (fares_in_order (map (fare_of (sym_setting at)) ss)) r → OnTheWay at ss ss n t r n t r
-way_begins at ss n t r u f = record { ready = u; typed = f; made = refl; view = refl; front = front_same n }
+way_begins at ss n t r u f = record { ready = u; typed = f; made = refl; view = refl; front = front_same n; writes = omega arith; few = λ w. omega arith }
 
 pub way_first : (at : SymEntry) (ss left : List Stmt) (s : Stmt) (rest : List Stmt) (n0 n : List Node) (t0 t : View) (r0 r : Run) → left ≡ s ∷ rest → OnTheWay at ss left n0 t0 r0 n t r → Fares (fare_of (sym_setting at) s) r
 unfolding fares_in_order
@@ -137,10 +138,45 @@ way_first at ss left s rest n0 n t0 t r0 r e h =
     let k = then_fares_keeps (fare_of (sym_setting at) s f.place (widths_of r.lets)) (λ m l. fares_in_order (map (fare_of (sym_setting at)) rest) m l) f.then_place f.after f.keeps in
     record { place = f.place; then_place = k.0; after = k.1; keeps = k.2 }
 
+all_counts : (x : Stmt) (xs : List Stmt) → all_of (map stmt_tally (x ∷ xs)) ≡ both (stmt_tally x) (all_of (map stmt_tally xs))
+unfolding all_of
+all_counts x xs = refl
+
+-- what is left to be made counts one statement less
+left_counts : (left : List Stmt) (s : Stmt) (rest : List Stmt) → left ≡ s ∷ rest → all_of (map stmt_tally left) ≡ both (stmt_tally s) (all_of (map stmt_tally rest))
+left_counts left s rest e = ap (λ ss. all_of (map stmt_tally ss)) e ∙ all_counts s rest
+
+way_writes : (at : SymEntry) (ss left : List Stmt) (s : Stmt) (rest : List Stmt) (n0 n m : List Node) (t0 t v : View) (r0 r q : Run) → left ≡ s ∷ rest → OnTheWay at ss left n0 t0 r0 n t r → IsDone (stmt_made s at (run_as n t r)) t m v q →
+    length v.writes + (all_of (map stmt_tally rest)).accesses ≤ length t0.writes + (all_of (map stmt_tally ss)).accesses
+unfolding both
+way_writes at ss left s rest n0 n m t0 t v r0 r q e h done =
+    omega (arith, ap (λ (k : Tally). k.accesses) (left_counts left s rest e), h.writes, stmt_done_writes s at n m t v r q done)
+
+-- the nodes after one statement more, whether or not memory ran out in it
+pub way_few : (at : SymEntry) (ss left : List Stmt) (s : Stmt) (rest : List Stmt) (n0 n m : List Node) (t0 t : View) (r0 r : Run) → left ≡ s ∷ rest → OnTheWay at ss left n0 t0 r0 n t r →
+    AddsFew t.writes (stmt_tally s).accesses n m (stmts_cost (stmt_tally s)) → length t0.writes + (all_of (map stmt_tally ss)).accesses ≤ 64 →
+    length m + stmts_cost (all_of (map stmt_tally rest)) ≤ length n0 + stmts_cost (all_of (map stmt_tally ss))
+unfolding both
+way_few at ss left s rest n0 n m t0 t r0 r e h few w =
+    let a = ap (λ (k : Tally). k.accesses) (left_counts left s rest e) in
+    let x = ap (λ (k : Tally). k.expressions) (left_counts left s rest e) in
+    let y = ap (λ (k : Tally). k.statements) (left_counts left s rest e) in
+    let j = h.writes in
+    let f = h.few w in
+    let g = few.few (omega (arith, a)) in
+    omega (arith, x, y)
+
+pub way_stops : (at : SymEntry) (ss left : List Stmt) (s : Stmt) (rest : List Stmt) (n0 n m : List Node) (t0 t : View) (r0 r : Run) → left ≡ s ∷ rest → OnTheWay at ss left n0 t0 r0 n t r →
+    AddsFew t.writes (stmt_tally s).accesses n m (stmts_cost (stmt_tally s)) → AddsFew t0.writes (all_of (map stmt_tally ss)).accesses n0 m (stmts_cost (all_of (map stmt_tally ss)))
+way_stops at ss left s rest n0 n m t0 t r0 r e h few = record { few = λ w. omega (arith, way_few at ss left s rest n0 n m t0 t r0 r e h few w) }
+
+pub way_all : (at : SymEntry) (ss left : List Stmt) (n0 n : List Node) (t0 t : View) (r0 r : Run) → OnTheWay at ss left n0 t0 r0 n t r → AddsFew t0.writes (all_of (map stmt_tally ss)).accesses n0 n (stmts_cost (all_of (map stmt_tally ss)))
+way_all at ss left n0 n t0 t r0 r h = record { few = λ w. omega (arith, h.few w) }
+
 pub way_next : (at : SymEntry) (ss left : List Stmt) (s : Stmt) (rest : List Stmt) (n0 n m : List Node) (t0 t v : View) (r0 r q : Run) → left ≡ s ∷ rest → OnTheWay at ss left n0 t0 r0 n t r → IsDone (stmt_made s at (run_as n t r)) t m v q → GrowsTo n m →
-    OnTheWay at ss rest n0 t0 r0 m v q
+    AddsFew t.writes (stmt_tally s).accesses n m (stmts_cost (stmt_tally s)) → OnTheWay at ss rest n0 t0 r0 m v q
 unfolding fares_in_order in_order_made
-way_next at ss left s rest n0 n m t0 t v r0 r q e h done g =
+way_next at ss left s rest n0 n m t0 t v r0 r q e h done g few =
     let f = subst (λ zs. Fares (fares_in_order (map (fare_of (sym_setting at)) zs)) r) e h.typed in
     let k = then_fares_keeps (fare_of (sym_setting at) s f.place (widths_of r.lets)) (λ a l. fares_in_order (map (fare_of (sym_setting at)) rest) a l) f.then_place f.after f.keeps in
     let d = stmt_right s at (run_as n t r) f.place (widths_of r.lets) k.0 k.1 h.ready.entry h.ready.run k.2 in
@@ -156,6 +192,8 @@ way_next at ss left s rest n0 n m t0 t v r0 r q e h done g =
       made = ap (λ (z : SymRun). in_order_made (map stmt_made rest) at z) done.made ∙ ap (λ zs. in_order_made (map stmt_made zs) at (run_as n t r)) (sym e) ∙ h.made;
       view = done.view ∙ ap (λ (z : View). record z { cells = v.cells; writes = v.writes }) h.view;
       front = front_then n0 n m h.front g;
+      writes = way_writes at ss left s rest n0 n m t0 t v r0 r q e h done;
+      few = way_few at ss left s rest n0 n m t0 t r0 r e h few;
     }
 
 pub way_ends : (at : SymEntry) (ss left : List Stmt) (n0 n : List Node) (t0 t : View) (r0 r : Run) → left ≡ [] → OnTheWay at ss left n0 t0 r0 n t r → IsDone (in_order_made (map stmt_made ss) at (run_as n0 t0 r0)) t0 n t r
@@ -200,10 +238,6 @@ if_count s c held slice other e h =
     let q = ap (λ (t : Tally). t.statements) (stmt_tally-if c held other) in
     let o : (all_of (map stmt_tally slice)).statements ≡ (all_of (map stmt_tally held)).statements = ap (λ zs. (all_of (map stmt_tally zs)).statements) h in
     omega (arith, p, q, o)
-
-all_counts : (x : Stmt) (xs : List Stmt) → all_of (map stmt_tally (x ∷ xs)) ≡ both (stmt_tally x) (all_of (map stmt_tally xs))
-unfolding all_of
-all_counts x xs = refl
 
 pub item_counts : (ss : List Stmt) (i : ℕ) (s d : Stmt) → i < length ss → s ≡ get_or ss i d → (stmt_tally s).statements ≤ (all_of (map stmt_tally ss)).statements
 unfolding both

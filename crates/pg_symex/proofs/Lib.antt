@@ -17,6 +17,8 @@ pub mod OpSteps
 pub mod Typing
 pub mod ExprSteps
 pub mod StmtSteps
+pub mod WriteCounts
+pub mod StmtCosts
 pub mod BlockSteps
 pub mod FormSteps
 pub mod RunSteps

@@ -6,7 +6,7 @@ use Rattle.pg_circuit.specs.Grown.{GrowsTo}
 use Rattle.pg_cells.specs.declared.cell.Write.{Write}
 use Rattle.pg_cells.specs.View.{View}
 use Rattle.pg_ast.specs.declared.tree.Expr.{Expr}
-use Rattle.pg_valid.specs.Limits.{expr_tally}
+use Rattle.pg_valid.specs.Limits.{Tally, expr_tally}
 use Rattle.pg_valid.specs.Widths.{LetWidths, width_of}
 use Rattle.pg_symex.specs.declared.guards.Guards.{Guards}
 use Rattle.pg_symex.specs.Flow.{SymEntry, SymLets, Flow, view_of}
@@ -49,3 +49,12 @@ pub record Adds (writes : List Write) (old new : List Node) (most : ℕ) : Type 
 -- how many nodes an expression costs at most
 abbrev pub expr_cost : Expr → ℕ
 expr_cost e = (expr_tally e).expressions * (3 * 2 ^ 15)
+
+-- how many nodes statements cost at most: their expressions, and each of them
+abbrev pub stmts_cost : Tally → ℕ
+stmts_cost t = t.expressions * (3 * 2 ^ 15) + t.statements * 2 ^ 16
+
+-- what statements add in any case, also where memory runs out: while the writes that stand and those that may come are at
+-- most 64, at most so many nodes are added
+pub record AddsFew (writes : List Write) (accesses : ℕ) (old new : List Node) (most : ℕ) : Type 0 where
+  pub few : length writes + accesses ≤ 64 → length new ≤ length old + most

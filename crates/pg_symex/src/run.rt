@@ -1,8 +1,8 @@
 //! Bodies under way, and what single statements make of bits that are there already.
 
-ghost use Rattle.std.specs.Prelude.{◌≡◌, ◌<◌, length, IfOk, OnOk};
-ghost use Rattle.pg_circuit.specs.Grown.{GrowsTo};
+ghost use Rattle.std.specs.Prelude.{◌≡◌, ◌+◌, ◌^◌, ◌<◌, length, IfOk, OnOk};
 ghost use Rattle.pg_cells.specs.View.{View};
+ghost use Rattle.pg_vec.specs.AddsNodes.{AddsNodes};
 ghost use Rattle.pg_vec.specs.There.{AreThere};
 ghost use Rattle.pg_vec.specs.Strings.{mux_made};
 ghost use Rattle.pg_symex.specs.EntryView.{entry_as};
@@ -63,7 +63,7 @@ pub fn assign(
     requires register { AreThere (length c.old.nodes) register.old }
     requires same_width { length bits.now ≡ length register.old }
     ensures made { OnOk result ((register.new, c.new.nodes) ≡ mux_made c.old.nodes live bits.now register.old) }
-    ensures kept { GrowsTo c.old.nodes c.new.nodes }
+    ensures kept { AddsNodes c.old.nodes c.new.nodes (2 ^ 15) }
 {
     let chosen = ops::mux(alloc, c, live, bits, register)?;
     *register = chosen;
@@ -76,7 +76,7 @@ pub fn trap(c: &mut Circuit, run: &mut Run<'_>) -> Result<(), AllocError>
     requires trap { run.old.trap.number < length c.old.nodes }
     requires live { run.old.guards.live.number < length c.old.nodes }
     ensures made { OnOk result ((v : View) → run_as c.new.nodes v run.new ≡ trap_made (run_as c.old.nodes v run.old)) }
-    ensures kept { GrowsTo c.old.nodes c.new.nodes }
+    ensures kept { AddsNodes c.old.nodes c.new.nodes 1 }
 {
     run.trap = or(c, run.trap, run.guards.live)?;
     run.guards.live = c.constant(false);
@@ -98,7 +98,7 @@ pub fn store(
     requires value { AreBits (length c.old.nodes) at.now.w value.now }
     ensures made { OnOk result (run_as c.new.nodes t.new run.new ≡ store_made (entry_as at.now) address.now value.now (run_as c.old.nodes t.old run.old)) }
     ensures view { OnOk result (t.new ≡ record t.old { writes = t.new.writes }) }
-    ensures kept { GrowsTo c.old.nodes c.new.nodes }
+    ensures kept { AddsNodes c.old.nodes c.new.nodes (2 ^ 15 + 3) }
 {
     access(alloc, at, c, &mut run.guards, address)?;
     t.write(c, run.guards.live, address, value)

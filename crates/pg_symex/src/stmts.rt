@@ -3,13 +3,15 @@
 //! There is one way through a body, which takes both arms of each if: what is reached only where a test is true stands under
 //! a guard. So a statement never asks which way a run goes, and a trap ends nothing here but the places after it.
 
-ghost use Rattle.std.specs.Prelude.{◌≡◌, ◌<◌, length, map, OnOk};
+ghost use Rattle.std.specs.Prelude.{◌≡◌, ◌+◌, ◌<◌, length, map, OnOk};
 ghost use Rattle.std.specs.Option.{option_map};
 ghost use Rattle.pg_circuit.specs.Grown.{GrowsTo};
+ghost use Rattle.pg_valid.specs.Limits.{both, all_of, if_any, stmt_tally};
 ghost use Rattle.pg_valid.specs.Widths.{fare_of, fares_in_order, fares_if_any};
 ghost use Rattle.pg_symex.specs.EntryView.{entry_as};
 ghost use Rattle.pg_symex.specs.There.{sym_setting};
 ghost use Rattle.pg_symex.specs.Stmts.{stmt_made, in_order_made, block_made, else_made, if_made};
+ghost use Rattle.pg_symex.specs.Calls.{AddsFew, stmts_cost};
 ghost use Rattle.pg_symex.specs.RunView.{run_as, IsUnderWay, Fares, FaresInBlock, IsDone};
 
 use crate::entry::Entry;
@@ -34,6 +36,7 @@ fn stmt<'m>(
     requires typed { Fares (fare_of (sym_setting (entry_as at.now)) s.now) run.old }
     ensures made { OnOk result (IsDone (stmt_made s.now (entry_as at.now) (run_as c.old.nodes t.old run.old)) t.old c.new.nodes t.new run.new) }
     ensures kept { GrowsTo c.old.nodes c.new.nodes }
+    ensures few { AddsFew t.old.writes (stmt_tally s.now).accesses c.old.nodes c.new.nodes (stmts_cost (stmt_tally s.now)) }
 {
     match s {
         Stmt::Let(name, e) => {
@@ -88,6 +91,7 @@ fn arms<'m>(
     requires other { FaresInBlock (fares_if_any (option_map (map (fare_of (sym_setting (entry_as at.now)))) other.now)) run.old }
     ensures made { OnOk result (IsDone (if_made (block_made (map stmt_made held.now)) (else_made (option_map (map stmt_made) other.now)) (entry_as at.now) test (run_as c.old.nodes t.old run.old)) t.old c.new.nodes t.new run.new) }
     ensures kept { GrowsTo c.old.nodes c.new.nodes }
+    ensures few { AddsFew t.old.writes (both (all_of (map stmt_tally held.now)) (if_any (option_map (map stmt_tally) other.now))).accesses c.old.nodes c.new.nodes (stmts_cost (both (all_of (map stmt_tally held.now)) (if_any (option_map (map stmt_tally) other.now))) + 3) }
 {
     let first = and(c, run.guards.live, test)?;
     let not_test = c.not(test);
@@ -116,6 +120,7 @@ fn otherwise<'m>(
     requires typed { FaresInBlock (fares_if_any (option_map (map (fare_of (sym_setting (entry_as at.now)))) other.now)) run.old }
     ensures made { OnOk result (IsDone (else_made (option_map (map stmt_made) other.now) (entry_as at.now) (run_as c.old.nodes t.old run.old)) t.old c.new.nodes t.new run.new) }
     ensures kept { GrowsTo c.old.nodes c.new.nodes }
+    ensures few { AddsFew t.old.writes (if_any (option_map (map stmt_tally) other.now)).accesses c.old.nodes c.new.nodes (stmts_cost (if_any (option_map (map stmt_tally) other.now))) }
 {
     match other {
         None => Ok(()),
@@ -137,6 +142,7 @@ fn block<'m>(
     requires typed { FaresInBlock (fares_in_order (map (fare_of (sym_setting (entry_as at.now))) stmts.now)) run.old }
     ensures made { OnOk result (IsDone (block_made (map stmt_made stmts.now) (entry_as at.now) (run_as c.old.nodes t.old run.old)) t.old c.new.nodes t.new run.new) }
     ensures kept { GrowsTo c.old.nodes c.new.nodes }
+    ensures few { AddsFew t.old.writes (all_of (map stmt_tally stmts.now)).accesses c.old.nodes c.new.nodes (stmts_cost (all_of (map stmt_tally stmts.now))) }
 {
     let outer = run.lets.len();
     in_order(alloc, at, c, t, run, stmts)?;
@@ -158,6 +164,7 @@ pub fn in_order<'m>(
     requires typed { Fares (fares_in_order (map (fare_of (sym_setting (entry_as at.now))) stmts.now)) run.old }
     ensures made { OnOk result (IsDone (in_order_made (map stmt_made stmts.now) (entry_as at.now) (run_as c.old.nodes t.old run.old)) t.old c.new.nodes t.new run.new) }
     ensures kept { GrowsTo c.old.nodes c.new.nodes }
+    ensures few { AddsFew t.old.writes (all_of (map stmt_tally stmts.now)).accesses c.old.nodes c.new.nodes (stmts_cost (all_of (map stmt_tally stmts.now))) }
 {
     for s in stmts {
         stmt(alloc, at, c, t, run, s)?;

@@ -5,12 +5,14 @@ ghost use Rattle.pg_circuit.specs.declared.node.Node.{Node};
 ghost use Rattle.pg_circuit.specs.Grown.{GrowsTo};
 ghost use Rattle.pg_word.specs.Bits.{IsWidth};
 ghost use Rattle.pg_ast.specs.declared.tree.Instr.{Instr as Instrs};
+ghost use Rattle.pg_valid.specs.Limits.{instr_tally};
 ghost use Rattle.pg_cells.specs.Over.{IsOver};
 ghost use Rattle.pg_cells.specs.View.{View};
 ghost use Rattle.pg_vec.specs.Strings.{add_made};
 ghost use Rattle.pg_symex.specs.There.{AreRegs, AreBits};
 ghost use Rattle.pg_symex.specs.Exprs.{literal_bits};
 ghost use Rattle.pg_symex.specs.Body.{run_begun, body_made, run_made};
+ghost use Rattle.pg_symex.specs.Calls.{AddsFew, stmts_cost};
 ghost use Rattle.pg_symex.specs.Runs.{RunsAs};
 ghost use Rattle.pg_symex.specs.RunView.{run_as};
 ghost use Rattle.pg_symex.specs.Outcome.{IsOutcome, MayRun};
@@ -58,6 +60,10 @@ pub struct SymOutcome {
 ///
 /// Where no write stood, the outcome tells for all inputs, and every storage that agrees with the cells, what the body comes
 /// to (`runs`). The error is want of memory: the circuit may hold further gates, and the cells are only to be dropped.
+///
+/// In any case the nodes that were there stay, and where at most 56 writes stood, at most `2^27` are added (`few`): an
+/// instruction has at most 8 accesses, so never more than 64 writes stand; each of its 1,024 expressions costs at most
+/// `3 * 2^15` nodes, each of its 200 statements `2^16` beside them, and the fetch with P + 1 `2^16`.
 pub fn run_symbolic(
     alloc: Global,
     m: &Machine,
@@ -74,6 +80,7 @@ pub fn run_symbolic(
     ensures made { IfOk result (λ o. (i : Instrs) → slice_get m.now.desc.instrs instr ≡ Some i → IsOutcome (run_made m.now.desc i regs.now c.old.nodes t.old.cells t.old.writes) c.new.nodes t.new o) }
     ensures runs { (i : Instrs) → slice_get m.now.desc.instrs instr ≡ Some i → t.old.writes ≡ [] → RunsAs m.now.desc i regs.now c.old.nodes t.old.cells (run_made m.now.desc i regs.now c.old.nodes t.old.cells []) }
     ensures kept { GrowsTo c.old.nodes c.new.nodes }
+    ensures few { length t.old.writes ≤ 56 → length c.new.nodes ≤ length c.old.nodes + 2 ^ 27 }
 {
     let instrs = m.desc.instrs.as_slice();
     run_instr(alloc, m, &instrs[instr], m.decoder(instr), c, t, regs)
@@ -92,6 +99,7 @@ fn run_instr(
     requires may { MayRun m.now.desc instr.now decoder.now c.old.nodes t.old regs.now }
     ensures made { IfOk result (λ o. IsOutcome (run_made m.now.desc instr.now regs.now c.old.nodes t.old.cells t.old.writes) c.new.nodes t.new o) }
     ensures kept { GrowsTo c.old.nodes c.new.nodes }
+    ensures few { AddsFew t.old.writes (instr_tally instr.now).accesses c.old.nodes c.new.nodes (2 ^ 16 + stmts_cost (instr_tally instr.now)) }
 {
     let shape = m.shape();
     let word = t.touch(c, &regs.p)?;

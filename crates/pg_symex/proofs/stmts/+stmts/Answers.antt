@@ -1,4 +1,4 @@
-use Rattle.std.proofs.Common.{◌∷◌, ◌+◌, ◌-◌, ◌∙◌, drop, length, refl, sym, ap, rules, arith}
+use Rattle.std.proofs.Common.{◌∷◌, ◌+◌, ◌-◌, ◌^◌, ◌∙◌, drop, length, refl, sym, ap, rules, arith}
 use Rattle.std.proofs.lemmas.List.{drop_more, drop_all}
 use Rattle.pg_ast.specs.declared.tree.Stmt.TheVariants.{Let, Pc, Mode, Rel, Bound}
 use Rattle.pg_vec.proofs.Kept.{front_same, front_then, there_later}
@@ -12,7 +12,11 @@ use Rattle.pg_symex.proofs.ExprForms.{bits-later}
 use Rattle.pg_symex.proofs.AccessLaws.{bit_0-there}
 use Rattle.pg_symex.proofs.StmtSteps.{let_typed, pc_width, mode_width, rel_width, bound_width, store_widths, typed_of, width_later, taken_bits, taken_ready, lets_same, done_form, assigned_step, if_fares, block_later}
 use Rattle.pg_symex.proofs.FormSteps.{let_step, trap_done, store_done, if_form}
-use Rattle.pg_symex.proofs.BlockSteps.{outer_lets, block_ready, block_lets, else_ready, arm_ready, way_begins, way_first, way_next, way_ends, block_done, if_done, if_count, item_counts}
+use Rattle.pg_symex.proofs.BlockSteps.{outer_lets, block_ready, block_lets, else_ready, arm_ready, way_begins, way_first, way_next, way_ends, way_stops, block_done, if_done, if_count, item_counts}
+use Rattle.pg_symex.specs.Calls.{expr_cost}
+use Rattle.pg_symex.proofs.ExprSteps.{writes_same}
+use Rattle.pg_symex.proofs.WriteCounts.{block_done_writes}
+use Rattle.pg_symex.proofs.StmtCosts.{few_nodes, few_adds, few_one, let_most, pc_most, mode_most, rel_most, bound_most, trap_most, if_most, store_first, store_value, store_last, if_last, arms_first, arms_second, arms_third, arms_last}
 use Rattle.pg_symex.proofs.stmts.+stmts.Goals as goal
 
 pub stmt-take-requires-clause-typed : goal.stmt-take-requires-clause-typed
@@ -186,7 +190,77 @@ in_order-loop-s-preserved t c =
     let ss = c.args.stmts.now in
     let s = c.s-item.result in
     let here = drop_more ss i s c.loop-s-test.true ∙ ap (λ x. x ∷ drop (i + 1) ss) (sym c.s-item.is) in
-    way_next (entry_as c.args.at.now) ss _ s _ c.args.c.now.nodes c.loop-s.c.nodes c.stmt.new.c.nodes c.args.t.now c.loop-s.t c.stmt.new.t c.args.run.now c.loop-s.run c.stmt.new.run here c.loop-s.invariant c.in_ok-stmt.ensures.made c.stmt.ensures.kept
+    way_next (entry_as c.args.at.now) ss _ s _ c.args.c.now.nodes c.loop-s.c.nodes c.stmt.new.c.nodes c.args.t.now c.loop-s.t c.stmt.new.t c.args.run.now c.loop-s.run c.stmt.new.run here c.loop-s.invariant c.in_ok-stmt.ensures.made c.stmt.ensures.kept c.stmt.ensures.few
 
 pub in_order-returns-clause-made : goal.in_order-returns-clause-made
 in_order-returns-clause-made t c = way_ends (entry_as c.args.at.now) c.args.stmts.now _ c.args.c.now.nodes c.loop-s.c.nodes c.args.t.now c.loop-s.t c.args.run.now c.loop-s.run (drop_all c.loop-s.s-index c.args.stmts.now c.loop-s-test.false) c.loop-s.invariant
+
+-- ---- what is added
+
+pub stmt-returns-in_err-bits-in-Let-clause-few : goal.stmt-returns-in_err-bits-in-Let-clause-few
+stmt-returns-in_err-bits-in-Let-clause-few t c = few_adds c.args.t.now.writes _ c.args.c.now.nodes c.take.new.c.nodes (expr_cost c.in-Let.e) _ (omega (arith, let_most c.args.s.now c.in-Let.name c.in-Let.e c.in-Let.is)) c.take.ensures.kept
+
+pub stmt-returns-in_ok-bits-in-Let-clause-few : goal.stmt-returns-in_ok-bits-in-Let-clause-few
+stmt-returns-in_ok-bits-in-Let-clause-few t c = few_adds c.args.t.now.writes _ c.args.c.now.nodes c.take.new.c.nodes (expr_cost c.in-Let.e) _ (omega (arith, let_most c.args.s.now c.in-Let.name c.in-Let.e c.in-Let.is)) c.take.ensures.kept
+
+pub stmt-returns-in_err-address-in-Store-clause-few : goal.stmt-returns-in_err-address-in-Store-clause-few
+stmt-returns-in_err-address-in-Store-clause-few t c = store_first c.args.t.now.writes _ c.args.c.now.nodes c.take-in-Store.new.c.nodes c.args.s.now c.in-Store.a c.in-Store.e c.in-Store.is c.take-in-Store.ensures.kept
+
+pub stmt-returns-in_err-value-in-Store-clause-few : goal.stmt-returns-in_err-value-in-Store-clause-few
+stmt-returns-in_err-value-in-Store-clause-few t c = store_value c.args.t.now.writes c.take-in-Store.new.t.writes _ c.args.c.now.nodes c.take-in-Store.new.c.nodes c.take-in-Store-2.new.c.nodes c.args.s.now c.in-Store.a c.in-Store.e c.in-Store.is (writes_same c.in_ok-address-in-Store.ensures.taken.made) c.take-in-Store.ensures.kept c.take-in-Store-2.ensures.kept
+
+pub stmt-returns-in_ok-value-in-Store-clause-few : goal.stmt-returns-in_ok-value-in-Store-clause-few
+stmt-returns-in_ok-value-in-Store-clause-few t c = store_last c.args.t.now.writes c.take-in-Store.new.t.writes _ c.args.c.now.nodes c.take-in-Store.new.c.nodes c.take-in-Store-2.new.c.nodes c.store.new.c.nodes c.args.s.now c.in-Store.a c.in-Store.e c.in-Store.is (writes_same c.in_ok-address-in-Store.ensures.taken.made) c.take-in-Store.ensures.kept c.take-in-Store-2.ensures.kept c.store.ensures.kept
+
+pub stmt-returns-in_err-bits-in-Pc-clause-few : goal.stmt-returns-in_err-bits-in-Pc-clause-few
+stmt-returns-in_err-bits-in-Pc-clause-few t c = few_adds c.args.t.now.writes _ c.args.c.now.nodes c.take-in-Pc.new.c.nodes (expr_cost c.in-Pc.e) _ (omega (arith, pc_most c.args.s.now c.in-Pc.e c.in-Pc.is)) c.take-in-Pc.ensures.kept
+
+pub stmt-returns-in_ok-bits-in-Pc-clause-few : goal.stmt-returns-in_ok-bits-in-Pc-clause-few
+stmt-returns-in_ok-bits-in-Pc-clause-few t c = few_one c.args.t.now.writes _ c.args.c.now.nodes c.take-in-Pc.new.c.nodes c.assign.new.c.nodes (expr_cost c.in-Pc.e) (2 ^ 15) _ (omega (arith, pc_most c.args.s.now c.in-Pc.e c.in-Pc.is)) c.take-in-Pc.ensures.kept c.assign.ensures.kept
+
+pub stmt-returns-in_err-bits-in-Mode-clause-few : goal.stmt-returns-in_err-bits-in-Mode-clause-few
+stmt-returns-in_err-bits-in-Mode-clause-few t c = few_adds c.args.t.now.writes _ c.args.c.now.nodes c.take-in-Mode.new.c.nodes (expr_cost c.in-Mode.e) _ (omega (arith, mode_most c.args.s.now c.in-Mode.e c.in-Mode.is)) c.take-in-Mode.ensures.kept
+
+pub stmt-returns-in_ok-bits-in-Mode-clause-few : goal.stmt-returns-in_ok-bits-in-Mode-clause-few
+stmt-returns-in_ok-bits-in-Mode-clause-few t c = few_one c.args.t.now.writes _ c.args.c.now.nodes c.take-in-Mode.new.c.nodes c.assign-in-Mode.new.c.nodes (expr_cost c.in-Mode.e) (2 ^ 15) _ (omega (arith, mode_most c.args.s.now c.in-Mode.e c.in-Mode.is)) c.take-in-Mode.ensures.kept c.assign-in-Mode.ensures.kept
+
+pub stmt-returns-in_err-bits-in-Rel-clause-few : goal.stmt-returns-in_err-bits-in-Rel-clause-few
+stmt-returns-in_err-bits-in-Rel-clause-few t c = few_adds c.args.t.now.writes _ c.args.c.now.nodes c.take-in-Rel.new.c.nodes (expr_cost c.in-Rel.e) _ (omega (arith, rel_most c.args.s.now c.in-Rel.e c.in-Rel.is)) c.take-in-Rel.ensures.kept
+
+pub stmt-returns-in_ok-bits-in-Rel-clause-few : goal.stmt-returns-in_ok-bits-in-Rel-clause-few
+stmt-returns-in_ok-bits-in-Rel-clause-few t c = few_one c.args.t.now.writes _ c.args.c.now.nodes c.take-in-Rel.new.c.nodes c.assign-in-Rel.new.c.nodes (expr_cost c.in-Rel.e) (2 ^ 15) _ (omega (arith, rel_most c.args.s.now c.in-Rel.e c.in-Rel.is)) c.take-in-Rel.ensures.kept c.assign-in-Rel.ensures.kept
+
+pub stmt-returns-in_err-bits-in-Bound-clause-few : goal.stmt-returns-in_err-bits-in-Bound-clause-few
+stmt-returns-in_err-bits-in-Bound-clause-few t c = few_adds c.args.t.now.writes _ c.args.c.now.nodes c.take-in-Bound.new.c.nodes (expr_cost c.in-Bound.e) _ (omega (arith, bound_most c.args.s.now c.in-Bound.e c.in-Bound.is)) c.take-in-Bound.ensures.kept
+
+pub stmt-returns-in_ok-bits-in-Bound-clause-few : goal.stmt-returns-in_ok-bits-in-Bound-clause-few
+stmt-returns-in_ok-bits-in-Bound-clause-few t c = few_one c.args.t.now.writes _ c.args.c.now.nodes c.take-in-Bound.new.c.nodes c.assign-in-Bound.new.c.nodes (expr_cost c.in-Bound.e) (2 ^ 15) _ (omega (arith, bound_most c.args.s.now c.in-Bound.e c.in-Bound.is)) c.take-in-Bound.ensures.kept c.assign-in-Bound.ensures.kept
+
+pub stmt-returns-in-Trap-clause-few : goal.stmt-returns-in-Trap-clause-few
+stmt-returns-in-Trap-clause-few t c = few_nodes c.args.t.now.writes _ c.args.c.now.nodes c.trap.new.c.nodes 1 _ (omega (arith, trap_most c.args.s.now c.in-Trap.is)) c.trap.ensures.kept
+
+pub stmt-returns-in_err-bits-in-If-clause-few : goal.stmt-returns-in_err-bits-in-If-clause-few
+stmt-returns-in_err-bits-in-If-clause-few t c = few_adds c.args.t.now.writes _ c.args.c.now.nodes c.take-in-If.new.c.nodes (expr_cost c.in-If.test) _ (omega (arith, if_most c.args.s.now c.in-If.test c.in-If.held c.in-If.other c.in-If.is)) c.take-in-If.ensures.kept
+
+pub stmt-returns-in_ok-bits-in-If-clause-few : goal.stmt-returns-in_ok-bits-in-If-clause-few
+stmt-returns-in_ok-bits-in-If-clause-few t c = if_last c.args.t.now.writes c.take-in-If.new.t.writes c.args.c.now.nodes c.take-in-If.new.c.nodes c.arms.new.c.nodes c.args.s.now c.in-If.test c.in-If.held c.as_slice.result.now c.in-If.other c.in-If.is c.as_slice.ensures (writes_same c.in_ok-bits-in-If.ensures.taken.made) c.take-in-If.ensures.kept c.arms.ensures.few
+
+pub arms-returns-in_err-block-clause-few : goal.arms-returns-in_err-block-clause-few
+arms-returns-in_err-block-clause-few t c = arms_first c.args.t.now.writes c.args.c.now.nodes c.and.new.circuit.nodes c.and-2.new.circuit.nodes c.block.new.c.nodes c.args.held.now c.args.other.now c.and.ensures.kept c.and-2.ensures.kept c.block.ensures.few
+
+pub arms-returns-in_err-otherwise-clause-few : goal.arms-returns-in_err-otherwise-clause-few
+arms-returns-in_err-otherwise-clause-few t c = arms_third c.args.t.now.writes _ _ c.args.c.now.nodes c.otherwise.new.c.nodes (arms_second c.args.t.now.writes c.block.new.t.writes c.args.c.now.nodes c.and.new.circuit.nodes c.and-2.new.circuit.nodes c.block.new.c.nodes c.otherwise.new.c.nodes c.args.held.now c.args.other.now c.and.ensures.kept c.and-2.ensures.kept c.block.ensures.few (block_done_writes c.args.held.now (entry_as c.args.at.now) c.and-2.new.circuit.nodes c.block.new.c.nodes c.args.t.now c.block.new.t (record c.args.run.now { guards = record c.args.run.now.guards { live = c.in_ok-first.first } }) c.block.new.run c.in_ok-block.ensures.made) c.otherwise.ensures.few)
+
+pub arms-returns-in_err-live-clause-few : goal.arms-returns-in_err-live-clause-few
+arms-returns-in_err-live-clause-few t c = arms_last c.args.t.now.writes _ _ c.args.c.now.nodes c.otherwise.new.c.nodes c.or.new.circuit.nodes (arms_second c.args.t.now.writes c.block.new.t.writes c.args.c.now.nodes c.and.new.circuit.nodes c.and-2.new.circuit.nodes c.block.new.c.nodes c.otherwise.new.c.nodes c.args.held.now c.args.other.now c.and.ensures.kept c.and-2.ensures.kept c.block.ensures.few (block_done_writes c.args.held.now (entry_as c.args.at.now) c.and-2.new.circuit.nodes c.block.new.c.nodes c.args.t.now c.block.new.t (record c.args.run.now { guards = record c.args.run.now.guards { live = c.in_ok-first.first } }) c.block.new.run c.in_ok-block.ensures.made) c.otherwise.ensures.few) c.or.ensures.kept
+
+pub arms-returns-clause-few : goal.arms-returns-clause-few
+arms-returns-clause-few t c = arms_last c.args.t.now.writes _ _ c.args.c.now.nodes c.otherwise.new.c.nodes c.or.new.circuit.nodes (arms_second c.args.t.now.writes c.block.new.t.writes c.args.c.now.nodes c.and.new.circuit.nodes c.and-2.new.circuit.nodes c.block.new.c.nodes c.otherwise.new.c.nodes c.args.held.now c.args.other.now c.and.ensures.kept c.and-2.ensures.kept c.block.ensures.few (block_done_writes c.args.held.now (entry_as c.args.at.now) c.and-2.new.circuit.nodes c.block.new.c.nodes c.args.t.now c.block.new.t (record c.args.run.now { guards = record c.args.run.now.guards { live = c.in_ok-first.first } }) c.block.new.run c.in_ok-block.ensures.made) c.otherwise.ensures.few) c.or.ensures.kept
+
+pub in_order-returns-in_err-stmt-clause-few : goal.in_order-returns-in_err-stmt-clause-few
+in_order-returns-in_err-stmt-clause-few t c =
+    let i = c.loop-s.s-index in
+    let ss = c.args.stmts.now in
+    let s = c.s-item.result in
+    let here = drop_more ss i s c.loop-s-test.true ∙ ap (λ x. x ∷ drop (i + 1) ss) (sym c.s-item.is) in
+    way_stops (entry_as c.args.at.now) ss _ s _ c.args.c.now.nodes c.loop-s.c.nodes c.stmt.new.c.nodes c.args.t.now c.loop-s.t c.args.run.now c.loop-s.run here c.loop-s.invariant c.stmt.ensures.few
