@@ -6,6 +6,10 @@
 #![tactic(auto)]
 
 #[cfg(test)]
+mod bodies;
+#[cfg(test)]
 mod cells;
+#[cfg(test)]
+mod runs;
 #[cfg(test)]
 mod sparse;
