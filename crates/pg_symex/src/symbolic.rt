@@ -1,6 +1,6 @@
 //! Whole runs: the fetch, and the body of an instruction.
 
-ghost use Rattle.std.specs.Prelude.{◌≡◌, ◌+◌, ◌^◌, ◌<◌, ◌≤◌, List, [], length, slice_get, Some, IfOk};
+ghost use Rattle.std.specs.Prelude.{◌≡◌, ◌+◌, ◌^◌, ◌<◌, ◌≤◌, List, [], length, slice_get, Some, IfOk, OnOk};
 ghost use Rattle.pg_circuit.specs.declared.node.Node.{Node};
 ghost use Rattle.pg_circuit.specs.Grown.{GrowsTo};
 ghost use Rattle.pg_word.specs.Bits.{IsWidth};
@@ -79,6 +79,7 @@ pub fn run_symbolic(
     requires regs { AreRegs (length c.old.nodes) m.now.desc.address regs.now }
     ensures made { IfOk result (λ o. (i : Instrs) → slice_get m.now.desc.instrs instr ≡ Some i → IsOutcome (run_made m.now.desc i regs.now c.old.nodes t.old.cells t.old.writes) c.new.nodes t.new o) }
     ensures runs { (i : Instrs) → slice_get m.now.desc.instrs instr ≡ Some i → t.old.writes ≡ [] → RunsAs m.now.desc i regs.now c.old.nodes t.old.cells (run_made m.now.desc i regs.now c.old.nodes t.old.cells []) }
+    ensures view { OnOk result (t.new ≡ record t.old { cells = t.new.cells; writes = t.new.writes }) }
     ensures kept { GrowsTo c.old.nodes c.new.nodes }
     ensures few { length t.old.writes ≤ 56 → length c.new.nodes ≤ length c.old.nodes + 2 ^ 27 }
 {
@@ -98,6 +99,7 @@ fn run_instr(
 ) -> Result<SymOutcome, AllocError>
     requires may { MayRun m.now.desc instr.now decoder.now c.old.nodes t.old regs.now }
     ensures made { IfOk result (λ o. IsOutcome (run_made m.now.desc instr.now regs.now c.old.nodes t.old.cells t.old.writes) c.new.nodes t.new o) }
+    ensures view { OnOk result (t.new ≡ record t.old { cells = t.new.cells; writes = t.new.writes }) }
     ensures kept { GrowsTo c.old.nodes c.new.nodes }
     ensures few { AddsFew t.old.writes (instr_tally instr.now).accesses c.old.nodes c.new.nodes (2 ^ 16 + stmts_cost (instr_tally instr.now)) }
 {
