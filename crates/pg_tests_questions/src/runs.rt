@@ -275,11 +275,36 @@ fn settle(
 ) -> Result<Vec<bool>, Fail> {
     let circuit = &run.circuit;
     let mut inputs = vec![in alloc; false; circuit.inputs()]?;
-    set(circuit, inputs.as_mut_slice(), &run.regs.mode, mode_bit(state.0))?;
-    set(circuit, inputs.as_mut_slice(), &run.regs.p, u64::from(state.1))?;
-    set(circuit, inputs.as_mut_slice(), &run.regs.l, u64::from(state.2))?;
-    set(circuit, inputs.as_mut_slice(), &run.regs.b, u64::from(state.3))?;
-    set(circuit, inputs.as_mut_slice(), &run.regs.v, u64::from(state.4))?;
+    set(
+        circuit,
+        inputs.as_mut_slice(),
+        &run.regs.mode,
+        mode_bit(state.0),
+    )?;
+    set(
+        circuit,
+        inputs.as_mut_slice(),
+        &run.regs.p,
+        u64::from(state.1),
+    )?;
+    set(
+        circuit,
+        inputs.as_mut_slice(),
+        &run.regs.l,
+        u64::from(state.2),
+    )?;
+    set(
+        circuit,
+        inputs.as_mut_slice(),
+        &run.regs.b,
+        u64::from(state.3),
+    )?;
+    set(
+        circuit,
+        inputs.as_mut_slice(),
+        &run.regs.v,
+        u64::from(state.4),
+    )?;
     for cell in run.cells.cells() {
         let values = evaluate(rt, alloc, circuit, inputs.as_slice())?;
         let address = number(values.as_slice(), &cell.address)?;
