@@ -61,7 +61,10 @@ fn lines_that_are_taken(rt: HostRuntime) -> Result<(), Fail> {
         if let Some(words) = words {
             assert!(rt; words.desc.as_str() == "d", "{line}");
             assert!(rt; words.image.as_str() == "i", "{line}");
-            assert!(rt; (words.grant.cells(), words.steps.count()) == (grant, steps), "{line}");
+            assert!(rt;
+                (words.grant.cells(), words.steps.count()) == (grant, steps),
+                "{line}"
+            );
         }
     }
     Ok(())
