@@ -1,0 +1,34 @@
+-- What the solver answers.
+use Rattle.std.specs.Prelude.{◌≡◌, ℕ, ◌≤◌, Bool, true, ℤ, List, [], ◌∷◌, ◌++◌, length, map}
+use Rattle.pg_cnf.specs.Truth.{clauses_true}
+use Rattle.pg_proof.specs.declared.step.Step.{Step}
+use Rattle.pg_proof.specs.declared.step.Act.TheVariants.{Add}
+use Rattle.pg_proof.specs.Log.{IsClosedLog}
+use Rattle.pg_sat.specs.declared.answer.Answer.{Answer}
+use Rattle.pg_sat.specs.declared.answer.Answer.TheVariants.{Sat, Unsat, Spent}
+use Rattle.pg_sat.specs.Solving.{IsLog}
+
+-- an assignment of all variables that makes all clauses true
+pub record IsModel (question : List (List ℤ)) (variables : ℕ) (assignment : List Bool) : Type 0 where
+  pub long : length assignment ≡ variables
+  pub holds : clauses_true assignment question ≡ true
+
+-- a closed log, whose last step is the empty clause, after at most so many steps, each worth its place
+pub record IsRefuted (question : List (List ℤ)) (budget : ℕ) (steps : List Step) : Type 0 where
+  pub before : List Step
+  pub last : Step
+  pub whole : steps ≡ before ++ last ∷ []
+  pub empty : last.lits ≡ []
+  pub log : IsLog question before
+  pub few : length before ≤ budget
+  pub closed : IsClosedLog question (map Add steps)
+
+-- so many steps, each worth its place and new
+pub record IsExhausted (question : List (List ℤ)) (budget : ℕ) (steps : List Step) : Type 0 where
+  pub exactly : length steps ≡ budget
+  pub log : IsLog question steps
+
+abbrev pub IsAnswer : List (List ℤ) → ℕ → ℕ → Answer → Type 0
+IsAnswer question variables budget (Sat assignment) = IsModel question variables assignment
+IsAnswer question variables budget (Unsat steps) = IsRefuted question budget steps
+IsAnswer question variables budget (Spent steps) = IsExhausted question budget steps
