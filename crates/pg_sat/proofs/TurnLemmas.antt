@@ -1,9 +1,11 @@
 -- What a turn of the search comes to.
-use Rattle.std.proofs.Common.{◌≡◌, ℕ, suc, ◌+◌, ◌-◌, ◌*◌, ◌^◌, ◌<◌, ◌≤◌, Bool, true, ◌&&◌, List, [], ◌∷◌, ◌++◌, length, refl, sym, ap, subst, ◌∙◌, arith, ℤ}
+use Rattle.std.proofs.Common.{◌≡◌, ℕ, suc, ◌+◌, ◌-◌, ◌*◌, ◌^◌, ◌<◌, ◌≤◌, Bool, true, ◌&&◌, List, [], ◌∷◌, ◌++◌, length, take, refl, sym, ap, subst, ◌∙◌, arith, ℤ}
 use Rattle.std.proofs.lemmas.List.{length-append}
 use Rattle.pg_cnf.specs.Truth.{clause_true, clauses_true}
 use Rattle.pg_watch.specs.declared.fix.Fix.{Fix}
-use Rattle.pg_watch.specs.Trail.{IsTrail}
+use Rattle.pg_watch.specs.Trail.{Trail, IsTrail, AreSet}
+use Rattle.pg_watch.specs.Watched.{IsAssigned}
+use Rattle.pg_watch.proofs.WatchedLemmas.{assigned-within, IsTrail-cut}
 use Rattle.pg_watch.specs.Fixes.{IsEnd, is_quiet}
 use Rattle.pg_watch.specs.State.{State}
 use Rattle.pg_watch.proofs.Short.{AreSet-short}
@@ -12,10 +14,12 @@ use Rattle.pg_proof.specs.State.{variables_of}
 use Rattle.pg_proof.proofs.WithinLemmas.{both}
 use Rattle.pg_sat.specs.Learned.{IsLearned, IsLearnedWithin}
 use Rattle.pg_sat.specs.Models.{IsRead}
-use Rattle.pg_sat.specs.Solving.{clauses_of, IsSolving}
-use Rattle.pg_sat.specs.Answers.{IsModel, IsRefuted, IsExhausted}
+use Rattle.pg_sat.specs.Solving.{clauses_of, AreQuietBefore, IsSolving}
+use Rattle.pg_sat.specs.Jump.{IsLast}
+use Rattle.pg_sat.specs.Answers.{IsModel, IsRefuted, IsUnrefuted, IsExhausted}
 use Rattle.pg_sat.specs.Turns.{IsNearer, work_left}
 use Rattle.pg_sat.proofs.LogLemmas.{log_closed}
+use Rattle.pg_sat.proofs.NewLemmas.{not_set_both, quiet-readings}
 
 -- the work that is left
 steps-count : (k v p q : ℕ) → p ≤ v → k * (v + 1) + p < (k + 1) * (v + 1) + q
@@ -113,6 +117,21 @@ refuted_within question few budget ss h le = record {
   closed = h.closed;
 }
 
-pub exhausted_by : (question : List (List ℤ)) (variables budget : ℕ) (state : State) (ss : List Step) →
-    IsSolving question variables state.clauses state.trail ss → length ss ≡ budget → IsExhausted question budget ss
-exhausted_by question variables budget state ss h e = record { exactly = e; log = h.log }
+unrefuted_before : (cs : List (List ℤ)) (t : Trail) (place : ℕ) → IsTrail cs t → AreQuietBefore cs t → IsAssigned t place → IsUnrefuted cs
+unrefuted_before cs t place right quiet assigned =
+    let lt : place < length t.literals = assigned-within cs t place right assigned in
+    let are_set : AreSet t.variables [] (take place t.literals) = (IsTrail-cut cs t place right).set in
+    record {
+      trail = take place t.literals;
+      consistent = not_set_both t.variables (take place t.literals) are_set;
+      quiet = quiet-readings t.variables (take place t.literals) are_set cs (quiet place assigned);
+    }
+
+pub exhausted_by : (question : List (List ℤ)) (variables budget : ℕ) (state : State) (ss : List Step) (place : ℕ) →
+    IsSolving question variables state.clauses state.trail ss → IsTrail state.clauses state.trail → IsLast state.trail place → length ss ≡ budget →
+    IsExhausted question budget ss
+exhausted_by question variables budget state ss place h right last e = record {
+  exactly = e;
+  log = h.log;
+  unrefuted = subst (λ (cs : List (List ℤ)). IsUnrefuted cs) h.same (unrefuted_before state.clauses state.trail place right h.levels last.assigned);
+}

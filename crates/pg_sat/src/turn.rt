@@ -123,6 +123,7 @@ fn resolve(
         },
         Some(last) => {
             if steps.len() == budget as usize {
+                let _trail = watches.trail();
                 Ok(Turned::Exhausted)
             } else {
                 learn(alloc, cnf, watches, steps, budget, conflict, last)
