@@ -122,7 +122,8 @@ fn resolve(
             Err(error) => Err(error),
         },
         Some(last) => {
-            if steps.len() == budget as usize {
+            let is_spent = steps.len() == budget as usize;
+            if is_spent {
                 let _trail = watches.trail();
                 Ok(Turned::Exhausted)
             } else {
