@@ -1,1 +1,2 @@
 mod proof;
+mod sat;
