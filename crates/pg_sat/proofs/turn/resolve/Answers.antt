@@ -5,4 +5,4 @@ use Rattle.pg_sat.proofs.turn.resolve.Goals as goal
 pub returns-then-is_spent : goal.returns-then-is_spent
 returns-then-is_spent c =
     exhausted_by c.args.cnf.now.clauses c.args.cnf.now.variables c.args.budget c.args.watches.now c.args.steps.now.items c.in-Some.last
-    c.requires.solving c.trail-trail.ensures.right c.in-Some.ensures (search (rules, c.len.ensures, c.if-is_spent.true))
+    c.requires.solving c.trail-trail.ensures.right c.in-Some.ensures (search rules)
