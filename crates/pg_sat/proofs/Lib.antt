@@ -12,3 +12,4 @@ pub mod ModelLemmas
 pub mod LogLemmas
 pub mod SolvingLemmas
 pub mod ConflictLemmas
+pub mod TurnLemmas

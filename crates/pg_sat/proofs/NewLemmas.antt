@@ -61,7 +61,7 @@ module _ (n : ℕ) (set : List ℤ) (are_set : AreSet n [] set) where
       ap (value_of set) (sym (neg_ℤ-neg_ℤ z)) ∙ value_of-neg set (neg_ℤ z) p.1
       ∙ ap (λ (o : Option Bool). option_map not o) p.0
 
-  not_set_both : (z : ℤ) → has set z ≡ true → has set (neg_ℤ z) ≡ false
+  pub not_set_both : (z : ℤ) → has set z ≡ true → has set (neg_ℤ z) ≡ false
   not_set_both z h = false_if (has set (neg_ℤ z)) (λ e. some-differs (value_of set z) (true_if_set z h) (false_if_negated z e))
 
   unset_not_true : (z : ℤ) → value_of set z ≡ None → has set z ≡ false

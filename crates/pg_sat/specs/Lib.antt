@@ -5,3 +5,5 @@ pub mod Learned
 pub mod Jump
 pub mod Models
 pub mod Solving
+pub mod Answers
+pub mod Turns

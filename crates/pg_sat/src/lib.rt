@@ -1,11 +1,16 @@
-//! What a conflict of unit propagation teaches, with the evidence for it.
+//! A solver of clauses that logs what it learns.
+//!
+//! `solve` looks for an assignment that makes all clauses true: it assigns a variable, sets what follows by unit propagation,
+//! and learns a clause at each conflict. Each answer comes with its evidence: an assignment, or a log of steps that `pg_proof`
+//! takes (clause learning: GRASP, Marques-Silva and Sakallah, 1996; Chaff, Moskewicz and others, 2001).
+//! `specs/Answers.antt` says what the answers mean.
 //!
 //! Where a clause is false under a trail of literals, the literals that are to blame are traced back along the trail. The
-//! clause that is learned says that they are not all as they are; its hints are the clauses that it was resolved from, so that
-//! `pg_proof` takes it as a step (clause learning: GRASP, Marques-Silva and Sakallah, 1996; Chaff, Moskewicz and others,
-//! 2001). `specs/Cut.antt` says what is traced.
+//! clause that is learned says that they are not all as they are; its hints are the clauses that it was resolved from.
+//! `specs/Cut.antt` says what is traced.
 #![tactic(auto)]
 
+mod answer;
 mod conflict;
 mod decide;
 mod draw;
@@ -13,10 +18,12 @@ mod flags;
 mod jump;
 mod learn;
 mod search;
+mod solver;
 mod trace;
+mod turn;
 
-pub use conflict::back;
+pub use answer::{Answer, Assignment, StepList};
 pub use decide::{assignment_of, next_unset};
 pub use jump::{jump_place, last_assigned};
 pub use learn::{learn_at, refute};
-pub use search::{advance, start};
+pub use solver::solve;

@@ -1,2 +1,3 @@
 mod proof;
 mod watch;
+mod sat;

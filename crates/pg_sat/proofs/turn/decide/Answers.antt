@@ -1,0 +1,8 @@
+use Rattle.pg_sat.proofs.TurnLemmas.{advanced_on}
+use Rattle.pg_sat.proofs.turn.decide.Goals as goal
+
+pub returns-in_ok-fix-in-Some : goal.returns-in_ok-fix-in-Some
+returns-in_ok-fix-in-Some c =
+    let went = c.in_ok-fix-in-Some in
+    advanced_on c.args.cnf.now.clauses c.args.cnf.now.variables c.args.budget c.args.watches.now c.advance.new.watches c.args.steps.now went.fix
+    went.ensures.solving went.ensures.end went.ensures.quiet c.requires.few went.ensures.longer c.trail-trail.ensures.right
