@@ -4,7 +4,7 @@ use Rattle.std.proofs.lemmas.List.{length-append}
 use Rattle.pg_cnf.specs.Truth.{clause_true, clauses_true}
 use Rattle.pg_watch.specs.declared.fix.Fix.{Fix}
 use Rattle.pg_watch.specs.Trail.{Trail, IsTrail, AreSet}
-use Rattle.pg_watch.specs.Watched.{IsAssigned}
+use Rattle.pg_watch.specs.Assigned.{IsAssigned}
 use Rattle.pg_watch.proofs.WatchedLemmas.{assigned-within, IsTrail-cut}
 use Rattle.pg_watch.specs.Fixes.{IsEnd, is_quiet}
 use Rattle.pg_watch.specs.State.{State}
