@@ -1,3 +1,3 @@
 mod proof;
-mod watch;
 mod sat;
+mod watch;
