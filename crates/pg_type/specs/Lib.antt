@@ -1,6 +1,7 @@
 pub mod Kinds
 pub mod Accepting
 pub mod PaperWords
+pub mod Listed
 pub mod Alike
 pub mod Plain
 pub mod Blind
