@@ -360,20 +360,25 @@ past-listed cells least at (suc word) h l = λ i e.
     omega (arith, ap (λ (c : ℕ × ℕ). c.0) (get_or_at cells (at, suc word) [] (0, 0) i last))
 
 -- a cell that is pushed, unless its word is zero
-pub pushed-new : (place usable : ℕ) (cells : List (ℕ × ℕ)) (i least : ℕ) (pushed now : List (ℕ × ℕ)) → i < length cells →
-    Pushed place usable cells i least pushed → least ≤ address_at cells i → address_at cells i < usable →
-    now ≡ pushed ++ listed (place + address_at cells i) (get_or cells i (0, 0)).1 → Pushed place usable cells (i + 1) (address_at cells i + 1) now
-pushed-new place usable cells i least pushed now l h high new e = record {
-  rest =
-      ap (λ xs. xs ++ kept place usable (address_at cells i + 1) (drop (i + 1) cells)) e
-      ∙ append_assoc pushed (listed (place + address_at cells i) (get_or cells i (0, 0)).1) (kept place usable (address_at cells i + 1) (drop (i + 1) cells))
-      ∙ sym (ap (λ xs. pushed ++ xs) (ap (kept place usable least) (drop_more cells i (0, 0) l) ∙ kept-new place usable least (get_or cells i (0, 0)) (drop (i + 1) cells) high new))
-      ∙ h.rest;
-  past = subst (λ xs. IsPastLast xs (place + (address_at cells i + 1))) (sym e)
-      (let same : place + address_at cells i + 1 ≡ place + (address_at cells i + 1) = omega arith in
-      subst (IsPastLast (pushed ++ listed (place + address_at cells i) (get_or cells i (0, 0)).1)) same
-      (past-listed pushed (place + least) (place + address_at cells i) (get_or cells i (0, 0)).1 h.past (omega arith)));
-}
+pub pushed-new : (place usable : ℕ) (cells : List (ℕ × ℕ)) (i least at next : ℕ) (pushed now : List (ℕ × ℕ)) → i < length cells →
+    Pushed place usable cells i least pushed → least ≤ address_at cells i → address_at cells i < usable → at ≡ place + address_at cells i → next ≡ address_at cells i + 1 →
+    now ≡ pushed ++ listed at (get_or cells i (0, 0)).1 → Pushed place usable cells (i + 1) next now
+pushed-new place usable cells i least at next pushed now l h high new at_is next_is e =
+    subst (λ n. Pushed place usable cells (i + 1) n now) (sym next_is)
+    (go (e ∙ ap (λ n. pushed ++ listed n (get_or cells i (0, 0)).1) at_is))
+  where
+    go : now ≡ pushed ++ listed (place + address_at cells i) (get_or cells i (0, 0)).1 → Pushed place usable cells (i + 1) (address_at cells i + 1) now
+    go e = record {
+      rest =
+          ap (λ xs. xs ++ kept place usable (address_at cells i + 1) (drop (i + 1) cells)) e
+          ∙ append_assoc pushed (listed (place + address_at cells i) (get_or cells i (0, 0)).1) (kept place usable (address_at cells i + 1) (drop (i + 1) cells))
+          ∙ sym (ap (λ xs. pushed ++ xs) (ap (kept place usable least) (drop_more cells i (0, 0) l) ∙ kept-new place usable least (get_or cells i (0, 0)) (drop (i + 1) cells) high new))
+          ∙ h.rest;
+      past = subst (λ xs. IsPastLast xs (place + (address_at cells i + 1))) (sym e)
+          (let same : place + address_at cells i + 1 ≡ place + (address_at cells i + 1) = omega arith in
+          subst (IsPastLast (pushed ++ listed (place + address_at cells i) (get_or cells i (0, 0)).1)) same
+          (past-listed pushed (place + least) (place + address_at cells i) (get_or cells i (0, 0)).1 h.past (omega arith)));
+    }
 
 -- all of them are
 pub pushed-all : (size place usable : ℕ) (cells : List (ℕ × ℕ)) (i least : ℕ) (pushed : List (ℕ × ℕ)) → ((k : ℕ) → k < usable → place + k < size) →
