@@ -1,4 +1,4 @@
--- Which states are those of a pair, and the laws that tie pairs to states.
+-- Which states are those of a pair, as a kind asks it.
 use Rattle.std.specs.Prelude.{◌≡◌, ℕ, ◌<◌, ◌^◌, List, length, All}
 use Rattle.pg_ast.specs.declared.tree.Instr.{Instr}
 use Rattle.pg_ast.specs.declared.tree.Desc.{Desc}
