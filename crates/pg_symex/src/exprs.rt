@@ -11,8 +11,7 @@ ghost use Rattle.pg_symex.specs.FlowView.{flow_as};
 ghost use Rattle.pg_symex.specs.Calls.{IsReady, IsTyped, IsMade, IsValue, Adds, expr_cost};
 
 use crate::entry::Entry;
-use crate::gates::bit_0;
-use crate::guards::{Guards, access};
+use crate::guards::{Guards, access, bit_0};
 use crate::lets::Lets;
 use crate::literal::literal;
 use crate::names::name_gates;

@@ -3,14 +3,14 @@
 ghost use Rattle.std.specs.Prelude.{◌≡◌, ◌+◌, ◌^◌, ◌<◌, length, List, OnOk};
 ghost use Rattle.pg_cells.specs.declared.cell.Cell.{Cell};
 ghost use Rattle.pg_vec.specs.AddsNodes.{AddsNodes};
-ghost use Rattle.pg_symex.specs.Exprs.{guarded_made, access_made};
+ghost use Rattle.pg_symex.specs.Exprs.{bit_0, guarded_made, access_made};
 ghost use Rattle.pg_symex.specs.EntryView.{entry_as};
 ghost use Rattle.pg_symex.specs.FlowView.{flow_as};
 ghost use Rattle.pg_symex.specs.There.{AreBits};
 
 use crate::entry::Entry;
-use crate::gates::{and, bit_0, or};
 use pg_circuit::{Circuit, Gate};
+use pg_vec::gate::{and, or};
 use pg_vec::{Bits, ops};
 use std::alloc::{AllocError, Global};
 
@@ -19,6 +19,13 @@ use std::alloc::{AllocError, Global};
 pub struct Guards {
     pub live: Gate,
     pub mem_trap: Gate,
+}
+
+/// The gate of bit 0.
+pub fn bit_0(bits: &Bits) -> Gate
+    ensures { result ≡ bit_0 bits.now }
+{
+    bits.as_slice()[0]
 }
 
 /// The guards after an access that is usable where a gate is true. The error is want of memory.

@@ -14,13 +14,12 @@
 //!
 //! - `symbolic`: the call. `regs`: registers as gates. `entry`: what a body reads.
 //! - `stmts`: statements, blocks and ifs. `run`: a body under way, and single statements.
-//! - `exprs`: expressions. `guards`: accesses. `operate`, `names`, `literal`, `gates`: what they are made of. `lets`: lets.
+//! - `exprs`: expressions. `guards`: accesses. `operate`, `names`, `literal`: what they are made of. `lets`: lets.
 //! - `laws`: what the gates mean.
 #![tactic(auto)]
 
 mod entry;
 mod exprs;
-mod gates;
 mod guards;
 pub mod laws;
 mod lets;

@@ -13,13 +13,13 @@ ghost use Rattle.pg_symex.specs.RunView.{run_as, IsUnderWay, IsTaken};
 
 use crate::entry::Entry;
 use crate::exprs::expr;
-use crate::gates::or;
 use crate::guards::{Guards, access};
 use crate::lets::Lets;
 use crate::regs::Next;
 use pg_ast::Expr;
 use pg_cells::Touched;
 use pg_circuit::{Circuit, Gate};
+use pg_vec::gate::or;
 use pg_vec::{Bits, ops};
 use std::alloc::{AllocError, Global};
 

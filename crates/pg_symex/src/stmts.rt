@@ -15,11 +15,12 @@ ghost use Rattle.pg_symex.specs.Calls.{AddsFew, stmts_cost};
 ghost use Rattle.pg_symex.specs.RunView.{run_as, IsUnderWay, Fares, FaresInBlock, IsDone};
 
 use crate::entry::Entry;
-use crate::gates::{and, bit_0, or};
+use crate::guards::bit_0;
 use crate::run::{Run, assign, store, take, trap};
 use pg_ast::{Stmt, StmtList};
 use pg_cells::Touched;
 use pg_circuit::{Circuit, Gate};
+use pg_vec::gate::{and, or};
 use std::alloc::{AllocError, Global};
 
 /// Makes a statement of a body under way. The error is want of memory.

@@ -1,0 +1,19 @@
+//! Tests of bodies as gates, against the interpreter, of public calls alone.
+//!
+//! A body is executed by the interpreter over the cells of a storage, and its gates are evaluated on that storage: both say
+//! the same of the traps, of the registers that follow and of the cells. That it is so for every body and all inputs is
+//! proved; here it is seen that the definitions of the proof mean what `execute` does.
+//!
+//! - `bodies`: bodies, words, states and storages.
+//! - `interpreted`: what the interpreter says. It alone tells what is due.
+//! - `gates`: a run as gates. `told`: what its gates say of a storage.
+#![tactic(auto)]
+
+#[cfg(test)]
+mod bodies;
+#[cfg(test)]
+mod gates;
+#[cfg(test)]
+mod interpreted;
+#[cfg(test)]
+mod told;
