@@ -53,9 +53,9 @@ unfolding walk
 walk-quiet set cs [] q w = cc
 walk-quiet set cs (h ∷ hs) q w = walk-stuck set cs h hs (clause_at (map Some cs) h) q refl w
 
-pub never_false : (n : ℕ) (cs : List (List ℤ)) (set lits : List ℤ) (hints : List ℕ) → AreSet n [] set → IsQuiet cs set →
-    IsCut (map Some cs) set (has lits) hints → ⊥
-never_false n cs set lits hints are_set quiet c =
+pub never_false : (n : ℕ) (cs : List (List ℤ)) (set : List ℤ) (wanted : ℤ → Bool) (hints : List ℕ) → AreSet n [] set → IsQuiet cs set →
+    IsCut (map Some cs) set wanted hints → ⊥
+never_false n cs set wanted hints are_set quiet c =
     walk-quiet set cs hints (quiet-readings n set are_set cs quiet)
     (c.leads set (true_if_set n set are_set) (λ y h. set_if_false set y (c.are_false y h))).walks
 

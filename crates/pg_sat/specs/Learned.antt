@@ -27,12 +27,13 @@ pub record IsAsserting (set : List ℤ) (z : ℤ) (lits : List ℤ) : Type 0 whe
   pub unset : value_of set (neg_ℤ z) ≡ None
   pub others : (y : ℤ) → has lits y ≡ true → neg_ℤ z ≢ y → value_of set y ≡ Some false
 
--- of a conflict behind a place where nothing was left to propagate: a step from the literals up to a later place, new to unit
--- propagation, that sets the negation of the one there
+-- of a conflict behind a place where nothing was left to propagate: a step, new to unit propagation, that sets the negation
+-- of the literal at a later place
 pub record IsTaught (variables : ℕ) (clauses : List (List ℤ)) (literals : List ℤ) (last place : ℕ) (step : Step) : Type 0 where
   pub from : last ≤ place
   pub there : place < length literals
-  pub learned : IsLearnedWithin variables clauses (take (place + 1) literals) step
+  pub set : List ℤ
+  pub learned : IsLearnedWithin variables clauses set step
   pub asserting : IsAsserting (take last literals) (slice_index_or literals place (pos 0)) step.lits
   pub fresh : IsNew clauses step.lits
   pub uncovered : is_covered (map Some clauses) step.lits ≡ false

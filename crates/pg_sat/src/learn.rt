@@ -12,7 +12,8 @@ ghost use Rattle.pg_sat.specs.Learned.{IsLearnedWithin, IsTaught};
 
 use crate::draw::step_of;
 use crate::guide::Guide;
-use crate::trace::{trace_back, trace_to_lone};
+use crate::shrink::shrink;
+use crate::trace::{Lone, trace_back, trace_to_lone};
 use pg_proof::Step;
 use pg_watch::Watches;
 use std::alloc::{AllocError, Global};
@@ -43,11 +44,10 @@ pub fn learn_at(
 {
     let _trail = watches.trail();
     let lone = trace_to_lone(alloc, watches, variables, conflict, last, guide)?;
-    let step = step_of(alloc, &lone.trace, variables)?;
-    Ok(Learned {
-        step,
-        place: lone.place,
-    })
+    let Lone { mut trace, place } = lone;
+    shrink(watches, variables, place, &mut trace)?;
+    let step = step_of(alloc, &trace, variables)?;
+    Ok(Learned { step, place })
 }
 
 /// The step of the empty clause, that a conflict shows where no literal was assigned. The error is want of memory.

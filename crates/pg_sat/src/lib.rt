@@ -21,6 +21,7 @@ mod jump;
 mod learn;
 mod pace;
 mod search;
+mod shrink;
 mod solver;
 mod trace;
 mod turn;

@@ -23,14 +23,14 @@ pub cut_place-requires-clause-within : goal.cut_place-requires-clause-within
 cut_place-requires-clause-within c =
     let old = c.args.watches.now in
     lits_within c.args.cnf.now.clauses c.args.cnf.now.variables old.clauses old.trail c.args.steps.now.items c.requires.solving
-    (take (c.in_ok-learned.learned.place + 1) old.trail.literals) c.in_ok-learned.learned.step c.in_ok-learned.ensures.learned
+    c.in_ok-learned.ensures.set c.in_ok-learned.learned.step c.in_ok-learned.ensures.learned
 
 pub clause_of-requires : goal.clause_of-requires
 clause_of-requires c =
     let old = c.args.watches.now in
     subst (IsClause 2147483647) (sym c.as_slice.ensures)
     (lits_clause c.args.cnf.now.clauses c.args.cnf.now.variables old.clauses old.trail c.args.steps.now.items c.requires.solving
-    (take (c.in_ok-learned.learned.place + 1) old.trail.literals) c.in_ok-learned.learned.step c.in_ok-learned.ensures.learned 2147483647 (omega (arith, c.requires.solving.over.few)))
+    c.in_ok-learned.ensures.set c.in_ok-learned.learned.step c.in_ok-learned.ensures.learned 2147483647 (omega (arith, c.requires.solving.over.few)))
 
 pub add-requires-clause-clause : goal.add-requires-clause-clause
 add-requires-clause-clause c =
@@ -39,7 +39,7 @@ add-requires-clause-clause c =
     subst (λ (n : ℕ). IsClause n c.in_ok-clause.clause) (sym same)
     (subst (IsClause c.args.cnf.now.variables) (sym (c.in_ok-clause.ensures ∙ c.as_slice.ensures))
     (lits_clause c.args.cnf.now.clauses c.args.cnf.now.variables old.clauses old.trail c.args.steps.now.items c.requires.solving
-    (take (c.in_ok-learned.learned.place + 1) old.trail.literals) c.in_ok-learned.learned.step c.in_ok-learned.ensures.learned c.args.cnf.now.variables (omega arith)))
+    c.in_ok-learned.ensures.set c.in_ok-learned.learned.step c.in_ok-learned.ensures.learned c.args.cnf.now.variables (omega arith)))
 
 pub returns-clause-solving : goal.returns-clause-solving
 returns-clause-solving c =
@@ -58,7 +58,7 @@ returns-clause-solving c =
     if_done c.settle.result (Extends c.add.new.self.trail c.settle.new.self.trail)
     (IsSolving cnf.clauses cnf.variables c.settle.new.self.clauses c.settle.new.self.trail c.push.new.self.items) c.settle.ensures.trail
     (λ extends. subst (λ (ss : List Step). IsSolving cnf.clauses cnf.variables c.settle.new.self.clauses c.settle.new.self.trail ss) (sym c.in_ok-push.ensures.items)
-    (backed cnf.clauses cnf.variables old.clauses old.trail c.args.steps.now.items c.requires.solving (take (c.in_ok-learned.learned.place + 1) old.trail.literals) step
+    (backed cnf.clauses cnf.variables old.clauses old.trail c.args.steps.now.items c.requires.solving c.in_ok-learned.ensures.set step
     c.in_ok-learned.ensures.learned c.settle.new.self.clauses c.settle.new.self.trail jump (slice_index_or old.trail.literals c.in_ok-learned.learned.place (pos 0))
     (take c.args.last old.trail.literals) c.trail-trail.ensures.right c.in_ok-learned.ensures.asserting c.in_ok-learned.ensures.fresh c.in_ok-learned.ensures.uncovered
     c.in_ok-jump.ensures (c.settle.ensures.clauses ∙ held) right (subst (λ (t : Trail). Extends t c.settle.new.self.trail) cut_trail extends)))
