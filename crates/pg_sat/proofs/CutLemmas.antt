@@ -5,7 +5,7 @@ use Rattle.std.proofs.Math.IntN.{neg_ℤ-neg_ℤ}
 use Rattle.std.proofs.lemmas.Bool.Decides.{Decides-int_eq}
 use Rattle.pg_cnf.specs.Literals.{AreDistinct}
 use Rattle.pg_watch.specs.Trail.{value_of}
-use Rattle.pg_watch.proofs.Values.{value_of-push_same, value_of-push_other, value_of-after_some, value_of-unset_neg}
+use Rattle.pg_watch.proofs.Values.{value_of-push_same, value_of-push_other, value_of-unset_neg}
 use Rattle.pg_proof.specs.declared.propagation.Reading.{Reading}
 use Rattle.pg_proof.specs.declared.propagation.Reading.TheVariants.{Falsified, Unit}
 use Rattle.pg_proof.specs.Places.{has}
@@ -76,17 +76,25 @@ none-differs o b e f = let g : None ≡ Some b = sym e ∙ f in cc
 swap_neg : (z y : ℤ) → z ≡ neg_ℤ y → y ≡ neg_ℤ z
 swap_neg z y e = sym (ap neg_ℤ e ∙ neg_ℤ-neg_ℤ y)
 
-module _ (held : List (Option (List ℤ))) (set : List ℤ) (z : ℤ) (nonzero : 0 < nat_abs z) (unset : value_of set z ≡ None) where
+-- a literal is set, and else all is as it was
+module _ (held : List (Option (List ℤ))) (set full : List ℤ) (z : ℤ) (nonzero : 0 < nat_abs z) (unset : value_of set z ≡ None) (is_set : value_of full z ≡ Some true)
+    (same : (y : ℤ) → z ≢ y → z ≢ neg_ℤ y → value_of full y ≡ value_of set y) where
   -- what was false before a literal was set
-  pub before_push : (y : ℤ) → y ≢ neg_ℤ z → value_of (set ++ z ∷ []) y ≡ Some false → value_of set y ≡ Some false
-  before_push y d f =
-      sym (value_of-push_other set z y
-      (λ e. some-differs (value_of (set ++ z ∷ []) y) (ap (value_of (set ++ z ∷ [])) (sym e) ∙ value_of-push_same set z unset) f)
+  pub before_set : (y : ℤ) → y ≢ neg_ℤ z → value_of full y ≡ Some false → value_of set y ≡ Some false
+  before_set y d f =
+      sym (same y
+      (λ e. some-differs (value_of full y) (ap (value_of full) (sym e) ∙ is_set) f)
       (λ e. d (swap_neg z y e)))
       ∙ f
 
   neg_unset : value_of set (neg_ℤ z) ≡ None
   neg_unset = value_of-unset_neg set z nonzero unset
+
+  stays : (y : ℤ) (b : Bool) → value_of set y ≡ Some b → value_of full y ≡ Some b
+  stays y b e =
+      same y (λ s. none-differs (value_of set z) b unset (ap (value_of set) s ∙ e))
+      (λ s. none-differs (value_of set (neg_ℤ z)) b neg_unset (ap (value_of set) (sym (swap_neg z y s)) ∙ e))
+      ∙ e
 
   not_set : (trail : List ℤ) → AreTrue set trail → has trail z ≡ false
   not_set trail t = false_if (has trail z) (λ e. none-differs (value_of set z) true unset (t z e))
@@ -94,24 +102,24 @@ module _ (held : List (Option (List ℤ))) (set : List ℤ) (z : ℤ) (nonzero :
   neg_not_set : (trail : List ℤ) → AreTrue set trail → has trail (neg_ℤ z) ≡ false
   neg_not_set trail t = false_if (has trail (neg_ℤ z)) (λ e. none-differs (value_of set (neg_ℤ z)) true neg_unset (t (neg_ℤ z) e))
 
-  more_true : (trail : List ℤ) → AreTrue set trail → AreTrue (set ++ z ∷ []) (z ∷ trail)
+  more_true : (trail : List ℤ) → AreTrue set trail → AreTrue full (z ∷ trail)
   more_true trail t y h = by (has-cases z trail y h)
     where
-      by : (z ≡ y) ⊎ (has trail y ≡ true) → value_of (set ++ z ∷ []) y ≡ Some true
-      by (inl e) = ap (value_of (set ++ z ∷ [])) (sym e) ∙ value_of-push_same set z unset
-      by (inr e) = value_of-after_some set (z ∷ []) y true (t y e)
+      by : (z ≡ y) ⊎ (has trail y ≡ true) → value_of full y ≡ Some true
+      by (inl e) = ap (value_of full) (sym e) ∙ is_set
+      by (inr e) = stays y true (t y e)
 
   -- a literal that no wanted one denies may be set or not
-  pub IsCut-passed : (wanted : ℤ → Bool) (hints : List ℕ) → IsCut held (set ++ z ∷ []) wanted hints → wanted (neg_ℤ z) ≡ false → IsCut held set wanted hints
-  IsCut-passed wanted hints cut n = record {
-    are_false = λ y w. before_push y (λ e. (let f : true ≡ false = sym w ∙ ap wanted e ∙ n in cc)) (cut.are_false y w);
+  pub IsCut-unset : (wanted : ℤ → Bool) (hints : List ℕ) → IsCut held full wanted hints → wanted (neg_ℤ z) ≡ false → IsCut held set wanted hints
+  IsCut-unset wanted hints cut n = record {
+    are_false = λ y w. before_set y (λ e. (let f : true ≡ false = sym w ∙ ap wanted e ∙ n in cc)) (cut.are_false y w);
     standing = cut.standing;
-    leads = λ trail t denied. cut.leads trail (λ y h. value_of-after_some set (z ∷ []) y true (t y h)) denied;
+    leads = λ trail t denied. cut.leads trail (λ y h. stays y true (t y h)) denied;
   }
 
   module _ (n : ℕ) (c : List ℤ) (at : clause_at held n ≡ Some c) (distinct : AreDistinct c) (there : has c z ≡ true)
       (others : (y : ℤ) → has c y ≡ true → y ≢ z → value_of set y ≡ Some false)
-      (before after : ℤ → Bool) (hints : List ℕ) (cut : IsCut held (set ++ z ∷ []) before hints) (denied : before (neg_ℤ z) ≡ true)
+      (before after : ℤ → Bool) (hints : List ℕ) (cut : IsCut held full before hints) (denied : before (neg_ℤ z) ≡ true)
       (r : IsResolved before after c z) where
     not_z : (y : ℤ) → after y ≡ true → y ≢ z
     not_z y a e = let f : true ≡ false = sym a ∙ ap after e ∙ r.neither in cc
@@ -119,7 +127,7 @@ module _ (held : List (Option (List ℤ))) (set : List ℤ) (z : ℤ) (nonzero :
     old_false : (y : ℤ) → after y ≡ true → before y ≡ true → (y ≡ neg_ℤ z) ⊎ (y ≢ neg_ℤ z) → value_of set y ≡ Some false
     old_false y a b (inl e) =
         others y (ap (has c) e ∙ r.resolved (ap after (sym e) ∙ a)) (not_z y a)
-    old_false y a b (inr e) = before_push y e (cut.are_false y b)
+    old_false y a b (inr e) = before_set y e (cut.are_false y b)
 
     false_after : (y : ℤ) → after y ≡ true → (has c y ≡ true) ⊎ (before y ≡ true) → value_of set y ≡ Some false
     false_after y a (inl h) = others y h (not_z y a)
@@ -134,11 +142,11 @@ module _ (held : List (Option (List ℤ))) (set : List ℤ) (z : ℤ) (nonzero :
     denied-cases trail d y b (inl e) = subst (λ (x : ℤ). has (z ∷ trail) x ≡ true) (sym (ap neg_ℤ e ∙ neg_ℤ-neg_ℤ z)) (has-first z trail)
     denied-cases trail d y b (inr e) =
         has-later z trail (neg_ℤ y) (d y (r.kept y b
-        (λ s. some-differs (value_of (set ++ z ∷ []) y) (ap (value_of (set ++ z ∷ [])) s ∙ value_of-push_same set z unset) (cut.are_false y b)) e))
+        (λ s. some-differs (value_of full y) (ap (value_of full) s ∙ is_set) (cut.are_false y b)) e))
 
     -- the negation of a literal that is wanted gives way to the others of its reason
-    pub IsCut-resolved : IsCut held set after (n ∷ hints)
-    IsCut-resolved = record {
+    pub IsCut-replaced : IsCut held set after (n ∷ hints)
+    IsCut-replaced = record {
       are_false = λ y a. false_after y a (r.either y a);
       standing = λ y a. standing_after y (r.either y a);
       leads = λ trail t d. (
@@ -151,3 +159,18 @@ module _ (held : List (Option (List ℤ))) (set : List ℤ) (z : ℤ) (nonzero :
             used = used-unit held trail n hints c z at read (cut.standing (neg_ℤ z) denied) rest.used;
           });
     }
+
+-- and it is set last
+module _ (held : List (Option (List ℤ))) (set : List ℤ) (z : ℤ) (nonzero : 0 < nat_abs z) (unset : value_of set z ≡ None) where
+  pub before_push : (y : ℤ) → y ≢ neg_ℤ z → value_of (set ++ z ∷ []) y ≡ Some false → value_of set y ≡ Some false
+  before_push = before_set held set (set ++ z ∷ []) z nonzero unset (value_of-push_same set z unset) (λ y d e. value_of-push_other set z y d e)
+
+  pub IsCut-passed : (wanted : ℤ → Bool) (hints : List ℕ) → IsCut held (set ++ z ∷ []) wanted hints → wanted (neg_ℤ z) ≡ false → IsCut held set wanted hints
+  IsCut-passed = IsCut-unset held set (set ++ z ∷ []) z nonzero unset (value_of-push_same set z unset) (λ y d e. value_of-push_other set z y d e)
+
+  pub IsCut-resolved : (n : ℕ) (c : List ℤ) → clause_at held n ≡ Some c → AreDistinct c → has c z ≡ true →
+      ((y : ℤ) → has c y ≡ true → y ≢ z → value_of set y ≡ Some false) → (before after : ℤ → Bool) (hints : List ℕ) →
+      IsCut held (set ++ z ∷ []) before hints → before (neg_ℤ z) ≡ true → IsResolved before after c z → IsCut held set after (n ∷ hints)
+  IsCut-resolved n c at distinct there others before after hints cut denied r =
+      IsCut-replaced held set (set ++ z ∷ []) z nonzero unset (value_of-push_same set z unset) (λ y d e. value_of-push_other set z y d e) n c at distinct there others
+      before after hints cut denied r

@@ -25,13 +25,13 @@ none_before : (xs ys : List ℤ) (z : ℤ) (o : Option Bool) → value_of xs z �
 none_before xs ys z None e h = refl
 none_before xs ys z (Some v) e h = absurd (let f : None ≡ Some v = sym h ∙ value_of-after_some xs ys z v e in cc)
 
-unset_front : (set : List ℤ) (d n : ℕ) (z : ℤ) → d ≤ n → value_of (take n set) z ≡ None → value_of (take d set) z ≡ None
+pub unset_front : (set : List ℤ) (d n : ℕ) (z : ℤ) → d ≤ n → value_of (take n set) z ≡ None → value_of (take d set) z ≡ None
 unset_front set d n z le h =
     let front : take d (take n set) ≡ take d set = take-take d n set le in
     none_before (take d set) (drop d (take n set)) z (value_of (take d set) z) refl
     (ap (λ (xs : List ℤ). value_of (xs ++ drop d (take n set)) z) (sym front) ∙ ap (λ (xs : List ℤ). value_of xs z) (take-append-drop d (take n set)) ∙ h)
 
-set_back : (set : List ℤ) (d n : ℕ) (z : ℤ) (v : Bool) → d ≤ n → value_of (take d set) z ≡ Some v → value_of (take n set) z ≡ Some v
+pub set_back : (set : List ℤ) (d n : ℕ) (z : ℤ) (v : Bool) → d ≤ n → value_of (take d set) z ≡ Some v → value_of (take n set) z ≡ Some v
 set_back set d n z v le h =
     let front : take d (take n set) ≡ take d set = take-take d n set le in
     ap (λ (xs : List ℤ). value_of xs z) (sym (take-append-drop d (take n set)))
@@ -53,7 +53,7 @@ open_two set lits u w d hu hw nu nw = record {
 abbrev pub NoneBetween : Trail → ℕ → ℕ → Type 0
 NoneBetween t at jump = (d : ℕ) → IsAssigned t d → at ≤ d → jump ≤ d
 
-cases_le : (a d : ℕ) → a ≤ d → (a ≡ d) ⊎ (a + 1 ≤ d)
+pub cases_le : (a d : ℕ) → a ≤ d → (a ≡ d) ⊎ (a + 1 ≤ d)
 cases_le a d le = by (cases_lt a d)
   where
     by : (a < d) ⊎ (d ≤ a) → (a ≡ d) ⊎ (a + 1 ≤ d)
@@ -68,15 +68,25 @@ none_more t at jump n lt e h d a le = by (cases_le at d le)
         absurd (let f : Some (Some n) ≡ Some None = ap Some (sym e) ∙ sym (slice_get-get_or t.reasons at None lt) ∙ ap (slice_get t.reasons) s ∙ a in cc)
     by (inr l) = h d a l
 
+-- all that were assigned stand behind it
+pub all_later : (t : Trail) (at n : ℕ) → at < length t.reasons → get_or t.reasons at None ≡ Some n → ((d : ℕ) → IsAssigned t d → at ≤ d) →
+    (d : ℕ) → IsAssigned t d → at + 1 ≤ d
+all_later t at n lt e h d a = by (cases_le at d (h d a))
+  where
+    by : (at ≡ d) ⊎ (at + 1 ≤ d) → at + 1 ≤ d
+    by (inl s) =
+        absurd (let f : Some (Some n) ≡ Some None = ap Some (sym e) ∙ sym (slice_get-get_or t.reasons at None lt) ∙ ap (slice_get t.reasons) s ∙ a in cc)
+    by (inr l) = l
+
 -- the literal at a place is wanted
-module _ (cs : List (List ℤ)) (t : Trail) (lits : List ℤ) (last at jump : ℕ) (right : IsTrail cs t) (lt : last < length t.literals)
-    (asserts : IsAsserting (take last t.literals) (get_or t.literals last (pos 0)) lits) (below : at < last) (assigned : IsAssigned t jump)
+module _ (cs : List (List ℤ)) (t : Trail) (lits : List ℤ) (last at jump : ℕ) (z : ℤ) (right : IsTrail cs t) (lt : last < length t.literals)
+    (asserts : IsAsserting (take last t.literals) z lits) (below : at < last) (assigned : IsAssigned t jump)
     (between : NoneBetween t (at + 1) jump) where
   abbrev here : ℤ
   here = get_or t.literals at (pos 0)
 
   abbrev uip : ℤ
-  uip = neg_ℤ (get_or t.literals last (pos 0))
+  uip = neg_ℤ z
 
   at_here : IsAt t.variables (take at t.literals) here
   at_here = AreSet-at t.variables t.literals at (pos 0) right.set (omega arith)

@@ -53,56 +53,16 @@ unfolding walk
 walk-quiet set cs [] q w = cc
 walk-quiet set cs (h ∷ hs) q w = walk-stuck set cs h hs (clause_at (map Some cs) h) q refl w
 
-module _ (n : ℕ) (cs : List (List ℤ)) (set : List ℤ) (z : ℤ) (lits : List ℤ) (hints : List ℕ) (are_set : AreSet n [] set) (nonzero : 0 < nat_abs z)
-    (unset : value_of set z ≡ None) (quiet : IsQuiet cs set) (cut : IsCut (map Some cs) (set ++ z ∷ []) (has lits) hints) where
-  never_false : IsCut (map Some cs) set (has lits) hints → ⊥
-  never_false c =
-      walk-quiet set cs hints (quiet-readings n set are_set cs quiet)
-      (c.leads set (true_if_set n set are_set) (λ y h. set_if_false set y (c.are_false y h))).walks
-
-  is_there : (b : Bool) → has lits (neg_ℤ z) ≡ b → b ≡ true
-  is_there true e = refl
-  is_there false e = absurd (never_false (IsCut-passed (map Some cs) set z nonzero unset (has lits) hints cut e))
-
-  pub asserting : IsAsserting set z lits
-  asserting = record {
-    there = is_there (has lits (neg_ℤ z)) refl;
-    unset = value_of-unset_neg set z nonzero unset;
-    others = λ y h d. before_push (map Some cs) set z nonzero unset y (λ e. d (sym e)) (cut.are_false y h);
-  }
-
-  pub is_new : IsNew cs lits
-  is_new = IsNew-quiet n set are_set cs lits (neg_ℤ z) quiet asserting.there asserting.unset asserting.others
+pub never_false : (n : ℕ) (cs : List (List ℤ)) (set : List ℤ) (wanted : ℤ → Bool) (hints : List ℕ) → AreSet n [] set → IsQuiet cs set →
+    IsCut (map Some cs) set wanted hints → ⊥
+never_false n cs set wanted hints are_set quiet c =
+    walk-quiet set cs hints (quiet-readings n set are_set cs quiet)
+    (c.leads set (true_if_set n set are_set) (λ y h. set_if_false set y (c.are_false y h))).walks
 
 -- clauses over variables have places
 pub held_within : (n : ℕ) (cs : List (List ℤ)) → AreClauses n cs → AreHeldWithin (2 * n + 2) (map Some cs)
 held_within n [] h = tt
 held_within n (c ∷ cs) h = (AreWithin-literals n c h.0.within, held_within n cs h.1)
-
--- with the last literal that was assigned
-module _ (variables : ℕ) (cs : List (List ℤ)) (t : Trail) (last : ℕ) (over : IsOver variables cs t) (right : IsTrail cs t) (lt : last < length t.literals)
-    (quiet : IsQuiet cs (take last t.literals)) (step : Step) (h : IsLearnedWithin variables cs (take (last + 1) t.literals) step) where
-  abbrev last_literal : ℤ
-  last_literal = get_or t.literals last (pos 0)
-
-  last_at : IsAt t.variables (take last t.literals) last_literal
-  last_at = AreSet-at t.variables t.literals last (pos 0) right.set lt
-
-  last_cut : IsCut (map Some cs) (take last t.literals ++ last_literal ∷ []) (has step.lits) step.hints
-  last_cut =
-      subst (λ (set : List ℤ). IsCut (map Some cs) set (has step.lits) step.hints) (take_more t.literals last (pos 0) lt)
-      (h variables (omega arith) (held_within variables cs over.right)).cut
-
-  pub at_last : IsAsserting (take last t.literals) (get_or t.literals last (pos 0)) step.lits
-  at_last =
-      asserting t.variables cs (take last t.literals) last_literal step.lits step.hints (IsTrail-cut cs t last right).set last_at.literal.0 last_at.unset quiet last_cut
-
-  pub new_at_last : IsNew cs step.lits
-  new_at_last =
-      is_new t.variables cs (take last t.literals) last_literal step.lits step.hints (IsTrail-cut cs t last right).set last_at.literal.0 last_at.unset quiet last_cut
-
-  pub not_covered_at_last : is_covered (map Some cs) step.lits ≡ false
-  not_covered_at_last = new_not_covered variables cs step.lits over.right new_at_last
 
 -- with none
 none_false : (lits : List ℤ) → ((y : ℤ) → has lits y ≡ true → value_of [] y ≡ Some false) → lits ≡ []

@@ -7,6 +7,8 @@ pub mod StepLemmas
 pub mod NewLemmas
 pub mod Drawn
 pub mod LearnLemmas
+pub mod LoneLemmas
+pub mod ThinLemmas
 pub mod JumpLemmas
 pub mod ModelLemmas
 pub mod LogLemmas

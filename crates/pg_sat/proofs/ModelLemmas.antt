@@ -88,3 +88,7 @@ free_neg n set v z lt le e f =
       literal = (omega (arith, nat_abs-neg (pos v)), omega (arith, nat_abs-neg (pos v)));
       unset = value_of-unset_neg set (pos v) lt (sym e);
     })
+
+-- and itself
+pub free_pos : (n : ℕ) (set : List ℤ) (v : ℕ) (z : ℤ) → 0 < v → v ≤ n → None ≡ value_of set (pos v) → z ≡ pos v → IsFree n set z
+free_pos n set v z lt le e f = subst (IsFree n set) (sym f) (record { literal = (omega arith, omega arith); unset = sym e })

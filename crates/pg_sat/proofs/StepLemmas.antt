@@ -214,7 +214,7 @@ module _ (variables within : ℕ) (held : List (Option (List ℤ))) (set : List 
       let e = swapped_value set y (each_within y m).nonzero (cut.are_false (neg_ℤ y) k) in
       let f : Some true ≡ Some false = sym e ∙ cut.are_false y m in cc
 
-  marked_of : (y : ℤ) → has step.lits y ≡ true → is_marked flags y ≡ true
+  pub marked_of : (y : ℤ) → has step.lits y ≡ true → is_marked flags y ≡ true
   marked_of y h = listed-marked flags variables 1 y (ap (λ (c : List ℤ). has c y) (sym is_lits) ∙ h)
 
   pub listed_of : (y : ℤ) → is_marked flags y ≡ true → has step.lits y ≡ true

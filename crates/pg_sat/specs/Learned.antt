@@ -1,10 +1,12 @@
 -- What a conflict teaches.
-use Rattle.std.specs.Prelude.{◌≡◌, ◌≢◌, ℕ, ◌+◌, ◌*◌, ◌≤◌, true, false, ℤ, neg_ℤ, List, map, Some, None}
+use Rattle.std.specs.Prelude.{◌≡◌, ◌≢◌, ℕ, ◌+◌, ◌*◌, ◌<◌, ◌≤◌, true, false, ℤ, pos, neg_ℤ, List, length, map, take, Some, None, slice_index_or}
 use Rattle.pg_proof.specs.declared.step.Step.{Step}
 use Rattle.pg_proof.specs.State.{AreHeldWithin}
 use Rattle.pg_proof.specs.Refutation.{fault_of}
 use Rattle.pg_proof.specs.Tight.{is_tight}
 use Rattle.pg_proof.specs.Places.{has}
+use Rattle.pg_proof.specs.New.{IsNew}
+use Rattle.pg_proof.specs.Covered.{is_covered}
 use Rattle.pg_watch.specs.Trail.{value_of}
 use Rattle.pg_sat.specs.Cut.{IsCut}
 
@@ -24,3 +26,14 @@ pub record IsAsserting (set : List ℤ) (z : ℤ) (lits : List ℤ) : Type 0 whe
   pub there : has lits (neg_ℤ z) ≡ true
   pub unset : value_of set (neg_ℤ z) ≡ None
   pub others : (y : ℤ) → has lits y ≡ true → neg_ℤ z ≢ y → value_of set y ≡ Some false
+
+-- of a conflict behind a place where nothing was left to propagate: a step, new to unit propagation, that sets the negation
+-- of the literal at a later place
+pub record IsTaught (variables : ℕ) (clauses : List (List ℤ)) (literals : List ℤ) (last place : ℕ) (step : Step) : Type 0 where
+  pub from : last ≤ place
+  pub there : place < length literals
+  pub set : List ℤ
+  pub learned : IsLearnedWithin variables clauses set step
+  pub asserting : IsAsserting (take last literals) (slice_index_or literals place (pos 0)) step.lits
+  pub fresh : IsNew clauses step.lits
+  pub uncovered : is_covered (map Some clauses) step.lits ≡ false

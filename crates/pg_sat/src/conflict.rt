@@ -7,7 +7,8 @@ ghost use Rattle.pg_watch.specs.Fixes.{IsEnd, is_quiet};
 ghost use Rattle.pg_sat.specs.Jump.{IsLast};
 ghost use Rattle.pg_sat.specs.Solving.{IsSolving};
 
-use crate::jump::jump_place;
+use crate::guide::Guide;
+use crate::jump::cut_place;
 use crate::learn::learn_at;
 use pg_cnf::{Clause, Cnf};
 use pg_proof::Step;
@@ -34,6 +35,7 @@ pub fn back(
     cnf: &Cnf,
     watches: &mut Watches,
     steps: &mut Vec<Step>,
+    guide: &mut Guide,
     conflict: u32,
     last: usize,
 ) -> Result<Fix, AllocError>
@@ -47,12 +49,24 @@ pub fn back(
     ensures steps { OnOk result (length steps.new.items ≡ length steps.old.items + 1) }
 {
     let _trail = watches.trail();
-    let step = learn_at(alloc, watches, cnf.variables, conflict, last)?;
-    let jump = jump_place(alloc, watches, cnf.variables, step.lits.as_slice(), last)?;
-    let clause = clause_of(alloc, step.lits.as_slice())?;
-    steps.push(step)?;
+    let learned = learn_at(alloc, watches, cnf.variables, conflict, last, guide)?;
+    let anew = guide.end_conflict();
+    let jump = cut_place(alloc, watches, cnf.variables, &learned, last, anew)?;
+    let clause = clause_of(alloc, learned.step.lits.as_slice())?;
+    steps.push(learned.step)?;
+    free_from(watches, jump, guide)?;
     watches.undo(jump);
     watches.add(&clause)?;
     let _cut = watches.trail();
     watches.settle()
+}
+
+/// Tells a guide which literals get unset where the trail is cut at a place. The error is want of memory.
+fn free_from(watches: &Watches, jump: usize, guide: &mut Guide) -> Result<(), AllocError>
+    requires { jump < length watches.now.trail.literals }
+{
+    for literal in &watches.trail()[jump..] {
+        guide.free(*literal)?;
+    }
+    Ok(())
 }

@@ -1,6 +1,6 @@
 //! What is assigned next, and what an assignment is when all is set.
 
-ghost use Rattle.std.specs.Prelude.{◌≡◌, ◌+◌, ◌<◌, ◌≤◌, IfOk, MatchOption, pos, true};
+ghost use Rattle.std.specs.Prelude.{◌≡◌, ◌+◌, ◌<◌, ◌≤◌, IfOk, IfSome, MatchOption, pos, true};
 ghost use Rattle.pg_cnf.specs.Literals.{AreClauses};
 ghost use Rattle.pg_cnf.specs.Truth.{clauses_true};
 ghost use Rattle.pg_watch.specs.Trail.{IsQuiet, value_of};
@@ -8,8 +8,44 @@ ghost use Rattle.pg_sat.specs.Trace.{IsOver};
 ghost use Rattle.pg_sat.specs.Models.{IsFree, AreAllSet, IsRead, is_true};
 
 use crate::flags::{literal_of, negation};
+use crate::guide::Guide;
 use pg_watch::Watches;
 use std::alloc::{AllocError, Global};
+
+/// The literal of a variable, or its negation, where there is such a variable and it is unset.
+pub fn free_literal(watches: &Watches, variables: u32, variable: u32, positive: bool) -> Option<i32>
+    requires over { IsOver variables watches.now.clauses watches.now.trail }
+    ensures { IfSome result (IsFree variables watches.now.trail.literals) }
+{
+    if variable == 0 {
+        return None;
+    }
+    if variable > variables {
+        return None;
+    }
+    let literal = literal_of(variable);
+    match watches.value(literal) {
+        Some(_) => None,
+        None => {
+            if positive {
+                Some(literal)
+            } else {
+                Some(negation(literal))
+            }
+        }
+    }
+}
+
+/// A literal that is unset, where one is: that of the guide, if it has one.
+pub fn choose(watches: &Watches, guide: &mut Guide, variables: u32) -> Option<i32>
+    requires over { IsOver variables watches.now.clauses watches.now.trail }
+    ensures { MatchOption result (AreAllSet variables watches.now.trail.literals) (IsFree variables watches.now.trail.literals) }
+{
+    match guide.next(watches, variables) {
+        Some(literal) => Some(literal),
+        None => next_unset(watches, variables),
+    }
+}
 
 /// The negation of the first variable that is unset, if one is. It costs the number of variables.
 #[tactic(auto, using(crate::proofs::ModelLemmas::all_set_more))]

@@ -6,6 +6,7 @@ ghost use Rattle.pg_proof.specs.Places.{place, is_marked, IsWithin, AreWithin};
 ghost use Rattle.pg_proof.specs.Marked.{marked};
 ghost use Rattle.pg_sat.specs.Cut.{IsResolved};
 
+use crate::guide::Guide;
 use std::alloc::{AllocError, Global};
 use std::marker::Model;
 
@@ -80,6 +81,17 @@ impl Flags {
     {
         for literal in clause {
             self.put(place(*literal), true);
+        }
+    }
+
+    /// Lets a guide see each literal of a clause whose flag is down.
+    pub fn show(&self, clause: &[i32], guide: &mut Guide)
+        requires { AreWithin (length self.now) clause.now }
+    {
+        for literal in clause {
+            if !self.is_up(place(*literal)) {
+                guide.see(*literal);
+            }
         }
     }
 

@@ -3,15 +3,17 @@
 //! The clause that was learned is unit where the trail is cut before the first literal that was assigned after all but one
 //! of its literals were false. It is looked for from the end of the trail, over places alone.
 
-ghost use Rattle.std.specs.Prelude.{◌≡◌, ◌+◌, ◌*◌, ◌<◌, length, take, IfOk, MatchOption, slice_index_or, neg_ℤ, pos};
-ghost use Rattle.pg_proof.specs.Places.{is_marked, AreWithin};
+ghost use Rattle.std.specs.Prelude.{◌≡◌, ℕ, ◌+◌, ◌*◌, ◌<◌, ◌≤◌, length, take, IfOk, MatchOption, slice_index_or, pos};
+ghost use Rattle.pg_proof.specs.Places.{AreWithin};
 ghost use Rattle.pg_watch.specs.Trail.{AreDerived};
 ghost use Rattle.pg_watch.specs.Assigned.{IsAssigned};
 ghost use Rattle.pg_sat.specs.Trace.{IsOver};
 ghost use Rattle.pg_sat.specs.Learned.{IsAsserting};
 ghost use Rattle.pg_sat.specs.Jump.{IsLast, IsJump};
 
-use crate::flags::{Flags, negation, place};
+use crate::flags::Flags;
+use crate::learn::Learned;
+use crate::trace::is_denied;
 use pg_watch::Watches;
 use std::alloc::{AllocError, Global};
 
@@ -30,36 +32,25 @@ pub fn last_assigned(watches: &Watches) -> Option<usize>
     None
 }
 
-/// Whether the flag of the negation of the literal at a place of the trail is up.
-fn is_denied(watches: &Watches, variables: u32, flags: &Flags, at: usize) -> bool
-    requires over { IsOver variables watches.now.clauses watches.now.trail }
-    requires there { at < length watches.now.trail.literals }
-    requires places { length flags.now ≡ 2 * variables + 2 }
-    ensures { result ≡ is_marked flags.now (neg_ℤ (slice_index_or watches.now.trail.literals at (pos 0))) }
-{
-    let literal = watches.trail()[at];
-    flags.is_up(place(negation(literal)))
-}
-
 /// Where the trail is cut for a clause that was learned: at the first literal that was assigned after all but one of its
 /// literals were false. It costs the length of the trail, and the number of variables. The error is want of memory.
 pub fn jump_place(
     alloc: Global,
     watches: &Watches,
     variables: u32,
-    lits: &[i32],
+    learned: &Learned,
     last: usize,
 ) -> Result<usize, AllocError>
     requires over { IsOver variables watches.now.clauses watches.now.trail }
     requires there { last < length watches.now.trail.literals }
     requires assigned { IsAssigned watches.now.trail last }
-    requires asserting { IsAsserting (take last watches.now.trail.literals) (slice_index_or watches.now.trail.literals last (pos 0)) lits.now }
-    requires within { AreWithin (2 * variables + 2) lits.now }
-    ensures { IfOk result (IsJump watches.now.trail lits.now) }
+    requires asserting { IsAsserting (take last watches.now.trail.literals) (slice_index_or watches.now.trail.literals learned.now.place (pos 0)) learned.now.step.lits }
+    requires within { AreWithin (2 * variables + 2) learned.now.step.lits }
+    ensures { IfOk result (IsJump watches.now.trail learned.now.step.lits) }
 {
     let _trail = watches.trail();
     let mut flags = Flags::new(alloc, variables)?;
-    flags.mark(lits);
+    flags.mark(learned.step.lits.as_slice());
     let mut jump = last;
     let mut at = last;
     while at > 0 {
@@ -73,4 +64,44 @@ pub fn jump_place(
         }
     }
     Ok(jump)
+}
+
+/// The place of the first literal that was assigned, where one was.
+fn first_assigned(watches: &Watches, last: usize) -> usize
+    requires assigned { IsAssigned watches.now.trail last }
+    ensures assigned { IsAssigned watches.now.trail result }
+    ensures first { (d : ℕ) → IsAssigned watches.now.trail d → result ≤ d }
+{
+    let _trail = watches.trail();
+    for place in 0..last {
+        match watches.reason(place) {
+            Some(_) => continue,
+            None => return place,
+        }
+    }
+    last
+}
+
+/// Where the trail is cut after a conflict: before all that was assigned, where the search is to begin anew. The error is want
+/// of memory.
+pub fn cut_place(
+    alloc: Global,
+    watches: &Watches,
+    variables: u32,
+    learned: &Learned,
+    last: usize,
+    anew: bool,
+) -> Result<usize, AllocError>
+    requires over { IsOver variables watches.now.clauses watches.now.trail }
+    requires there { last < length watches.now.trail.literals }
+    requires assigned { IsAssigned watches.now.trail last }
+    requires asserting { IsAsserting (take last watches.now.trail.literals) (slice_index_or watches.now.trail.literals learned.now.place (pos 0)) learned.now.step.lits }
+    requires within { AreWithin (2 * variables + 2) learned.now.step.lits }
+    ensures { IfOk result (IsJump watches.now.trail learned.now.step.lits) }
+{
+    if anew {
+        Ok(first_assigned(watches, last))
+    } else {
+        jump_place(alloc, watches, variables, learned, last)
+    }
 }

@@ -4,11 +4,21 @@ ghost use Rattle.std.specs.Prelude.{◌<◌, ◌^◌, IfOk};
 ghost use Rattle.pg_sat.specs.Answers.{IsAnswer};
 
 use crate::answer::{Answer, StepList};
+use crate::guide::Guide;
 use crate::search::start;
 use crate::turn::{Turned, turn};
 use pg_cnf::Cnf;
 use pg_watch::Watches;
 use std::alloc::{AllocError, Global};
+
+/// What a search took. Nothing is said of it in contracts.
+#[derive(Clone, Copy)]
+pub struct Counts {
+    /// How many clauses were learned, the empty one with them.
+    pub conflicts: u64,
+    /// How many literals were set, by propagation and by decisions.
+    pub set: u64,
+}
 
 /// Looks for an assignment that makes all clauses of a formula true, and learns at most `budget` clauses, fewer than 2^31.
 ///
@@ -16,21 +26,58 @@ use std::alloc::{AllocError, Global};
 /// closed, and before its last step there are at most `budget`, each worth its place and new to unit propagation. `Spent` has
 /// `budget` such steps. The error is want of memory.
 ///
-/// Each conflict costs the trail that it is traced along and the number of variables, and each decision the number of
-/// variables, beside what propagation costs.
+/// Each conflict costs the trail that it is traced along, the reasons that it is traced over and the number of variables, and
+/// each decision the logarithm of that number, beside what propagation costs.
 pub fn solve(alloc: Global, cnf: &Cnf, budget: u32) -> Result<Answer, AllocError>
     requires { budget < 2 ^ 31 }
     ensures { IfOk result (IsAnswer cnf.now.clauses cnf.now.variables budget) }
 {
+    match solve_counted(alloc, cnf, budget) {
+        Ok((answer, _)) => Ok(answer),
+        Err(error) => Err(error),
+    }
+}
+
+/// The same as `solve`, and what the search took.
+pub fn solve_counted(alloc: Global, cnf: &Cnf, budget: u32) -> Result<(Answer, Counts), AllocError>
+    requires { budget < 2 ^ 31 }
+    ensures { IfOk result (λ told. IsAnswer cnf.now.clauses cnf.now.variables budget told.0) }
+{
     let mut watches = Watches::new(alloc, cnf)?;
+    let mut guide = Guide::new(alloc, cnf.variables)?;
     let mut steps = Vec::new(alloc);
     let mut fix = start(cnf, &mut watches)?;
     'search: loop {
-        match turn(alloc, cnf, &mut watches, &mut steps, budget, fix)? {
+        match turn(
+            alloc,
+            cnf,
+            &mut watches,
+            &mut steps,
+            &mut guide,
+            budget,
+            fix,
+        )? {
             Turned::On(next) => fix = next,
-            Turned::Satisfied(assignment) => return Ok(Answer::Sat(assignment)),
-            Turned::Refuted => return Ok(Answer::Unsat(StepList::from_vec(steps))),
-            Turned::Exhausted => return Ok(Answer::Spent(StepList::from_vec(steps))),
+            Turned::Satisfied(assignment) => {
+                let counts = counts_of(&watches, &guide, steps.len());
+                return Ok((Answer::Sat(assignment), counts));
+            }
+            Turned::Refuted => {
+                let counts = counts_of(&watches, &guide, steps.len());
+                return Ok((Answer::Unsat(StepList::from_vec(steps)), counts));
+            }
+            Turned::Exhausted => {
+                let counts = counts_of(&watches, &guide, steps.len());
+                return Ok((Answer::Spent(StepList::from_vec(steps)), counts));
+            }
         }
+    }
+}
+
+/// What a search took, at its end.
+fn counts_of(watches: &Watches, guide: &Guide, steps: usize) -> Counts {
+    Counts {
+        conflicts: steps as u64,
+        set: guide.freed().saturating_add(watches.trail().len() as u64),
     }
 }

@@ -4,11 +4,13 @@
 //! propagated gives way to those that its reason had: the clause resolved with that reason. What is left when the tracing
 //! ends are literals that cannot all be false. The solver learns that.
 
-ghost use Rattle.std.specs.Prelude.{◌≡◌, ◌+◌, ◌*◌, ◌<◌, ◌≤◌, ◌^◌, length, take, drop, IfOk, OnOk, slice_index_or, None};
+ghost use Rattle.std.specs.Prelude.{◌≡◌, ◌+◌, ◌*◌, ◌<◌, ◌≤◌, ◌^◌, length, take, drop, IfOk, OnOk, IfNone, IsTrue, slice_index_or, None, neg_ℤ, pos};
 ghost use Rattle.pg_watch.specs.Trail.{IsConflict, AreDerived, IsSomeNumber};
-ghost use Rattle.pg_sat.specs.Trace.{IsOver, IsTraced};
+ghost use Rattle.pg_proof.specs.Places.{is_marked};
+ghost use Rattle.pg_sat.specs.Trace.{IsOver, IsTraced, AreDown, IsLone};
 
 use crate::flags::{Flags, negation, place};
+use crate::guide::Guide;
 use pg_watch::Watches;
 use std::alloc::{AllocError, Global};
 
@@ -26,13 +28,16 @@ fn begin(
     watches: &Watches,
     variables: u32,
     conflict: u32,
+    guide: &mut Guide,
 ) -> Result<Trace, AllocError>
     requires over { IsOver variables watches.now.clauses watches.now.trail }
     requires conflict { IsConflict watches.now.clauses watches.now.trail.literals conflict }
     ensures { IfOk result (λ trace. IsTraced variables watches.now.clauses watches.now.trail.literals trace.flags trace.hints.items) }
 {
     let mut flags = Flags::new(alloc, variables)?;
-    flags.mark(watches.clause(conflict));
+    let clause = watches.clause(conflict);
+    flags.show(clause, guide);
+    flags.mark(clause);
     let mut hints = Vec::new(alloc);
     hints.push(conflict)?;
     Ok(Trace { flags, hints })
@@ -44,6 +49,7 @@ fn step_back(
     variables: u32,
     at: usize,
     trace: &mut Trace,
+    guide: &mut Guide,
 ) -> Result<(), AllocError>
     requires over { IsOver variables watches.now.clauses watches.now.trail }
     requires there { at < length watches.now.trail.literals }
@@ -57,7 +63,9 @@ fn step_back(
     }
     match watches.reason(at) {
         Some(reason) => {
-            trace.flags.resolve(literal, watches.clause(reason));
+            let clause = watches.clause(reason);
+            trace.flags.show(clause, guide);
+            trace.flags.resolve(literal, clause);
             trace.hints.push(reason)?;
             Ok(())
         }
@@ -73,6 +81,7 @@ pub fn trace_back(
     variables: u32,
     conflict: u32,
     from: usize,
+    guide: &mut Guide,
 ) -> Result<Trace, AllocError>
     requires over { IsOver variables watches.now.clauses watches.now.trail }
     requires conflict { IsConflict watches.now.clauses watches.now.trail.literals conflict }
@@ -80,11 +89,113 @@ pub fn trace_back(
     requires propagated { AreDerived (drop from watches.now.trail.reasons) }
     ensures { IfOk result (λ trace. IsTraced variables watches.now.clauses (take from watches.now.trail.literals) trace.flags trace.hints.items) }
 {
-    let mut trace = begin(alloc, watches, variables, conflict)?;
+    let mut trace = begin(alloc, watches, variables, conflict, guide)?;
     let mut at = watches.trail().len();
     while at > from {
         at -= 1;
-        step_back(watches, variables, at, &mut trace)?;
+        step_back(watches, variables, at, &mut trace, guide)?;
     }
     Ok(trace)
+}
+
+/// Whether the flag of the negation of the literal at a place of the trail is up.
+pub fn is_denied(watches: &Watches, variables: u32, flags: &Flags, at: usize) -> bool
+    requires over { IsOver variables watches.now.clauses watches.now.trail }
+    requires there { at < length watches.now.trail.literals }
+    requires places { length flags.now ≡ 2 * variables + 2 }
+    ensures { result ≡ is_marked flags.now (neg_ℤ (slice_index_or watches.now.trail.literals at (pos 0))) }
+{
+    let literal = watches.trail()[at];
+    flags.is_up(place(negation(literal)))
+}
+
+/// The last place before one, and not before another, whose literal's negation has its flag up.
+fn last_denied(
+    watches: &Watches,
+    variables: u32,
+    flags: &Flags,
+    low: usize,
+    at: usize,
+) -> Option<usize>
+    requires over { IsOver variables watches.now.clauses watches.now.trail }
+    requires there { at < length watches.now.trail.literals }
+    requires places { length flags.now ≡ 2 * variables + 2 }
+    ensures { IfNone result (AreDown flags.now watches.now.trail.literals low at) }
+{
+    let mut place = at;
+    while place > low {
+        place -= 1;
+        if is_denied(watches, variables, flags, place) {
+            return Some(place);
+        }
+    }
+    None
+}
+
+/// Whether the literal at a place is the only one left of those from a lower place on. `denied` is the last place of which
+/// it is known that another is left there, so that no place is looked at twice.
+fn is_lone(
+    watches: &Watches,
+    variables: u32,
+    flags: &Flags,
+    low: usize,
+    at: usize,
+    denied: &mut usize,
+) -> bool
+    requires over { IsOver variables watches.now.clauses watches.now.trail }
+    requires there { at < length watches.now.trail.literals }
+    requires places { length flags.now ≡ 2 * variables + 2 }
+    ensures { IsTrue result → AreDown flags.now watches.now.trail.literals low at }
+{
+    if at > *denied {
+        return false;
+    }
+    if !is_denied(watches, variables, flags, at) {
+        return false;
+    }
+    match last_denied(watches, variables, flags, low, at) {
+        Some(place) => {
+            *denied = place;
+            false
+        }
+        None => true,
+    }
+}
+
+/// What a conflict was traced back to, where of the literals that were set with the last assigned one or after it only that
+/// at a place is left.
+#[derive(Drop)]
+pub struct Lone {
+    pub trace: Trace,
+    pub place: usize,
+}
+
+/// Traces a conflict back until one literal is left of those from a place on, behind which all was propagated: the first
+/// unique implication point. It costs the number of places, and the length of the reasons that are resolved. The error is
+/// want of memory.
+pub fn trace_to_lone(
+    alloc: Global,
+    watches: &Watches,
+    variables: u32,
+    conflict: u32,
+    last: usize,
+    guide: &mut Guide,
+) -> Result<Lone, AllocError>
+    requires over { IsOver variables watches.now.clauses watches.now.trail }
+    requires conflict { IsConflict watches.now.clauses watches.now.trail.literals conflict }
+    requires there { last < length watches.now.trail.literals }
+    requires propagated { AreDerived (drop (last + 1) watches.now.trail.reasons) }
+    ensures { IfOk result (λ lone. IsLone variables watches.now.clauses watches.now.trail.literals last lone.place lone.trace.flags lone.trace.hints.items) }
+{
+    let mut trace = begin(alloc, watches, variables, conflict, guide)?;
+    let mut at = watches.trail().len() - 1;
+    let mut denied = at;
+    while at > last {
+        if is_lone(watches, variables, &trace.flags, last, at, &mut denied) {
+            return Ok(Lone { trace, place: at });
+        }
+        step_back(watches, variables, at, &mut trace, guide)?;
+        at -= 1;
+    }
+    Ok(Lone { trace, place: last })
 }

@@ -13,7 +13,8 @@ ghost use Rattle.pg_sat.specs.Turns.{IsSearching, IsTurned, work_left};
 
 use crate::answer::Assignment;
 use crate::conflict::back;
-use crate::decide::{assignment_of, next_unset};
+use crate::decide::{assignment_of, choose};
+use crate::guide::Guide;
 use crate::jump::last_assigned;
 use crate::learn::refute;
 use crate::search::advance;
@@ -35,12 +36,13 @@ pub enum Turned {
     Exhausted,
 }
 
-/// Assigns the first variable that is unset, or answers that all are set. The error is want of memory.
+/// Assigns a variable that is unset, or answers that all are set. The error is want of memory.
 fn decide(
     alloc: Global,
     cnf: &Cnf,
     watches: &mut Watches,
     steps: &[Step],
+    guide: &mut Guide,
     budget: u32,
 ) -> Result<Turned, AllocError>
     requires solving { IsSolving cnf.now.clauses cnf.now.variables watches.old.clauses watches.old.trail steps.now }
@@ -49,7 +51,7 @@ fn decide(
     requires few { length steps.now ≤ budget }
     ensures { IfOk result (IsTurned cnf.now.clauses cnf.now.variables budget (work_left cnf.now.variables budget watches.old steps.now) watches.new steps.now) }
 {
-    match next_unset(watches, cnf.variables) {
+    match choose(watches, guide, cnf.variables) {
         Some(literal) => {
             let fix = advance(cnf, watches, steps, literal)?;
             let _trail = watches.trail();
@@ -68,6 +70,7 @@ fn close(
     cnf: &Cnf,
     watches: &Watches,
     steps: &mut Vec<Step>,
+    guide: &mut Guide,
     conflict: u32,
 ) -> Result<(), AllocError>
     requires solving { IsSolving cnf.now.clauses cnf.now.variables watches.now.clauses watches.now.trail steps.old.items }
@@ -75,7 +78,7 @@ fn close(
     requires propagated { AreDerived watches.now.trail.reasons }
     ensures { OnOk result (IsRefuted cnf.now.clauses (length steps.old.items) steps.new.items) }
 {
-    let step = refute(alloc, watches, cnf.variables, conflict)?;
+    let step = refute(alloc, watches, cnf.variables, conflict, guide)?;
     steps.push(step)?;
     Ok(())
 }
@@ -86,6 +89,7 @@ fn learn(
     cnf: &Cnf,
     watches: &mut Watches,
     steps: &mut Vec<Step>,
+    guide: &mut Guide,
     budget: u32,
     conflict: u32,
     last: usize,
@@ -97,7 +101,7 @@ fn learn(
     requires budget { budget < 2 ^ 31 }
     ensures { IfOk result (IsTurned cnf.now.clauses cnf.now.variables budget (work_left cnf.now.variables budget watches.old steps.old.items) watches.new steps.new.items) }
 {
-    let fix = back(alloc, cnf, watches, steps, conflict, last)?;
+    let fix = back(alloc, cnf, watches, steps, guide, conflict, last)?;
     Ok(Turned::On(fix))
 }
 
@@ -107,6 +111,7 @@ fn resolve(
     cnf: &Cnf,
     watches: &mut Watches,
     steps: &mut Vec<Step>,
+    guide: &mut Guide,
     budget: u32,
     conflict: u32,
 ) -> Result<Turned, AllocError>
@@ -117,7 +122,7 @@ fn resolve(
     ensures { IfOk result (IsTurned cnf.now.clauses cnf.now.variables budget (work_left cnf.now.variables budget watches.old steps.old.items) watches.new steps.new.items) }
 {
     match last_assigned(watches) {
-        None => match close(alloc, cnf, watches, steps, conflict) {
+        None => match close(alloc, cnf, watches, steps, guide, conflict) {
             Ok(()) => Ok(Turned::Refuted),
             Err(error) => Err(error),
         },
@@ -127,7 +132,7 @@ fn resolve(
                 let _trail = watches.trail();
                 Ok(Turned::Exhausted)
             } else {
-                learn(alloc, cnf, watches, steps, budget, conflict, last)
+                learn(alloc, cnf, watches, steps, guide, budget, conflict, last)
             }
         }
     }
@@ -139,6 +144,7 @@ pub fn turn(
     cnf: &Cnf,
     watches: &mut Watches,
     steps: &mut Vec<Step>,
+    guide: &mut Guide,
     budget: u32,
     fix: Fix,
 ) -> Result<Turned, AllocError>
@@ -147,7 +153,7 @@ pub fn turn(
     ensures { IfOk result (IsTurned cnf.now.clauses cnf.now.variables budget (work_left cnf.now.variables budget watches.old steps.old.items) watches.new steps.new.items) }
 {
     match fix {
-        Fix::Quiet => decide(alloc, cnf, watches, steps.as_slice(), budget),
-        Fix::Conflict(conflict) => resolve(alloc, cnf, watches, steps, budget, conflict),
+        Fix::Quiet => decide(alloc, cnf, watches, steps.as_slice(), guide, budget),
+        Fix::Conflict(conflict) => resolve(alloc, cnf, watches, steps, guide, budget, conflict),
     }
 }

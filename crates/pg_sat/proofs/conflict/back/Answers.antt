@@ -15,55 +15,53 @@ pub learn_at-requires-clause-there : goal.learn_at-requires-clause-there
 learn_at-requires-clause-there c =
     assigned-within c.args.watches.now.clauses c.args.watches.now.trail c.args.last c.trail-trail.ensures.right c.requires.last.assigned
 
-pub jump_place-requires-clause-there : goal.jump_place-requires-clause-there
-jump_place-requires-clause-there c =
+pub cut_place-requires-clause-there : goal.cut_place-requires-clause-there
+cut_place-requires-clause-there c =
     assigned-within c.args.watches.now.clauses c.args.watches.now.trail c.args.last c.trail-trail.ensures.right c.requires.last.assigned
 
-pub jump_place-requires-clause-within : goal.jump_place-requires-clause-within
-jump_place-requires-clause-within c =
+pub cut_place-requires-clause-within : goal.cut_place-requires-clause-within
+cut_place-requires-clause-within c =
     let old = c.args.watches.now in
-    subst (λ (zs : List ℤ). AreWithin (2 * c.args.cnf.now.variables + 2) zs) (sym c.as_slice.ensures)
-    (lits_within c.args.cnf.now.clauses c.args.cnf.now.variables old.clauses old.trail c.args.steps.now.items c.requires.solving
-    (take (c.args.last + 1) old.trail.literals) c.in_ok-step.step c.in_ok-step.ensures.learned)
+    lits_within c.args.cnf.now.clauses c.args.cnf.now.variables old.clauses old.trail c.args.steps.now.items c.requires.solving
+    c.in_ok-learned.ensures.set c.in_ok-learned.learned.step c.in_ok-learned.ensures.learned
 
 pub clause_of-requires : goal.clause_of-requires
 clause_of-requires c =
     let old = c.args.watches.now in
-    subst (IsClause 2147483647) (sym c.as_slice-2.ensures)
+    subst (IsClause 2147483647) (sym c.as_slice.ensures)
     (lits_clause c.args.cnf.now.clauses c.args.cnf.now.variables old.clauses old.trail c.args.steps.now.items c.requires.solving
-    (take (c.args.last + 1) old.trail.literals) c.in_ok-step.step c.in_ok-step.ensures.learned 2147483647 (omega (arith, c.requires.solving.over.few)))
+    c.in_ok-learned.ensures.set c.in_ok-learned.learned.step c.in_ok-learned.ensures.learned 2147483647 (omega (arith, c.requires.solving.over.few)))
 
 pub add-requires-clause-clause : goal.add-requires-clause-clause
 add-requires-clause-clause c =
     let old = c.args.watches.now in
     let same : c.undo.new.self.trail.variables ≡ c.args.cnf.now.variables = ap (λ (t : Trail). t.variables) c.undo.ensures.trail ∙ c.requires.solving.over.same in
     subst (λ (n : ℕ). IsClause n c.in_ok-clause.clause) (sym same)
-    (subst (IsClause c.args.cnf.now.variables) (sym (c.in_ok-clause.ensures ∙ c.as_slice-2.ensures))
+    (subst (IsClause c.args.cnf.now.variables) (sym (c.in_ok-clause.ensures ∙ c.as_slice.ensures))
     (lits_clause c.args.cnf.now.clauses c.args.cnf.now.variables old.clauses old.trail c.args.steps.now.items c.requires.solving
-    (take (c.args.last + 1) old.trail.literals) c.in_ok-step.step c.in_ok-step.ensures.learned c.args.cnf.now.variables (omega arith)))
+    c.in_ok-learned.ensures.set c.in_ok-learned.learned.step c.in_ok-learned.ensures.learned c.args.cnf.now.variables (omega arith)))
 
 pub returns-clause-solving : goal.returns-clause-solving
 returns-clause-solving c =
     let cnf = c.args.cnf.now in
     let old = c.args.watches.now in
-    let step = c.in_ok-step.step in
+    let step = c.in_ok-learned.learned.step in
     let jump = c.in_ok-jump.jump in
     let ds = c.settle.new.self.clauses in
     let cut_trail : c.add.new.self.trail ≡ cut old.trail jump = c.add.ensures.trail ∙ c.undo.ensures.trail in
     let held : c.add.new.self.clauses ≡ old.clauses ++ step.lits ∷ [] =
     c.in_ok-add.ensures.clauses ∙ ap (λ (xs : List (List ℤ)). xs ++ c.in_ok-clause.clause ∷ []) c.undo.ensures.clauses
-    ∙ ap (λ (zs : List ℤ). old.clauses ++ zs ∷ []) (c.in_ok-clause.ensures ∙ c.as_slice-2.ensures) in
+    ∙ ap (λ (zs : List ℤ). old.clauses ++ zs ∷ []) (c.in_ok-clause.ensures ∙ c.as_slice.ensures) in
     let right : IsTrail c.settle.new.self.clauses (cut old.trail jump) =
     subst (λ (xs : List (List ℤ)). IsTrail xs (cut old.trail jump)) (sym c.settle.ensures.clauses)
     (subst (λ (t : Trail). IsTrail c.add.new.self.clauses t) cut_trail c.trail-cut.ensures.right) in
-    let jumps : IsJump old.trail step.lits jump = subst (λ (zs : List ℤ). IsJump old.trail zs jump) c.as_slice.ensures c.in_ok-jump.ensures in
     if_done c.settle.result (Extends c.add.new.self.trail c.settle.new.self.trail)
     (IsSolving cnf.clauses cnf.variables c.settle.new.self.clauses c.settle.new.self.trail c.push.new.self.items) c.settle.ensures.trail
     (λ extends. subst (λ (ss : List Step). IsSolving cnf.clauses cnf.variables c.settle.new.self.clauses c.settle.new.self.trail ss) (sym c.in_ok-push.ensures.items)
-    (backed cnf.clauses cnf.variables old.clauses old.trail c.args.steps.now.items c.requires.solving (take (c.args.last + 1) old.trail.literals) step
-    c.in_ok-step.ensures.learned c.settle.new.self.clauses c.settle.new.self.trail jump (slice_index_or old.trail.literals c.args.last (pos 0))
-    (take c.args.last old.trail.literals) c.trail-trail.ensures.right c.in_ok-step.ensures.asserting c.in_ok-step.ensures.fresh c.in_ok-step.ensures.uncovered
-    jumps (c.settle.ensures.clauses ∙ held) right (subst (λ (t : Trail). Extends t c.settle.new.self.trail) cut_trail extends)))
+    (backed cnf.clauses cnf.variables old.clauses old.trail c.args.steps.now.items c.requires.solving c.in_ok-learned.ensures.set step
+    c.in_ok-learned.ensures.learned c.settle.new.self.clauses c.settle.new.self.trail jump (slice_index_or old.trail.literals c.in_ok-learned.learned.place (pos 0))
+    (take c.args.last old.trail.literals) c.trail-trail.ensures.right c.in_ok-learned.ensures.asserting c.in_ok-learned.ensures.fresh c.in_ok-learned.ensures.uncovered
+    c.in_ok-jump.ensures (c.settle.ensures.clauses ∙ held) right (subst (λ (t : Trail). Extends t c.settle.new.self.trail) cut_trail extends)))
 
 pub undo-requires-clause-within : goal.undo-requires-clause-within
 undo-requires-clause-within c =
@@ -71,3 +69,7 @@ undo-requires-clause-within c =
 
 pub undo-requires-clause-assigned : goal.undo-requires-clause-assigned
 undo-requires-clause-assigned c = get_or_from_slice_get c.args.watches.now.trail.reasons c.in_ok-jump.jump None None c.in_ok-jump.ensures.assigned
+
+pub free_from-requires : goal.free_from-requires
+free_from-requires c =
+    assigned-within c.args.watches.now.clauses c.args.watches.now.trail c.in_ok-jump.jump c.trail-trail.ensures.right c.in_ok-jump.ensures.assigned

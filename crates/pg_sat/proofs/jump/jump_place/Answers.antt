@@ -10,7 +10,7 @@ use Rattle.pg_sat.proofs.jump.jump_place.Goals as goal
 
 pub is_denied-requires-clause-places : goal.is_denied-requires-clause-places
 is_denied-requires-clause-places c =
-    ap length c.mark.ensures ∙ length-marked c.args.lits.now c.in_ok-flags.flags ∙ ap length c.in_ok-flags.ensures
+    ap length c.mark.ensures ∙ length-marked c.as_slice.result.now c.in_ok-flags.flags ∙ ap length c.in_ok-flags.ensures
     ∙ length-replicate (2 * c.args.variables + 2) false
 
 pub returns-then-is_denied : goal.returns-then-is_denied
@@ -18,12 +18,13 @@ returns-then-is_denied c =
     let t = c.args.watches.now.trail in
     let at = c.loop-at.at - 1 in
     let e : c.loop-at.at - 1 + 1 ≡ c.loop-at.at = omega arith in
-    let shown : is_marked c.mark.new.self ≡ has c.args.lits.now =
-    ap is_marked (c.mark.ensures ∙ ap (λ (fs : List Bool). marked fs c.args.lits.now) c.in_ok-flags.ensures)
-    ∙ shows-marked (2 * c.args.variables + 2) c.args.lits.now c.requires.within in
-    let there : has c.args.lits.now (neg_ℤ (slice_index_or t.literals (c.loop-at.at - 1) (pos 0))) ≡ true =
+    let lits = c.args.learned.now.step.lits in
+    let shown : is_marked c.mark.new.self ≡ has lits =
+    ap is_marked (c.mark.ensures ∙ ap (λ (zs : List ℤ). marked c.in_ok-flags.flags zs) c.as_slice.ensures ∙ ap (λ (fs : List Bool). marked fs lits) c.in_ok-flags.ensures)
+    ∙ shows-marked (2 * c.args.variables + 2) lits c.requires.within in
+    let there : has lits (neg_ℤ (slice_index_or t.literals (c.loop-at.at - 1) (pos 0))) ≡ true =
     ap (λ (f : ℤ → Bool). f (neg_ℤ (slice_index_or t.literals (c.loop-at.at - 1) (pos 0)))) (sym shown) ∙ sym c.is_denied.ensures ∙ c.if-is_denied.true in
-    jump_wanted c.args.watches.now.clauses t c.args.lits.now c.args.last (c.loop-at.at - 1) c.loop-at.jump c.trail-trail.ensures.right c.requires.there
+    jump_wanted c.args.watches.now.clauses t lits c.args.last (c.loop-at.at - 1) c.loop-at.jump (slice_index_or t.literals c.args.learned.now.place (pos 0)) c.trail-trail.ensures.right c.requires.there
     c.requires.asserting (omega (arith, c.loop-at.invariant.below)) c.loop-at.invariant.assigned
     (subst (λ (k : ℕ). NoneBetween t k c.loop-at.jump) (sym e) c.loop-at.invariant.between) there
 

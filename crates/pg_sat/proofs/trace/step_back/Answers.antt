@@ -49,8 +49,8 @@ returns-then-not-is_up c =
     ap (λ (k : ℕ). slice_index_or c.args.trace.now.flags k false) (sym p) ∙ sym c.is_up.ensures ∙ c.if-not-is_up.true in
     passed c.args.variables c.args.watches.now.clauses t c.args.at z c.requires.over c.trail.ensures.right c.requires.there is c.args.trace.now.flags c.args.trace.now.hints.items c.requires.traced down
 
-pub clause-requires : goal.clause-requires
-clause-requires c =
+pub clause-clause-requires : goal.clause-clause-requires
+clause-clause-requires c =
     let z = slice_index_or c.trail.result.now c.args.at (pos 0) in
     let t = c.args.watches.now.trail in
     let is : z ≡ slice_index_or t.literals c.args.at (pos 0) = ap (λ (zs : List ℤ). slice_index_or zs c.args.at (pos 0)) c.trail.ensures.literals in
@@ -76,6 +76,18 @@ resolve-requires-clause-here c =
     let fits : SFits w32 z = SFits-literal c.args.variables z c.requires.over.few here.literal in
     simp to_z-of_z (within_places c.args.variables c.args.watches.now.clauses t c.args.at z c.requires.over c.trail.ensures.right c.requires.there is c.args.trace.now.flags c.requires.traced.places)
 
+pub show-requires : goal.show-requires
+show-requires c =
+    let z = slice_index_or c.trail.result.now c.args.at (pos 0) in
+    let t = c.args.watches.now.trail in
+    let is : z ≡ slice_index_or t.literals c.args.at (pos 0) = ap (λ (zs : List ℤ). slice_index_or zs c.args.at (pos 0)) c.trail.ensures.literals in
+    let here = at_place c.args.variables c.args.watches.now.clauses t c.args.at z c.requires.over c.trail.ensures.right c.requires.there is in
+    let fits : SFits w32 z = SFits-literal c.args.variables z c.requires.over.few here.literal in
+    let r : slice_index_or t.reasons c.args.at None ≡ Some c.in-Some.reason = sym c.in-Some.ensures in
+    let clause = reason_clause c.args.variables c.args.watches.now.clauses t c.args.at z c.requires.over c.trail.ensures.right c.requires.there is c.in-Some.reason r in
+    subst (λ (zs : List ℤ). AreWithin (length c.args.trace.now.flags) zs) (sym c.clause-clause.ensures)
+    (subst (λ (k : ℕ). AreWithin k (clause_at c.args.watches.now.clauses c.in-Some.reason)) (sym c.requires.traced.places) (AreWithin-literals c.args.variables (clause_at c.args.watches.now.clauses c.in-Some.reason) clause.within))
+
 pub resolve-requires-clause-within : goal.resolve-requires-clause-within
 resolve-requires-clause-within c =
     let z = slice_index_or c.trail.result.now c.args.at (pos 0) in
@@ -85,7 +97,7 @@ resolve-requires-clause-within c =
     let fits : SFits w32 z = SFits-literal c.args.variables z c.requires.over.few here.literal in
     let r : slice_index_or t.reasons c.args.at None ≡ Some c.in-Some.reason = sym c.in-Some.ensures in
     let clause = reason_clause c.args.variables c.args.watches.now.clauses t c.args.at z c.requires.over c.trail.ensures.right c.requires.there is c.in-Some.reason r in
-    subst (λ (zs : List ℤ). AreWithin (length c.args.trace.now.flags) zs) (sym c.clause.ensures)
+    subst (λ (zs : List ℤ). AreWithin (length c.args.trace.now.flags) zs) (sym c.clause-clause.ensures)
     (subst (λ (k : ℕ). AreWithin k (clause_at c.args.watches.now.clauses c.in-Some.reason)) (sym c.requires.traced.places) (AreWithin-literals c.args.variables (clause_at c.args.watches.now.clauses c.in-Some.reason) clause.within))
 
 pub returns-in_ok-push-in-Some : goal.returns-in_ok-push-in-Some
@@ -107,5 +119,5 @@ returns-in_ok-push-in-Some c =
     let res = simp to_z-of_z at c.resolve.ensures.resolved in
     resolved c.args.variables c.args.watches.now.clauses t c.args.at z c.requires.over c.trail.ensures.right c.requires.there is c.in-Some.reason r
     c.args.trace.now.flags c.resolve.new.self c.args.trace.now.hints.items c.push.new.self.items c.requires.traced up
-    (subst (λ (zs : List ℤ). IsResolved (is_marked c.args.trace.now.flags) (is_marked c.resolve.new.self) zs z) c.clause.ensures res)
+    (subst (λ (zs : List ℤ). IsResolved (is_marked c.args.trace.now.flags) (is_marked c.resolve.new.self) zs z) c.clause-clause.ensures res)
     c.resolve.ensures.places c.in_ok-push-in-Some.ensures.items

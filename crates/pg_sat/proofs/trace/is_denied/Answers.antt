@@ -5,7 +5,7 @@ use Rattle.pg_proof.specs.Places.{place, is_marked}
 use Rattle.pg_proof.proofs.MarkedLemmas.{place-below}
 use Rattle.pg_sat.proofs.FlagLemmas.{IsWithin-neg, SFits-neg, SFits-literal}
 use Rattle.pg_sat.proofs.TraceLemmas.{at_place, within_places}
-use Rattle.pg_sat.proofs.jump.is_denied.Goals as goal
+use Rattle.pg_sat.proofs.trace.is_denied.Goals as goal
 
 pub negation-requires : goal.negation-requires
 negation-requires c =

@@ -1,0 +1,176 @@
+//! Solves a formula of a file in the format DIMACS CNF, and checks the log of its steps where that is asked.
+//!
+//!     pg_solve FILE [BUDGET] [--check]
+//!
+//! `dimacs` reads the file; `pg_sat` solves, and learns at most BUDGET clauses; `pg_proof` checks. What is written is what
+//! solvers write, so that this one can be run beside others. Nothing that `pgv` does stands on this program.
+#![tactic(auto)]
+
+mod dimacs;
+mod log;
+mod request;
+
+use crate::dimacs::{DimacsFault, read};
+use crate::log::is_taken;
+use crate::request::{Request, asked_by};
+use pg_cnf::Cnf;
+use pg_proof::Step;
+use pg_sat::{Answer, Counts, solve_counted};
+use std::alloc::{AllocError, Global};
+use std::fmt::Write;
+use std::io::ErrorKind;
+use std::process::ExitCode;
+use std::{env, fs};
+use thiserror::Error;
+
+/// Why there is no answer, or not all of it is written.
+#[derive(Debug, Drop, Error)]
+enum Fault {
+    /// The words behind the program's name are others.
+    #[error("usage: pg_solve FILE [BUDGET] [--check]")]
+    Usage,
+    /// No file has the name.
+    #[error("no such file")]
+    Missing,
+    /// The file could not be read, or it is no text.
+    #[error("the file could not be read")]
+    Unread,
+    /// The text is no formula.
+    #[error("{0}")]
+    Text(DimacsFault),
+    /// The log is not closed.
+    #[error("the log is refused")]
+    Refused,
+    /// Memory ran out.
+    #[error("out of memory")]
+    Memory,
+    /// A line could not be written.
+    #[error("standard output could not be written")]
+    Output,
+}
+
+impl From<AllocError> for Fault {
+    fn from(_error: AllocError) -> Fault {
+        Fault::Memory
+    }
+}
+
+impl From<DimacsFault> for Fault {
+    fn from(fault: DimacsFault) -> Fault {
+        match fault {
+            DimacsFault::Memory => Fault::Memory,
+            other => Fault::Text(other),
+        }
+    }
+}
+
+/// Writes the answer, and ends with the status 10 where the formula can be true, 20 where it cannot, and 0 where the budget
+/// was too small to know; else with 1 and a line on standard error.
+fn main(rt: HostRuntime) -> ExitCode {
+    match run(&rt) {
+        Ok(status) => ExitCode::from(status),
+        Err(fault) => {
+            let _ = eprintln!(rt; "pg_solve: {fault}");
+            ExitCode::from(1)
+        }
+    }
+}
+
+/// Solves the formula of the file that the words name, writes the answer, and gives the status.
+fn run(rt: &HostRuntime) -> Result<u8, Fault> {
+    let words: Vec<String> = match env::args(rt) {
+        Ok(args) => args.collect(rt.alloc())?,
+        Err(error) if error.kind() == ErrorKind::OutOfMemory => return Err(Fault::Memory),
+        Err(_) => return Err(Fault::Usage),
+    };
+    let Some(asked) = asked_by(words.as_slice()) else {
+        return Err(Fault::Usage);
+    };
+    let cnf = load(rt, asked.file)?;
+    answer(rt, &cnf, &asked)
+}
+
+/// The formula of a file.
+fn load(rt: &HostRuntime, file: &str) -> Result<Cnf, Fault> {
+    let text = match fs::read_to_string(rt, file) {
+        Ok(text) => text,
+        Err(error) if error.kind() == ErrorKind::NotFound => return Err(Fault::Missing),
+        Err(error) if error.kind() == ErrorKind::OutOfMemory => return Err(Fault::Memory),
+        Err(_) => return Err(Fault::Unread),
+    };
+    match read(rt.alloc(), text.as_str()) {
+        Ok(cnf) => Ok(cnf),
+        Err(fault) => Err(Fault::from(fault)),
+    }
+}
+
+/// Solves a formula, writes the answer, and gives the status.
+fn answer(rt: &HostRuntime, cnf: &Cnf, asked: &Request<'_>) -> Result<u8, Fault> {
+    let (answer, counts) = solve_counted(rt.alloc(), cnf, asked.budget)?;
+    show_counts(rt, counts)?;
+    match answer {
+        Answer::Sat(assignment) => {
+            show(rt, "s SATISFIABLE")?;
+            show(rt, values(rt.alloc(), assignment.as_slice())?.as_str())?;
+            Ok(10)
+        }
+        Answer::Unsat(steps) => {
+            check(rt, cnf, steps.as_slice(), asked, true)?;
+            show(rt, "s UNSATISFIABLE")?;
+            Ok(20)
+        }
+        Answer::Spent(steps) => {
+            check(rt, cnf, steps.as_slice(), asked, false)?;
+            show(rt, "s UNKNOWN")?;
+            Ok(0)
+        }
+    }
+}
+
+/// Writes what the search took.
+fn show_counts(rt: &HostRuntime, counts: Counts) -> Result<(), Fault> {
+    println!(rt;
+        "c conflicts {} propagations {}",
+        counts.conflicts, counts.set
+    )
+    .map_err(|_| Fault::Output)
+}
+
+/// Lets a checker take the steps, where that is asked: it has to take all, and to be closed or not by them.
+fn check(
+    rt: &HostRuntime,
+    cnf: &Cnf,
+    steps: &[Step],
+    asked: &Request<'_>,
+    closed: bool,
+) -> Result<(), Fault> {
+    if !asked.check {
+        return Ok(());
+    }
+    if is_taken(rt.alloc(), cnf, steps, closed)? {
+        show(rt, "c checked")
+    } else {
+        Err(Fault::Refused)
+    }
+}
+
+/// The lines of an assignment: a literal for each variable, and a 0 at the end.
+fn values(alloc: Global, assignment: &[bool]) -> Result<String, Fault> {
+    let mut text = String::from_str(alloc, "v")?;
+    let mut variable = 0u64;
+    for &value in assignment {
+        variable = variable.saturating_add(1);
+        let sign = if value { "" } else { "-" };
+        write!(text, " {sign}{variable}").map_err(|_| Fault::Memory)?;
+        if variable % 10 == 0 {
+            write!(text, "\nv").map_err(|_| Fault::Memory)?;
+        }
+    }
+    write!(text, " 0").map_err(|_| Fault::Memory)?;
+    Ok(text)
+}
+
+/// Writes a line.
+fn show(rt: &HostRuntime, line: &str) -> Result<(), Fault> {
+    println!(rt; "{line}").map_err(|_| Fault::Output)
+}
