@@ -18,18 +18,18 @@ of-requires g c = accepted-without_breach c.args.plan.now.bare.machine.desc c.ar
 
 pub new-requires-clause-size : goal.new-requires-clause-size
 new-requires-clause-size g c =
-    ap (λ s. length s.cells) c.requires.installed ∙ blank-length c.args.plan.now.bare.machine.desc.size ∙ sym (ap (λ (m : Machine). m.desc.size) c.of.ensures)
+    ap (λ s. length s.cells) c.requires.installed ∙ blank-length c.args.plan.now.bare.machine.desc.size ∙ sym (ap (λ (m : Machine). m.desc.size) c.of.ensures.same)
 
 pub new-requires-clause-state : goal.new-requires-clause-state
 new-requires-clause-state g c =
     let d = c.args.plan.now.bare.machine.desc in
-    subst (λ (m : Machine). IsState m.desc (g.H.Hardware.machinery c.args.hw.now).state) (sym c.of.ensures)
+    subst (λ (m : Machine). IsState m.desc (g.H.Hardware.machinery c.args.hw.now).state) (sym c.of.ensures.same)
     (subst (λ s. IsState d s) (sym c.requires.installed) (blank-state d c.args.plan.now.bare.machine.valid))
 
 pub returns-in-Ok-load-clause-guests : goal.returns-in-Ok-load-clause-guests
 returns-in-Ok-load-clause-guests g c =
     let p = c.args.plan.now.bare in
-    let same : desc_of c.in-Ok.monitor ≡ p.machine.desc = ap (λ (x : Machine). x.desc) (c.in-Ok.ensures.machine ∙ c.of.ensures) in
+    let same : desc_of c.in-Ok.monitor ≡ p.machine.desc = ap (λ (x : Machine). x.desc) (c.in-Ok.ensures.machine ∙ c.of.ensures.same) in
     let wide = ap (λ d. d.size) same in
     guest-first (desc_of c.in-Ok.monitor).size c.in-Ok.monitor.guests c.load.new.self.guests (length p.image) c.in-Ok.ensures.guests
     (omega (arith, p.can_run.least, p.can_run.whole, c.args.plan.now.room, wide)) c.in-Ok-load.ensures.guests
@@ -37,7 +37,7 @@ returns-in-Ok-load-clause-guests g c =
 pub returns-in-Ok-load-clause-stands : goal.returns-in-Ok-load-clause-stands
 returns-in-Ok-load-clause-stands g c =
     let p = c.args.plan.now.bare in
-    let same : desc_of c.in-Ok.monitor ≡ p.machine.desc = ap (λ (x : Machine). x.desc) (c.in-Ok.ensures.machine ∙ c.of.ensures) in
+    let same : desc_of c.in-Ok.monitor ≡ p.machine.desc = ap (λ (x : Machine). x.desc) (c.in-Ok.ensures.machine ∙ c.of.ensures.same) in
     let who = returns-in-Ok-load-clause-guests g c in
     let after = (g.H.Hardware.machinery c.load.new.hw).state in
     subst (λ o. Stands p.machine.desc after (first_guest (length p.image) ∷ []) o) (c.load.ensures.current ∙ c.in-Ok.ensures.current)
@@ -52,10 +52,10 @@ returns-in-Ok-load-clause-states g c =
 pub returns-in-Ok-load-clause-made : goal.returns-in-Ok-load-clause-made
 returns-in-Ok-load-clause-made g c =
     let p = c.args.plan.now.bare in
-    let same : desc_of c.in-Ok.monitor ≡ p.machine.desc = ap (λ (x : Machine). x.desc) (c.in-Ok.ensures.machine ∙ c.of.ensures) in
+    let same : desc_of c.in-Ok.monitor ≡ p.machine.desc = ap (λ (x : Machine). x.desc) (c.in-Ok.ensures.machine ∙ c.of.ensures.same) in
     let wide = ap (λ d. d.size) same in
     let began = g.H.Hardware.machinery c.args.hw.now in
-    let taken = c.in-Ok.ensures.taken ∙ ap (λ (m : Machine). poked_at 1 (packed m.desc.address (power_on_psw m.desc.size)) began) c.of.ensures in
+    let taken = c.in-Ok.ensures.taken ∙ ap (λ (m : Machine). poked_at 1 (packed m.desc.address (power_on_psw m.desc.size)) began) c.of.ensures.same in
     words-first (desc_of c.in-Ok.monitor).size c.in-Ok.monitor.guests p.image (g.H.Hardware.machinery c.new.new.hw) (g.H.Hardware.machinery c.load.new.hw) c.in-Ok.ensures.guests
     (omega (arith, p.can_run.least, p.can_run.whole, c.args.plan.now.room, wide)) c.in-Ok-load.ensures.loaded
     ∙ ap (λ (m : Machinery). with_words kept_cells p.image m) taken
@@ -63,7 +63,7 @@ returns-in-Ok-load-clause-made g c =
 pub unreachable-requires : goal.unreachable-requires
 unreachable-requires g c =
     let p = c.args.plan.now.bare in
-    let same : desc_of c.in-Ok.monitor ≡ p.machine.desc = ap (λ (x : Machine). x.desc) (c.in-Ok.ensures.machine ∙ c.of.ensures) in
+    let same : desc_of c.in-Ok.monitor ≡ p.machine.desc = ap (λ (x : Machine). x.desc) (c.in-Ok.ensures.machine ∙ c.of.ensures.same) in
     let wide = ap (λ d. d.size) same in
     room-first (desc_of c.in-Ok.monitor).size c.in-Ok.monitor.guests (length p.image) c.in-Ok.ensures.guests
     (omega (arith, p.can_run.least, p.can_run.whole, c.args.plan.now.room, wide)) (c.in-Err-NoRoom.ensures.no_room c.in-Err-NoRoom.field-0-is)
