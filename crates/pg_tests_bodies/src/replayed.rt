@@ -43,9 +43,13 @@ fn state(alloc: Global, place: &Place) -> Option<Sparse> {
 type Row = (&'static str, Kind, Place, Place, bool);
 
 const S3: Place = (8, Mode::S, 0, 3);
+
 const U3: Place = (8, Mode::U, 0, 3);
+
 const U3_ON: Place = (8, Mode::U, 2, 3);
+
 const U4_ON: Place = (5, Mode::U, 2, 4);
+
 const U3_SHORT: Place = (5, Mode::U, 2, 3);
 
 const ROWS: [Row; 18] = [
@@ -65,8 +69,20 @@ const ROWS: [Row; 18] = [
     ("mem[a] = ext(rel, 16);", Kind::ULocation, S3, S3, false),
     ("pc = bound;", Kind::Bound, U3_SHORT, U4_ON, true),
     ("pc = rel;", Kind::Bound, U3_SHORT, U4_ON, false),
-    ("mem[a] = 1:16; mem[a] = ext(bound, 16);", Kind::UBound, U3_SHORT, U4_ON, true),
-    ("mem[a] = ext(bound, 16); mem[a] = 1:16;", Kind::UBound, U3_SHORT, U4_ON, false),
+    (
+        "mem[a] = 1:16; mem[a] = ext(bound, 16);",
+        Kind::UBound,
+        U3_SHORT,
+        U4_ON,
+        true,
+    ),
+    (
+        "mem[a] = ext(bound, 16); mem[a] = 1:16;",
+        Kind::UBound,
+        U3_SHORT,
+        U4_ON,
+        false,
+    ),
 ];
 
 /// Whether the pair of a row shows its kind.
