@@ -1,6 +1,6 @@
 -- A window that is put back, cell by cell.
 use Rattle.std.proofs.Common.{◌≡◌, ℕ, ◌+◌, ◌-◌, ◌<◌, ◌≤◌, List, ◌++◌, length, take, drop, get_or, slice_set, sym, ◌∙◌, ap, arith}
-use Rattle.std.proofs.lemmas.List.{length-take-le, length-append, set-append_left, set-append_right, take-append-drop, take_more, take_all}
+use Rattle.std.proofs.lemmas.List.{length-take-le, length-append, set-append_left, set-append_right, take-append-drop, take_more}
 use Rattle.std.proofs.Math.Seq.{take-add}
 use Rattle.pg_word.specs.declared.psw.Psw.{Psw}
 use Rattle.pg_word.specs.Sparse.{storage_of}
@@ -37,9 +37,6 @@ put_back-more s ws i d l inside =
     ap (λ xs. put_back s (written xs (window s))) (take_more ws i d l)
     ∙ ap (put_back s) (written-more (take i ws) x (window s))
     ∙ put_back-set s (written (take i ws) (window s)) x.at x.cell (so_far ∙ window-length s) (omega (arith, so_far, inside))
-
-pub put_back-all : (s : State) (ws : List Write) (i : ℕ) → length ws ≤ i → put_back s (written (take i ws) (window s)) ≡ put_back s (written ws (window s))
-put_back-all s ws i past = ap (λ xs. put_back s (written xs (window s))) (take_all i ws past)
 
 -- an address of the window is that of a cell of the storage
 pub usable_within : (size : ℕ) (psw : Psw) (cells : List (ℕ × ℕ)) (a : ℕ) → a < length (window (record { cells = storage_of size cells; psw = psw })) → psw.l + a < size

@@ -14,7 +14,7 @@ use std::process::Abort;
 use std::test::Fail;
 
 /// A machine with addresses of 4 bits, up to a body of two fields that are addresses, and one of 6 bits.
-const HEAD: &str = "machine{word 16;address 4;size 15;}
+pub const HEAD: &str = "machine{word 16;address 4;size 15;}
     instr other \"00..............\" { trap; }
     instr i \"01ccccccaaaabbbb\" { ";
 
@@ -45,7 +45,7 @@ const STORAGES: [Storage; 2] = [
 ];
 
 /// The machine of a body, as its text says.
-fn machine(alloc: Global, head: &str, body: &str) -> Result<Machine, Fail> {
+pub fn machine(alloc: Global, head: &str, body: &str) -> Result<Machine, Fail> {
     let text = format!(in alloc; "{head}{body} }}")?;
     match check(alloc, read_desc(alloc, text.as_bytes())?) {
         Ok(machine) => Ok(machine),

@@ -1,4 +1,4 @@
-//! Tests of bodies as gates, against the interpreter, of public calls alone.
+//! Tests of bodies as gates, against the interpreter, and of states that are tried, of public calls alone.
 //!
 //! A body is executed by the interpreter over the cells of a storage, and its gates are evaluated on that storage: both say
 //! the same of the traps, of the registers that follow and of the cells. That it is so for every body and all inputs is
@@ -7,6 +7,7 @@
 //! - `bodies`: bodies, words, states and storages.
 //! - `interpreted`: what the interpreter says. It alone tells what is due.
 //! - `gates`: a run as gates. `told`: what its gates say of a storage.
+//! - `replayed`: pairs of states that show a kind, worked out by hand.
 #![tactic(auto)]
 
 #[cfg(test)]
@@ -15,5 +16,7 @@ mod bodies;
 mod gates;
 #[cfg(test)]
 mod interpreted;
+#[cfg(test)]
+mod replayed;
 #[cfg(test)]
 mod told;
