@@ -1,30 +1,25 @@
 -- What is learned, and what it is worth.
-use Rattle.std.proofs.Common.{◌≡◌, ℕ, zero, suc, ◌+◌, ◌*◌, ◌<◌, Bool, true, false, List, [], ◌∷◌, ◌++◌, length, get_or, map, reverse, take, Option, Some, None, slice_get, refl, sym, ap, subst, ◌∙◌, arith, ℤ, pos, neg_ℤ, nat_abs}
+use Rattle.std.proofs.Common.{◌≡◌, ℕ, zero, suc, ◌+◌, ◌*◌, Bool, true, false, List, [], ◌∷◌, map, reverse, Option, Some, None, slice_get, refl, sym, ap, ◌∙◌, arith, ℤ}
 use Rattle.std.specs.Prelude.{Result, Ok, Err, IfOk}
 use Rattle.std.specs.declared.alloc.AllocError.{AllocError}
 use Rattle.std.specs.Option.{option_and_then}
-use Rattle.std.proofs.lemmas.List.{take_more}
 use Rattle.pg_cnf.specs.Literals.{AreClauses}
-use Rattle.pg_watch.specs.Trail.{Trail, value_of, IsTrail, IsQuiet, AreSet}
-use Rattle.pg_watch.proofs.Values.{value_of-unset_neg}
+use Rattle.pg_watch.specs.Trail.{value_of, IsQuiet, AreSet}
 use Rattle.pg_proof.specs.declared.propagation.Reading.TheVariants.{Neither}
 use Rattle.pg_proof.specs.declared.step.Step.{Step}
 use Rattle.pg_proof.specs.Places.{has}
 use Rattle.pg_proof.specs.Reading.{reading}
 use Rattle.pg_proof.specs.State.{clause_at, AreHeldWithin}
 use Rattle.pg_proof.specs.Refutation.{walk}
-use Rattle.pg_proof.specs.New.{AreQuiet, IsNew}
+use Rattle.pg_proof.specs.New.{AreQuiet}
 use Rattle.pg_sat.specs.Cut.{IsCut}
-use Rattle.pg_sat.specs.Trace.{IsOver, IsTraced}
+use Rattle.pg_sat.specs.Trace.{IsTraced}
 use Rattle.pg_sat.specs.Listed.{listed}
-use Rattle.pg_sat.specs.Learned.{IsLearnedWithin, IsAsserting}
-use Rattle.pg_sat.proofs.CutLemmas.{IsCut-passed, before_push}
+use Rattle.pg_sat.specs.Learned.{IsLearnedWithin}
 use Rattle.pg_sat.proofs.StepLemmas.{step_learned}
-use Rattle.pg_sat.proofs.NewLemmas.{true_if_set, set_if_false, quiet-readings, IsNew-quiet, new_not_covered}
-use Rattle.pg_sat.proofs.TrailLemmas.{IsAt, AreSet-at, AreWithin-literals}
-use Rattle.pg_proof.specs.Covered.{is_covered}
+use Rattle.pg_sat.proofs.NewLemmas.{true_if_set, set_if_false, quiet-readings}
+use Rattle.pg_sat.proofs.TrailLemmas.{AreWithin-literals}
 use Rattle.pg_sat.proofs.ReadingLemmas.{has-first}
-use Rattle.pg_watch.proofs.WatchedLemmas.{IsTrail-cut}
 
 pub learned : (variables : ℕ) (clauses : List (List ℤ)) (set : List ℤ) (flags : List Bool) (hints : List ℕ) (step : Step) → IsTraced variables clauses set flags hints →
     step.lits ≡ listed flags 1 variables → step.hints ≡ reverse hints → IsLearnedWithin variables clauses set step

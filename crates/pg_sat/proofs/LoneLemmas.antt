@@ -1,5 +1,5 @@
 -- What a trace shows that left one literal of those from a place on.
-use Rattle.std.proofs.Common.{◌≡◌, ◌≢◌, ◌⊎◌, inl, inr, ℕ, zero, suc, ◌+◌, ◌*◌, ◌-◌, ◌<◌, ◌≤◌, Bool, true, false, List, [], ◌∷◌, ◌++◌, length, get_or, map, reverse, take, Some, None, refl, sym, ap, subst, ◌∙◌, arith, ℤ, pos, neg_ℤ}
+use Rattle.std.proofs.Common.{◌≡◌, ◌≢◌, ◌⊎◌, inl, inr, ℕ, zero, suc, ◌+◌, ◌-◌, ◌<◌, ◌≤◌, Bool, true, false, List, length, get_or, map, reverse, take, Some, None, refl, sym, ap, subst, ◌∙◌, arith, ℤ, pos, neg_ℤ}
 use Rattle.std.proofs.lemmas.List.{take_more}
 use Rattle.pg_watch.specs.Trail.{Trail, value_of, IsTrail, IsQuiet}
 use Rattle.pg_watch.proofs.Values.{value_of-unset_neg}
@@ -7,7 +7,6 @@ use Rattle.pg_watch.proofs.WatchedLemmas.{IsTrail-cut}
 use Rattle.pg_proof.specs.declared.step.Step.{Step}
 use Rattle.pg_proof.specs.Places.{has, is_marked}
 use Rattle.pg_proof.specs.New.{IsNew}
-use Rattle.pg_proof.specs.Covered.{is_covered}
 use Rattle.pg_sat.specs.Cut.{IsCut}
 use Rattle.pg_sat.specs.Trace.{IsOver, AreDown, IsLone, IsThin, AreFewer}
 use Rattle.pg_sat.specs.Listed.{listed}

@@ -2,7 +2,7 @@
 use Rattle.std.proofs.Common.{◌≡◌, ℕ, zero, suc, ◌+◌, ◌-◌, ◌*◌, ◌<◌, ◌≤◌, Bool, true, false, List, [], ◌∷◌, ◌++◌, length, get_or, take, drop, map, reverse, replicate, Option, Some, None, sym, ap, subst, ◌∙◌, arith, ℤ, pos, neg_ℤ}
 use Rattle.std.proofs.lemmas.List.{take_more, reverse-append, length-replicate, get_or-drop, length-drop}
 use Rattle.pg_cnf.specs.Literals.{IsClause, AreClauses}
-use Rattle.pg_watch.specs.Trail.{Trail, value_of, IsTrail, IsReason, HasReason, IsConflict, IsNumber, IsSomeNumber, AreDerived}
+use Rattle.pg_watch.specs.Trail.{Trail, IsTrail, IsReason, HasReason, IsConflict, IsNumber, IsSomeNumber, AreDerived}
 use Rattle.pg_watch.specs.Trail as trails
 use Rattle.pg_proof.specs.Places.{has, is_marked, IsWithin, AreWithin}
 use Rattle.pg_proof.specs.Marked.{marked}

@@ -3,7 +3,7 @@
 //! The contracts ask of it no more than that a literal is unset, so it may be any other: answers are right whatever it
 //! says, and only the time that they take depends on it.
 
-ghost use Rattle.std.specs.Prelude.{◌<◌, ◌≤◌, ◌^◌, IfSome};
+ghost use Rattle.std.specs.Prelude.{◌<◌, ◌^◌, IfSome};
 ghost use Rattle.pg_sat.specs.Trace.{IsOver};
 ghost use Rattle.pg_sat.specs.Models.{IsFree};
 

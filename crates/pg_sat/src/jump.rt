@@ -3,7 +3,7 @@
 //! The clause that was learned is unit where the trail is cut before the first literal that was assigned after all but one
 //! of its literals were false. It is looked for from the end of the trail, over places alone.
 
-ghost use Rattle.std.specs.Prelude.{◌≡◌, ℕ, ◌+◌, ◌*◌, ◌<◌, ◌≤◌, length, take, IfOk, MatchOption, slice_index_or, pos};
+ghost use Rattle.std.specs.Prelude.{ℕ, ◌+◌, ◌*◌, ◌<◌, ◌≤◌, length, take, IfOk, MatchOption, slice_index_or, pos};
 ghost use Rattle.pg_proof.specs.Places.{AreWithin};
 ghost use Rattle.pg_watch.specs.Trail.{AreDerived};
 ghost use Rattle.pg_watch.specs.Assigned.{IsAssigned};

@@ -3,9 +3,7 @@
 //! A solver calls `learn_at` where a clause is false and some literal was assigned, and `refute` where none was: then all is
 //! shown. Of the literals that were set with the last assigned one or after it, all but one are resolved away.
 
-ghost use Rattle.std.specs.Prelude.{◌≡◌, ◌+◌, ◌<◌, ◌≤◌, [], false, map, Some, length, take, drop, IfOk, slice_index_or, pos};
-ghost use Rattle.pg_proof.specs.New.{IsNew};
-ghost use Rattle.pg_proof.specs.Covered.{is_covered};
+ghost use Rattle.std.specs.Prelude.{◌≡◌, ◌+◌, ◌<◌, [], false, length, take, drop, IfOk};
 ghost use Rattle.pg_watch.specs.Trail.{IsConflict, IsQuiet, AreDerived};
 ghost use Rattle.pg_sat.specs.Trace.{IsOver};
 ghost use Rattle.pg_sat.specs.Learned.{IsLearnedWithin, IsTaught};

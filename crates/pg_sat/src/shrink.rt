@@ -3,7 +3,7 @@
 //! Of the literals that a trace has left, one whose reason has none but others of them besides is implied by these: it is
 //! resolved away too, and the step gets shorter (Een and Sorensson, 2003; Beame, Kautz and Sabharwal, 2004).
 
-ghost use Rattle.std.specs.Prelude.{◌≡◌, ◌≢◌, ℤ, ◌+◌, ◌*◌, ◌<◌, ◌^◌, length, true, pos, neg_ℤ, IsTrue, OnOk, slice_index_or};
+ghost use Rattle.std.specs.Prelude.{◌≡◌, ◌≢◌, ℤ, ◌+◌, ◌*◌, ◌<◌, length, true, pos, neg_ℤ, IsTrue, OnOk, slice_index_or};
 ghost use Rattle.pg_proof.specs.Places.{has, is_marked, AreWithin};
 ghost use Rattle.pg_sat.specs.Trace.{IsOver, IsThin, AreFewer};
 

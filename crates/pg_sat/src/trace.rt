@@ -4,7 +4,7 @@
 //! propagated gives way to those that its reason had: the clause resolved with that reason. What is left when the tracing
 //! ends are literals that cannot all be false. The solver learns that.
 
-ghost use Rattle.std.specs.Prelude.{◌≡◌, ◌+◌, ◌*◌, ◌<◌, ◌≤◌, ◌^◌, length, take, drop, IfOk, OnOk, IfNone, IsTrue, slice_index_or, None, neg_ℤ, pos};
+ghost use Rattle.std.specs.Prelude.{◌≡◌, ◌+◌, ◌*◌, ◌<◌, ◌≤◌, length, take, drop, IfOk, OnOk, IfNone, IsTrue, slice_index_or, None, neg_ℤ, pos};
 ghost use Rattle.pg_watch.specs.Trail.{IsConflict, AreDerived, IsSomeNumber};
 ghost use Rattle.pg_proof.specs.Places.{is_marked};
 ghost use Rattle.pg_sat.specs.Trace.{IsOver, IsTraced, AreDown, IsLone};

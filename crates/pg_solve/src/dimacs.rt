@@ -3,7 +3,7 @@
 //! A file has lines of comment that begin with `c`, one head `p cnf VARIABLES CLAUSES`, and then words: a literal is a number
 //! other than 0, and a 0 ends its clause. A word `%` or the end of the text ends the formula.
 
-ghost use Rattle.std.specs.Prelude.{◌≡◌, ◌+◌, ◌*◌, ◌<◌, ◌≤◌, ◌^◌, ◌/◌, ◌++◌, ◌∷◌, [], nat_abs, IfOk, IfSome, OnOk};
+ghost use Rattle.std.specs.Prelude.{◌≡◌, ◌+◌, ◌*◌, ◌<◌, ◌^◌, ◌/◌, ◌++◌, ◌∷◌, [], nat_abs, IfOk, IfSome, OnOk};
 ghost use Rattle.pg_cnf.specs.Literals.{IsClause};
 
 use pg_cnf::{Clause, Cnf};

@@ -1,6 +1,6 @@
 //! What the words behind the program's name ask for.
 
-ghost use Rattle.std.specs.Prelude.{◌<◌, ◌^◌, IfSome};
+ghost use Rattle.std.specs.Prelude.{◌<◌, ◌^◌};
 
 /// A file, the greatest number of clauses that may be learned, and whether the log is to be checked.
 #[derive(Drop)]

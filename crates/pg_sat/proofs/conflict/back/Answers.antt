@@ -1,11 +1,9 @@
-use Rattle.std.proofs.Common.{◌≡◌, ◌∙◌, ◌+◌, ◌*◌, ◌++◌, ◌∷◌, [], ℕ, ℤ, List, arith, ap, sym, subst, take, pos, slice_index_or, None}
+use Rattle.std.proofs.Common.{◌≡◌, ◌∙◌, ◌++◌, ◌∷◌, [], ℕ, ℤ, List, arith, ap, sym, subst, take, pos, slice_index_or, None}
 use Rattle.pg_cnf.specs.Literals.{IsClause}
 use Rattle.pg_watch.specs.Trail.{Trail, IsTrail, Extends, cut}
 use Rattle.std.proofs.lemmas.Option.{get_or_from_slice_get}
 use Rattle.pg_watch.proofs.WatchedLemmas.{assigned-within}
 use Rattle.pg_proof.specs.declared.step.Step.{Step}
-use Rattle.pg_proof.specs.Places.{AreWithin}
-use Rattle.pg_sat.specs.Jump.{IsJump}
 use Rattle.pg_sat.specs.Solving.{IsSolving}
 use Rattle.pg_sat.proofs.SolvingLemmas.{if_done}
 use Rattle.pg_sat.proofs.ConflictLemmas.{lits_within, lits_clause, backed}

@@ -1,4 +1,4 @@
-use Rattle.std.proofs.Common.{◌≡◌, ◌+◌, ◌<◌, Some, None, length, [], ap, sym, ◌∙◌, arith}
+use Rattle.std.proofs.Common.{Some, None, [], ap, sym, ◌∙◌, arith}
 use Rattle.std.proofs.lemmas.Option.{slice_get-get_or}
 use Rattle.pg_watch.proofs.Steps.{length-reasons}
 use Rattle.pg_watch.proofs.WatchedLemmas.{assigned-within}

@@ -1,4 +1,4 @@
-use Rattle.std.proofs.Common.{◌-◌, ◌<◌, ℕ, neg_ℤ, pos, slice_index_or, subst, sym, ap, arith, length}
+use Rattle.std.proofs.Common.{◌-◌, ◌<◌, neg_ℤ, pos, slice_index_or, arith}
 use Rattle.pg_sat.proofs.ThinLemmas.{fewer_then, apart_neg, apart_both}
 use Rattle.pg_sat.proofs.shrink.shrink.Goals as goal
 

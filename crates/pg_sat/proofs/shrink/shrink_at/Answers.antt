@@ -1,9 +1,8 @@
-use Rattle.std.proofs.Common.{SFits, w32, List, ℤ, ℕ, true, pos, neg_ℤ, length, subst, sym, ap, ◌≡◌, ◌≢◌, ◌∙◌, Some, None, slice_index_or, arith}
+use Rattle.std.proofs.Common.{SFits, w32, List, ℤ, ℕ, pos, length, subst, sym, ap, ◌≡◌, ◌∙◌, Some, None, slice_index_or, arith}
 use Rattle.std.proofs.lemmas.Int.{to_z-of_z}
 use Rattle.pg_watch.specs.Trail.{clause_at}
 use Rattle.pg_proof.specs.Places.{has, is_marked, AreWithin}
 use Rattle.pg_sat.specs.Cut.{IsResolved}
-use Rattle.pg_sat.specs.Trace.{AreFewer}
 use Rattle.pg_sat.proofs.FlagLemmas.{SFits-literal}
 use Rattle.pg_sat.proofs.TrailLemmas.{AreWithin-literals}
 use Rattle.pg_sat.proofs.TraceLemmas.{at_place, within_places, reason_numbered, reason_clause}

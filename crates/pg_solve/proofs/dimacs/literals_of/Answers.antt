@@ -1,4 +1,4 @@
-use Rattle.std.proofs.Common.{SFits, w32, ◌≡◌, ◌/◌, ◌++◌, ◌∷◌, [], ℕ, ℤ, List, nat_abs, slice_index_or, subst, sym, arith}
+use Rattle.std.proofs.Common.{SFits, w32, ◌≡◌, ◌/◌, ℕ, ℤ, List, nat_abs, slice_index_or, subst, sym, arith}
 use Rattle.std.proofs.lemmas.Int.{to_z-of_z}
 use Rattle.pg_sat.proofs.FlagLemmas.{SFits-literal}
 use Rattle.pg_solve.proofs.ClauseLemmas.{IsDraft, draft-push}
