@@ -1,0 +1,110 @@
+-- Two runs of one body over one storage, and that they end as a kind asks, as a gate.
+use Rattle.std.specs.Prelude.{ℕ, true, false, List, []}
+use Rattle.pg_circuit.specs.declared.node.Gate.{Gate}
+use Rattle.pg_circuit.specs.declared.node.Node.{Node}
+use Rattle.pg_circuit.specs.Made.{constant_gate, not_gate, and_made, xor_made}
+use Rattle.pg_vec.specs.Gates.{then_made, or_made}
+use Rattle.pg_vec.specs.Strings.{lt_made, same_made}
+use Rattle.pg_cells.specs.declared.cell.Cell.{Cell}
+use Rattle.pg_cells.specs.declared.cell.Write.{Write}
+use Rattle.pg_cells.specs.View.{View}
+use Rattle.pg_cells.specs.Made.{touch_made, cells_after}
+use Rattle.pg_ast.specs.declared.tree.Instr.{Instr}
+use Rattle.pg_ast.specs.declared.tree.Desc.{Desc}
+use Rattle.pg_type.specs.declared.kind.Kind.{Kind}
+use Rattle.pg_type.specs.declared.kind.Kind.TheVariants.{Privileged, Control, ModeDep, Location, Bound, UControl, ULocation, UBound}
+use Rattle.pg_symex.specs.Flow.{SymRun}
+use Rattle.pg_symex.specs.Exprs.{bit_0, with_made}
+use Rattle.pg_symex.specs.Body.{run_made}
+use Rattle.pg_ask.specs.declared.unknowns.Unknowns.{Unknowns}
+use Rattle.pg_ask.specs.Unknowns.{first_regs, second_regs}
+
+-- two runs over one storage, the second with none of the first one's writes, and the word that each leaves at the compared
+-- address; the nodes and cells after both
+pub record Both : Type 0 where
+  pub first : SymRun
+  pub first_word : List Gate
+  pub second : SymRun
+  pub second_word : List Gate
+  pub nodes : List Node
+  pub cells : List Cell
+
+-- the touched cells of a description's machine
+abbrev pub view_for : Desc → List Cell → List Write → View
+view_for d cells writes = record { w = d.word; a = d.address; cells = cells; writes = writes }
+
+unfoldable pub both_made : Desc → Instr → Unknowns → List Gate → List Node → List Cell → Both
+both_made d i u v nodes cells =
+    let first = run_made d i (first_regs u v) nodes cells [] in
+    let first_word = touch_made first.flow.nodes (view_for d first.flow.cells first.writes) u.compared in
+    let between = cells_after first.flow.nodes d.word first.flow.cells u.compared in
+    let second = run_made d i (second_regs u v) first_word.1 between [] in
+    let second_word = touch_made second.flow.nodes (view_for d second.flow.cells second.writes) u.compared in
+    record {
+      first = first;
+      first_word = first_word.0;
+      second = second;
+      second_word = second_word.0;
+      nodes = second_word.1;
+      cells = cells_after second.flow.nodes d.word second.flow.cells u.compared;
+    }
+
+-- done: neither trap
+abbrev pub done_made : List Node → SymRun → Gate × List Node
+done_made nodes r = and_made nodes (not_gate r.flow.mem_trap) (not_gate r.trap)
+
+-- the first is done, with another mode or another R than before
+unfoldable pub control_made : List Node → Unknowns → Both → Gate × List Node
+control_made nodes u both =
+    then_made (done_made nodes both.first) (λ done after_done.
+    then_made (same_made after_done (constant_gate true) both.first.next.mode u.first_mode) (λ mode after_mode.
+    then_made (same_made after_mode mode both.first.next.l u.first_l) (λ l after_l.
+    then_made (same_made after_l l both.first.next.b u.first_b) (λ b after_b.
+    and_made after_b done (not_gate b)))))
+
+-- what two done runs leave differs: P, or the word at the compared address, where that is usable
+unfoldable pub seen_apart_made : List Node → Unknowns → List Gate → Both → Gate × List Node
+seen_apart_made nodes u v both =
+    then_made (same_made nodes (constant_gate true) both.first.next.p both.second.next.p) (λ same_p after_p.
+    then_made (same_made after_p (constant_gate true) both.first_word both.second_word) (λ same_word after_word.
+    then_made (lt_made after_word u.compared v) (λ inside after_inside.
+    then_made (and_made after_inside (bit_0 inside) (not_gate same_word)) (λ odd after_odd.
+    or_made after_odd (not_gate same_p) odd))))
+
+-- the second is done; or it does not memory trap, and the first traps
+unfoldable pub broken_made : List Node → Both → Gate × List Node
+broken_made nodes both =
+    then_made (done_made nodes both.second) (λ done after_done.
+    then_made (and_made after_done both.first.trap (not_gate both.second.flow.mem_trap)) (λ odd after_odd.
+    or_made after_odd done odd))
+
+-- the second is done, and the first is not, or leaves something else
+unfoldable pub mode_made : List Node → Unknowns → List Gate → Both → Gate × List Node
+mode_made nodes u v both =
+    then_made (done_made nodes both.first) (λ first after_first.
+    then_made (done_made after_first both.second) (λ second after_second.
+    then_made (seen_apart_made after_second u v both) (λ apart after_apart.
+    then_made (or_made after_apart (not_gate first) apart) (λ differ after_differ.
+    and_made after_differ second differ))))
+
+-- one of both is done; or both are, and leave different things
+unfoldable pub either_made : List Node → Unknowns → List Gate → Both → Gate × List Node
+either_made nodes u v both =
+    then_made (done_made nodes both.first) (λ first after_first.
+    then_made (done_made after_first both.second) (λ second after_second.
+    then_made (seen_apart_made after_second u v both) (λ apart after_apart.
+    then_made (xor_made after_apart first second) (λ one after_one.
+    then_made (and_made after_one first second) (λ two after_two.
+    then_made (and_made after_two two apart) (λ differ after_differ.
+    or_made after_differ one differ))))))
+
+-- both runs end as the kind asks
+abbrev pub ends_made : Kind → List Node → Unknowns → List Gate → Both → Gate × List Node
+ends_made Privileged nodes u v both = broken_made nodes both
+ends_made Control nodes u v both = control_made nodes u both
+ends_made ModeDep nodes u v both = mode_made nodes u v both
+ends_made Location nodes u v both = either_made nodes u v both
+ends_made Bound nodes u v both = either_made nodes u v both
+ends_made UControl nodes u v both = control_made nodes u both
+ends_made ULocation nodes u v both = either_made nodes u v both
+ends_made UBound nodes u v both = either_made nodes u v both

@@ -1,0 +1,4 @@
+pub mod Unknowns
+pub mod Fits
+pub mod Ends
+pub mod Question

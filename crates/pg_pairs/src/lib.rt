@@ -1,0 +1,2 @@
+//! Pairs of states over one window.
+#![tactic(auto)]
