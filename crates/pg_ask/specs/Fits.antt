@@ -4,7 +4,7 @@ use Rattle.pg_circuit.specs.declared.node.Gate.{Gate}
 use Rattle.pg_circuit.specs.declared.node.Node.{Node}
 use Rattle.pg_circuit.specs.Made.{constant_gate, not_gate, and_made}
 use Rattle.pg_vec.specs.Gates.{then_made}
-use Rattle.pg_vec.specs.Strings.{zeros, sub_made, lt_made, mux_made, same_made}
+use Rattle.pg_vec.specs.Strings.{sub_made, lt_made, mux_made, same_made}
 use Rattle.pg_meaning.specs.Patterns.{byte_0, byte_1}
 use Rattle.pg_ast.specs.declared.tree.Instr.{Instr}
 use Rattle.pg_ast.specs.declared.tree.Desc.{Desc}
@@ -18,7 +18,7 @@ unfoldable pub usable_made : List Node → List Gate → List Gate → List Gate
 usable_made nodes l b n =
     then_made (sub_made nodes n l) (λ room after_room.
     then_made (lt_made after_room n l) (λ past after_past.
-    then_made (mux_made after_past (bit_0 past) (zeros (length room)) room) (λ cells after_cells.
+    then_made (mux_made after_past (bit_0 past) (literal_bits 0 (length n)) room) (λ cells after_cells.
     then_made (lt_made after_cells b cells) (λ less after_less.
     mux_made after_less (bit_0 less) b cells))))
 

@@ -1,4 +1,5 @@
 pub mod Unknowns
+pub mod There
 pub mod Fits
 pub mod Ends
 pub mod Question

@@ -1,6 +1,7 @@
 //! Questions about instructions, as clauses.
 #![tactic(auto)]
 
+mod fits;
 mod unknowns;
 
 pub use unknowns::Unknowns;

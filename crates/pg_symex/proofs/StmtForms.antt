@@ -28,7 +28,7 @@ use Rattle.pg_symex.specs.Flow.{SymEntry, Flow, SymRun, view_of, with_nodes}
 use Rattle.pg_symex.specs.Numbers.{value_of, next_psw, entry_value, lets_value, window_value}
 use Rattle.pg_symex.specs.There.{AreBits, AreNext, IsSymEntry, LetsAre, IsFlow}
 use Rattle.pg_symex.specs.Exprs.{access_made}
-use Rattle.pg_symex.specs.Follows.{Follows, Makes}
+use Rattle.pg_symex.specs.Follows.{Follows, CellsStay, Makes}
 use Rattle.pg_symex.specs.Stmts.{store_made, assigned, trap_made, with_lets_of}
 use Rattle.pg_symex.specs.Ends.{run_value, IsSymRun, Skips, Ends, Does}
 use Rattle.pg_symex.proofs.FollowsLaws.{unreached}

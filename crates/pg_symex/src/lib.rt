@@ -24,7 +24,7 @@ mod gates;
 mod guards;
 pub mod laws;
 mod lets;
-mod literal;
+pub mod literal;
 mod names;
 mod operate;
 mod regs;
