@@ -17,15 +17,18 @@ use Rattle.pg_symex.specs.Flow.{SymRun}
 use Rattle.pg_symex.specs.Exprs.{bit_0, with_made}
 use Rattle.pg_symex.specs.Body.{run_made}
 use Rattle.pg_ask.specs.declared.unknowns.Unknowns.{Unknowns}
+use Rattle.pg_ask.specs.declared.ends.End.{End}
 use Rattle.pg_ask.specs.Unknowns.{first_regs, second_regs}
+use Rattle.pg_ask.specs.Fits.{alike_made}
 
--- two runs over one storage, the second with none of the first one's writes, and the word that each leaves at the compared
--- address; the nodes and cells after both
+-- how a run ended, and the word that it leaves at the compared address
+abbrev pub end_of : SymRun → List Gate → End
+end_of r word = record { mem_trap = r.flow.mem_trap; trap = r.trap; mode = r.next.mode; p = r.next.p; l = r.next.l; b = r.next.b; word = word }
+
+-- two runs over one storage, the second with none of the first one's writes: how each ended, and the nodes and cells after both
 pub record Both : Type 0 where
-  pub first : SymRun
-  pub first_word : List Gate
-  pub second : SymRun
-  pub second_word : List Gate
+  pub first : End
+  pub second : End
   pub nodes : List Node
   pub cells : List Cell
 
@@ -41,70 +44,68 @@ both_made d i u v nodes cells =
     let second = run_made d i (second_regs u v) first_word.1 between [] in
     let second_word = touch_made second.flow.nodes (view_for d second.flow.cells second.writes) u.compared in
     record {
-      first = first;
-      first_word = first_word.0;
-      second = second;
-      second_word = second_word.0;
+      first = end_of first first_word.0;
+      second = end_of second second_word.0;
       nodes = second_word.1;
       cells = cells_after second.flow.nodes d.word second.flow.cells u.compared;
     }
 
 -- done: neither trap
-abbrev pub done_made : List Node → SymRun → Gate × List Node
-done_made nodes r = and_made nodes (not_gate r.flow.mem_trap) (not_gate r.trap)
+abbrev pub done_made : List Node → End → Gate × List Node
+done_made nodes e = and_made nodes (not_gate e.mem_trap) (not_gate e.trap)
 
 -- the first is done, with another mode or another R than before
-unfoldable pub control_made : List Node → Unknowns → Both → Gate × List Node
-control_made nodes u both =
-    then_made (done_made nodes both.first) (λ done after_done.
-    then_made (same_made after_done (constant_gate true) both.first.next.mode u.first_mode) (λ mode after_mode.
-    then_made (same_made after_mode mode both.first.next.l u.first_l) (λ l after_l.
-    then_made (same_made after_l l both.first.next.b u.first_b) (λ b after_b.
+unfoldable pub control_made : List Node → Unknowns → End → Gate × List Node
+control_made nodes u first =
+    then_made (done_made nodes first) (λ done after_done.
+    then_made (same_made after_done (constant_gate true) first.mode u.first_mode) (λ mode after_mode.
+    then_made (alike_made after_mode mode first.l u.first_l) (λ l after_l.
+    then_made (alike_made after_l l first.b u.first_b) (λ b after_b.
     and_made after_b done (not_gate b)))))
 
 -- what two done runs leave differs: P, or the word at the compared address, where that is usable
-unfoldable pub seen_apart_made : List Node → Unknowns → List Gate → Both → Gate × List Node
-seen_apart_made nodes u v both =
-    then_made (same_made nodes (constant_gate true) both.first.next.p both.second.next.p) (λ same_p after_p.
-    then_made (same_made after_p (constant_gate true) both.first_word both.second_word) (λ same_word after_word.
+unfoldable pub seen_apart_made : List Node → Unknowns → List Gate → (first second : End) → Gate × List Node
+seen_apart_made nodes u v first second =
+    then_made (same_made nodes (constant_gate true) first.p second.p) (λ same_p after_p.
+    then_made (same_made after_p (constant_gate true) first.word second.word) (λ same_word after_word.
     then_made (lt_made after_word u.compared v) (λ inside after_inside.
     then_made (and_made after_inside (bit_0 inside) (not_gate same_word)) (λ odd after_odd.
     or_made after_odd (not_gate same_p) odd))))
 
 -- the second is done; or it does not memory trap, and the first traps
-unfoldable pub broken_made : List Node → Both → Gate × List Node
-broken_made nodes both =
-    then_made (done_made nodes both.second) (λ done after_done.
-    then_made (and_made after_done both.first.trap (not_gate both.second.flow.mem_trap)) (λ odd after_odd.
+unfoldable pub broken_made : List Node → (first second : End) → Gate × List Node
+broken_made nodes first second =
+    then_made (done_made nodes second) (λ done after_done.
+    then_made (and_made after_done first.trap (not_gate second.mem_trap)) (λ odd after_odd.
     or_made after_odd done odd))
 
 -- the second is done, and the first is not, or leaves something else
-unfoldable pub mode_made : List Node → Unknowns → List Gate → Both → Gate × List Node
-mode_made nodes u v both =
-    then_made (done_made nodes both.first) (λ first after_first.
-    then_made (done_made after_first both.second) (λ second after_second.
-    then_made (seen_apart_made after_second u v both) (λ apart after_apart.
-    then_made (or_made after_apart (not_gate first) apart) (λ differ after_differ.
-    and_made after_differ second differ))))
+unfoldable pub mode_made : List Node → Unknowns → List Gate → (first second : End) → Gate × List Node
+mode_made nodes u v first second =
+    then_made (done_made nodes first) (λ first_done after_first.
+    then_made (done_made after_first second) (λ second_done after_second.
+    then_made (seen_apart_made after_second u v first second) (λ apart after_apart.
+    then_made (or_made after_apart (not_gate first_done) apart) (λ differ after_differ.
+    and_made after_differ second_done differ))))
 
 -- one of both is done; or both are, and leave different things
-unfoldable pub either_made : List Node → Unknowns → List Gate → Both → Gate × List Node
-either_made nodes u v both =
-    then_made (done_made nodes both.first) (λ first after_first.
-    then_made (done_made after_first both.second) (λ second after_second.
-    then_made (seen_apart_made after_second u v both) (λ apart after_apart.
-    then_made (xor_made after_apart first second) (λ one after_one.
-    then_made (and_made after_one first second) (λ two after_two.
+unfoldable pub either_made : List Node → Unknowns → List Gate → (first second : End) → Gate × List Node
+either_made nodes u v first second =
+    then_made (done_made nodes first) (λ first_done after_first.
+    then_made (done_made after_first second) (λ second_done after_second.
+    then_made (seen_apart_made after_second u v first second) (λ apart after_apart.
+    then_made (xor_made after_apart first_done second_done) (λ one after_one.
+    then_made (and_made after_one first_done second_done) (λ two after_two.
     then_made (and_made after_two two apart) (λ differ after_differ.
     or_made after_differ one differ))))))
 
 -- both runs end as the kind asks
-abbrev pub ends_made : Kind → List Node → Unknowns → List Gate → Both → Gate × List Node
-ends_made Privileged nodes u v both = broken_made nodes both
-ends_made Control nodes u v both = control_made nodes u both
-ends_made ModeDep nodes u v both = mode_made nodes u v both
-ends_made Location nodes u v both = either_made nodes u v both
-ends_made Bound nodes u v both = either_made nodes u v both
-ends_made UControl nodes u v both = control_made nodes u both
-ends_made ULocation nodes u v both = either_made nodes u v both
-ends_made UBound nodes u v both = either_made nodes u v both
+abbrev pub ends_made : Kind → List Node → Unknowns → List Gate → (first second : End) → Gate × List Node
+ends_made Privileged nodes u v first second = broken_made nodes first second
+ends_made Control nodes u v first second = control_made nodes u first
+ends_made ModeDep nodes u v first second = mode_made nodes u v first second
+ends_made Location nodes u v first second = either_made nodes u v first second
+ends_made Bound nodes u v first second = either_made nodes u v first second
+ends_made UControl nodes u v first second = control_made nodes u first
+ends_made ULocation nodes u v first second = either_made nodes u v first second
+ends_made UBound nodes u v first second = either_made nodes u v first second

@@ -30,6 +30,11 @@ size_made q a nodes so_far n =
     then_made (lt_made after_enough (literal_bits q a) n) (λ many after_many.
     and_made after_many enough (not_gate (bit_0 many)))))
 
+-- a gate, and that two strings are the same
+unfoldable pub alike_made : List Node → Gate → List Gate → List Gate → Gate × List Node
+alike_made nodes so_far xs ys =
+    then_made (same_made nodes (constant_gate true) xs ys) (λ same after_same. and_made after_same so_far same)
+
 -- a gate, and that two strings differ
 unfoldable pub differ_made : List Node → Gate → List Gate → List Gate → Gate × List Node
 differ_made nodes so_far xs ys =
@@ -66,7 +71,7 @@ fits_made d i kind u word nodes =
     then_made (usable_made after_v u.second_l u.second_b u.second_size) (λ second_v after_second_v.
     then_made (size_made d.size d.address after_second_v (constant_gate true) u.first_size) (λ one after_one.
     then_made (size_made d.size d.address after_one one u.second_size) (λ two after_two.
-    then_made (same_made after_two two v second_v) (λ alike after_alike.
+    then_made (alike_made after_two two v second_v) (λ alike after_alike.
     then_made (lt_made after_alike u.p v) (λ inside after_inside.
     then_made (and_made after_inside alike (bit_0 inside)) (λ placed after_placed.
     then_made (apart_made kind after_placed placed u) (λ related after_related.

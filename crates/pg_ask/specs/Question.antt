@@ -41,7 +41,7 @@ pub record Question : Type 0 where
 -- cells are those of one storage
 unfoldable pub root_made : Kind → Unknowns → List Gate → Gate → Both → Gate × List Node
 root_made kind u v fits both =
-    with_made (ends_made kind both.nodes u v both) (λ ends after_ends.
+    with_made (ends_made kind both.nodes u v both.first both.second) (λ ends after_ends.
     with_made (consistent_made after_ends both.cells) (λ whole after_whole.
     with_made (and_made after_whole fits ends) (λ shown after_shown.
     and_made after_shown shown whole)))

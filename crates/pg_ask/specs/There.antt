@@ -6,6 +6,7 @@ use Rattle.pg_circuit.specs.Values.{IsThere}
 use Rattle.pg_circuit.specs.Grown.{GrowsTo}
 use Rattle.pg_symex.specs.There.{AreBits}
 use Rattle.pg_ask.specs.declared.unknowns.Unknowns.{Unknowns}
+use Rattle.pg_ask.specs.declared.ends.End.{End}
 
 -- registers and sizes of a machine whose addresses have a bits
 pub record AreUnknowns (places a : ℕ) (u : Unknowns) : Type 0 where
@@ -29,3 +30,13 @@ pub record LeavesBits (old new : List Node) (width : ℕ) (bits : List Gate) : T
 pub record LeavesGate (old new : List Node) (gate : Gate) : Type 0 where
   pub front : GrowsTo old new
   pub gate : IsThere (length new) gate
+
+-- an end of a run of a machine with words of w bits and addresses of a
+pub record AreEnd (places w a : ℕ) (e : End) : Type 0 where
+  pub mem_trap : IsThere places e.mem_trap
+  pub trap : IsThere places e.trap
+  pub mode : AreBits places 1 e.mode
+  pub p : AreBits places a e.p
+  pub l : AreBits places a e.l
+  pub b : AreBits places a e.b
+  pub word : AreBits places w e.word

@@ -7,7 +7,7 @@ ghost use Rattle.pg_word.specs.Bits.{IsWidth};
 ghost use Rattle.pg_symex.specs.There.{AreBits};
 ghost use Rattle.pg_symex.specs.Exprs.{bit_0};
 ghost use Rattle.pg_ask.specs.There.{AreUnknowns, LeavesBits, LeavesGate};
-ghost use Rattle.pg_ask.specs.Fits.{usable_made, size_made, differ_made, apart_made, place_made, matches_made, fits_made};
+ghost use Rattle.pg_ask.specs.Fits.{usable_made, size_made, alike_made, differ_made, apart_made, place_made, matches_made, fits_made};
 
 use crate::unknowns::{Unknowns, moves, rebounds};
 use pg_ast::Instr;
@@ -80,6 +80,23 @@ fn size(
     and(circuit, enough, circuit.not(bit_0(&many)))
 }
 
+/// A gate, and that two strings of one width are the same. The error is want of memory.
+pub fn alike(
+    circuit: &mut Circuit,
+    so_far: Gate,
+    x: &Bits,
+    y: &Bits,
+) -> Result<Gate, AllocError>
+    requires so_far { IsThere (length circuit.old.nodes) so_far }
+    requires x { AreBits (length circuit.old.nodes) (length y.now) x.now }
+    requires y { AreBits (length circuit.old.nodes) (length y.now) y.now }
+    ensures made { IfOk result (λ gate. (gate, circuit.new.nodes) ≡ alike_made circuit.old.nodes so_far x.now y.now) }
+    ensures there { IfOk result (λ gate. LeavesGate circuit.old.nodes circuit.new.nodes gate) }
+{
+    let together = same(circuit, x.as_slice(), y.as_slice())?;
+    and(circuit, so_far, together)
+}
+
 /// A gate, and that two strings of one width differ. The error is want of memory.
 fn differ(
     circuit: &mut Circuit,
@@ -145,4 +162,35 @@ fn matches(
         left = rest;
     }
     Ok(gate)
+}
+
+/// The number of usable cells, and whether all of it fits: both sizes are sizes of the machine, both states have as many usable
+/// cells, P is usable, the registers differ as the kind asks, and the word at P matches the instruction's pattern. The error
+/// is want of memory.
+pub fn fits(
+    alloc: Global,
+    circuit: &mut Circuit,
+    m: &Machine,
+    instr: &Instr,
+    kind: Kind,
+    u: &Unknowns,
+    word: &Bits,
+) -> Result<Fits, AllocError>
+    requires unknowns { AreUnknowns (length circuit.old.nodes) m.now.desc.address u.now }
+    requires word { AreBits (length circuit.old.nodes) (length instr.now.pattern.bytes) word.now }
+    ensures made { IfOk result (λ f. ((f.usable, f.gate), circuit.new.nodes) ≡ fits_made m.now.desc instr.now kind u.now word.now circuit.old.nodes) }
+    ensures there { IfOk result (λ f. LeavesBits circuit.old.nodes circuit.new.nodes m.now.desc.address f.usable) }
+    ensures gate { IfOk result (λ f. IsThere (length circuit.new.nodes) f.gate) }
+{
+    let v = usable(alloc, circuit, &u.first_l, &u.first_b, &u.first_size)?;
+    let second_v = usable(alloc, circuit, &u.second_l, &u.second_b, &u.second_size)?;
+    let q = m.shape().q;
+    let one = size(alloc, circuit, q, circuit.constant(true), &u.first_size)?;
+    let two = size(alloc, circuit, q, one, &u.second_size)?;
+    let equal = alike(circuit, two, &v, &second_v)?;
+    let inside = ops::lt(alloc, circuit, &u.p, &v)?;
+    let placed = and(circuit, equal, bit_0(&inside))?;
+    let related = apart(circuit, kind, placed, u)?;
+    let gate = matches(circuit, related, instr.pattern.as_bytes(), word.as_slice())?;
+    Ok(Fits { usable: v, gate })
 }

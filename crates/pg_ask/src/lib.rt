@@ -1,6 +1,7 @@
 //! Questions about instructions, as clauses.
 #![tactic(auto)]
 
+mod ends;
 mod fits;
 mod unknowns;
 
