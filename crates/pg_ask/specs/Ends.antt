@@ -13,6 +13,7 @@ use Rattle.pg_ast.specs.declared.tree.Instr.{Instr}
 use Rattle.pg_ast.specs.declared.tree.Desc.{Desc}
 use Rattle.pg_type.specs.declared.kind.Kind.{Kind}
 use Rattle.pg_type.specs.declared.kind.Kind.TheVariants.{Privileged, Control, ModeDep, Location, Bound, UControl, ULocation, UBound}
+use Rattle.pg_symex.specs.declared.regs.Regs.{Regs}
 use Rattle.pg_symex.specs.Flow.{SymRun}
 use Rattle.pg_symex.specs.Exprs.{bit_0, with_made}
 use Rattle.pg_symex.specs.Body.{run_made}
@@ -25,6 +26,22 @@ use Rattle.pg_ask.specs.Fits.{alike_made}
 abbrev pub end_of : SymRun → List Gate → End
 end_of r word = record { mem_trap = r.flow.mem_trap; trap = r.trap; mode = r.next.mode; p = r.next.p; l = r.next.l; b = r.next.b; word = word }
 
+-- the touched cells of a description's machine
+abbrev pub view_for : Desc → List Cell → List Write → View
+view_for d cells writes = record { w = d.word; a = d.address; cells = cells; writes = writes }
+
+-- one run over cells under no write: how it ended, and the nodes and cells after it
+pub record Ended : Type 0 where
+  pub end : End
+  pub nodes : List Node
+  pub cells : List Cell
+
+unfoldable pub end_made : Desc → Instr → Regs → List Gate → List Node → List Cell → Ended
+end_made d i regs compared nodes cells =
+    let r = run_made d i regs nodes cells [] in
+    let word = touch_made r.flow.nodes (view_for d r.flow.cells r.writes) compared in
+    record { end = end_of r word.0; nodes = word.1; cells = cells_after r.flow.nodes d.word r.flow.cells compared }
+
 -- two runs over one storage, the second with none of the first one's writes: how each ended, and the nodes and cells after both
 pub record Both : Type 0 where
   pub first : End
@@ -32,23 +49,11 @@ pub record Both : Type 0 where
   pub nodes : List Node
   pub cells : List Cell
 
--- the touched cells of a description's machine
-abbrev pub view_for : Desc → List Cell → List Write → View
-view_for d cells writes = record { w = d.word; a = d.address; cells = cells; writes = writes }
-
 unfoldable pub both_made : Desc → Instr → Unknowns → List Gate → List Node → List Cell → Both
 both_made d i u v nodes cells =
-    let first = run_made d i (first_regs u v) nodes cells [] in
-    let first_word = touch_made first.flow.nodes (view_for d first.flow.cells first.writes) u.compared in
-    let between = cells_after first.flow.nodes d.word first.flow.cells u.compared in
-    let second = run_made d i (second_regs u v) first_word.1 between [] in
-    let second_word = touch_made second.flow.nodes (view_for d second.flow.cells second.writes) u.compared in
-    record {
-      first = end_of first first_word.0;
-      second = end_of second second_word.0;
-      nodes = second_word.1;
-      cells = cells_after second.flow.nodes d.word second.flow.cells u.compared;
-    }
+    let first = end_made d i (first_regs u v) u.compared nodes cells in
+    let second = end_made d i (second_regs u v) u.compared first.nodes first.cells in
+    record { first = first.end; second = second.end; nodes = second.nodes; cells = second.cells }
 
 -- done: neither trap
 abbrev pub done_made : List Node → End → Gate × List Node

@@ -16,6 +16,7 @@ use pg_circuit::{Circuit, Gate};
 use pg_symex::{Regs, SymOutcome, run_symbolic};
 use pg_type::Kind;
 use pg_valid::Machine;
+use pg_vec::compare::same;
 use pg_vec::gate::{and, or, xor};
 use pg_vec::{Bits, ops};
 use std::alloc::{AllocError, Global};
@@ -46,4 +47,139 @@ pub struct BothEnds {
     pub first: End,
     /// From the second.
     pub second: End,
+}
+
+/// Done: neither trap. The error is want of memory.
+fn done(circuit: &mut Circuit, end: &End) -> Result<Gate, AllocError>
+    requires mem_trap { IsThere (length circuit.old.nodes) end.now.mem_trap }
+    requires trap { IsThere (length circuit.old.nodes) end.now.trap }
+    ensures made { IfOk result (λ gate. (gate, circuit.new.nodes) ≡ done_made circuit.old.nodes end.now) }
+    ensures there { IfOk result (λ gate. LeavesGate circuit.old.nodes circuit.new.nodes gate) }
+{
+    and(circuit, circuit.not(end.mem_trap), circuit.not(end.trap))
+}
+
+/// The first run is done, with another mode or another R than before. The error is want of memory.
+fn control(circuit: &mut Circuit, u: &Unknowns, first: &End) -> Result<Gate, AllocError>
+    requires unknowns { AreUnknowns (length circuit.old.nodes) (length u.now.p) u.now }
+    requires first { AreEnd (length circuit.old.nodes) (length first.now.word) (length u.now.p) first.now }
+    ensures made { IfOk result (λ gate. (gate, circuit.new.nodes) ≡ control_made circuit.old.nodes u.now first.now) }
+    ensures there { IfOk result (λ gate. LeavesGate circuit.old.nodes circuit.new.nodes gate) }
+{
+    let gate = done(circuit, first)?;
+    let mode = same(circuit, first.mode.as_slice(), u.first_mode.as_slice())?;
+    let l = alike(circuit, mode, &first.l, &u.first_l)?;
+    let b = alike(circuit, l, &first.b, &u.first_b)?;
+    and(circuit, gate, circuit.not(b))
+}
+
+/// What two done runs leave differs: P, or the word at the compared address, where that is usable. The error is want of memory.
+fn seen_apart(
+    alloc: Global,
+    circuit: &mut Circuit,
+    u: &Unknowns,
+    v: &Bits,
+    first: &End,
+    second: &End,
+) -> Result<Gate, AllocError>
+    requires unknowns { AreUnknowns (length circuit.old.nodes) (length v.now) u.now }
+    requires usable { AreBits (length circuit.old.nodes) (length v.now) v.now }
+    requires first { AreEnd (length circuit.old.nodes) (length first.now.word) (length v.now) first.now }
+    requires second { AreEnd (length circuit.old.nodes) (length first.now.word) (length v.now) second.now }
+    ensures made { IfOk result (λ gate. (gate, circuit.new.nodes) ≡ seen_apart_made circuit.old.nodes u.now v.now first.now second.now) }
+    ensures there { IfOk result (λ gate. LeavesGate circuit.old.nodes circuit.new.nodes gate) }
+{
+    let same_p = same(circuit, first.p.as_slice(), second.p.as_slice())?;
+    let same_word = same(circuit, first.word.as_slice(), second.word.as_slice())?;
+    let inside = ops::lt(alloc, circuit, &u.compared, v)?;
+    let odd = and(circuit, bit_0(&inside), circuit.not(same_word))?;
+    or(circuit, circuit.not(same_p), odd)
+}
+
+/// The second is done; or it does not memory trap, and the first traps. The error is want of memory.
+fn broken(circuit: &mut Circuit, first: &End, second: &End) -> Result<Gate, AllocError>
+    requires trap { IsThere (length circuit.old.nodes) first.now.trap }
+    requires second_mem_trap { IsThere (length circuit.old.nodes) second.now.mem_trap }
+    requires second_trap { IsThere (length circuit.old.nodes) second.now.trap }
+    ensures made { IfOk result (λ gate. (gate, circuit.new.nodes) ≡ broken_made circuit.old.nodes first.now second.now) }
+    ensures there { IfOk result (λ gate. LeavesGate circuit.old.nodes circuit.new.nodes gate) }
+{
+    let second_done = done(circuit, second)?;
+    let odd = and(circuit, first.trap, circuit.not(second.mem_trap))?;
+    or(circuit, second_done, odd)
+}
+
+/// The second is done, and the first is not, or leaves something else. The error is want of memory.
+fn mode(
+    alloc: Global,
+    circuit: &mut Circuit,
+    u: &Unknowns,
+    v: &Bits,
+    first: &End,
+    second: &End,
+) -> Result<Gate, AllocError>
+    requires unknowns { AreUnknowns (length circuit.old.nodes) (length v.now) u.now }
+    requires usable { AreBits (length circuit.old.nodes) (length v.now) v.now }
+    requires first { AreEnd (length circuit.old.nodes) (length first.now.word) (length v.now) first.now }
+    requires second { AreEnd (length circuit.old.nodes) (length first.now.word) (length v.now) second.now }
+    ensures made { IfOk result (λ gate. (gate, circuit.new.nodes) ≡ mode_made circuit.old.nodes u.now v.now first.now second.now) }
+    ensures there { IfOk result (λ gate. LeavesGate circuit.old.nodes circuit.new.nodes gate) }
+{
+    let first_done = done(circuit, first)?;
+    let second_done = done(circuit, second)?;
+    let apart = seen_apart(alloc, circuit, u, v, first, second)?;
+    let differ = or(circuit, circuit.not(first_done), apart)?;
+    and(circuit, second_done, differ)
+}
+
+/// One of both is done; or both are, and leave different things. The error is want of memory.
+fn either(
+    alloc: Global,
+    circuit: &mut Circuit,
+    u: &Unknowns,
+    v: &Bits,
+    first: &End,
+    second: &End,
+) -> Result<Gate, AllocError>
+    requires unknowns { AreUnknowns (length circuit.old.nodes) (length v.now) u.now }
+    requires usable { AreBits (length circuit.old.nodes) (length v.now) v.now }
+    requires first { AreEnd (length circuit.old.nodes) (length first.now.word) (length v.now) first.now }
+    requires second { AreEnd (length circuit.old.nodes) (length first.now.word) (length v.now) second.now }
+    ensures made { IfOk result (λ gate. (gate, circuit.new.nodes) ≡ either_made circuit.old.nodes u.now v.now first.now second.now) }
+    ensures there { IfOk result (λ gate. LeavesGate circuit.old.nodes circuit.new.nodes gate) }
+{
+    let first_done = done(circuit, first)?;
+    let second_done = done(circuit, second)?;
+    let apart = seen_apart(alloc, circuit, u, v, first, second)?;
+    let one = xor(circuit, first_done, second_done)?;
+    let two = and(circuit, first_done, second_done)?;
+    let differ = and(circuit, two, apart)?;
+    or(circuit, one, differ)
+}
+
+/// Both runs end as the kind asks. The error is want of memory.
+pub fn ends(
+    alloc: Global,
+    circuit: &mut Circuit,
+    kind: Kind,
+    u: &Unknowns,
+    v: &Bits,
+    both: &BothEnds,
+) -> Result<Gate, AllocError>
+    requires unknowns { AreUnknowns (length circuit.old.nodes) (length v.now) u.now }
+    requires usable { AreBits (length circuit.old.nodes) (length v.now) v.now }
+    requires first { AreEnd (length circuit.old.nodes) (length both.now.first.word) (length v.now) both.now.first }
+    requires second { AreEnd (length circuit.old.nodes) (length both.now.first.word) (length v.now) both.now.second }
+    ensures made { IfOk result (λ gate. (gate, circuit.new.nodes) ≡ ends_made kind circuit.old.nodes u.now v.now both.now.first both.now.second) }
+    ensures there { IfOk result (λ gate. LeavesGate circuit.old.nodes circuit.new.nodes gate) }
+{
+    let (first, second) = (&both.first, &both.second);
+    match kind {
+        Kind::Privileged => broken(circuit, first, second),
+        Kind::Control | Kind::UControl => control(circuit, u, first),
+        Kind::ModeDep => mode(alloc, circuit, u, v, first, second),
+        Kind::Location | Kind::Bound | Kind::ULocation | Kind::UBound => {
+            either(alloc, circuit, u, v, first, second)
+        }
+    }
 }
