@@ -1,0 +1,6 @@
+pub mod Made
+pub mod ThereLaws
+pub mod FitsLaws
+pub mod FitsLaw
+pub mod EndsLaws
+pub mod BothLaws
