@@ -14,7 +14,8 @@ use Rattle.pg_symex.specs.Exprs.{with_made}
 use Rattle.pg_ask.specs.declared.unknowns.Unknowns.{Unknowns}
 use Rattle.pg_ask.specs.Unknowns.{unknowns_made}
 use Rattle.pg_ask.specs.Fits.{fits_made}
-use Rattle.pg_ask.specs.Ends.{Both, view_for, both_made, ends_made}
+use Rattle.pg_ask.specs.declared.ends.End.{End}
+use Rattle.pg_ask.specs.Ends.{view_for, both_made, ends_made}
 
 -- the unknowns, the cell at P, which is touched first of all, and the word there
 pub record Begun : Type 0 where
@@ -39,10 +40,10 @@ pub record Question : Type 0 where
 
 -- all of it: what is asked of registers, sizes and the word at P, that both runs end as the kind asks, and that the touched
 -- cells are those of one storage
-unfoldable pub root_made : Kind → Unknowns → List Gate → Gate → Both → Gate × List Node
-root_made kind u v fits both =
-    with_made (ends_made kind both.nodes u v both.first both.second) (λ ends after_ends.
-    with_made (consistent_made after_ends both.cells) (λ whole after_whole.
+unfoldable pub root_made : Kind → Unknowns → List Gate → Gate → List Node → List Cell → (first second : End) → Gate × List Node
+root_made kind u v fits nodes cells first second =
+    with_made (ends_made kind nodes u v first second) (λ ends after_ends.
+    with_made (consistent_made after_ends cells) (λ whole after_whole.
     with_made (and_made after_whole fits ends) (λ shown after_shown.
     and_made after_shown shown whole)))
 
@@ -51,7 +52,7 @@ question_made d i kind =
     let begun = begun_made d kind in
     let fits = fits_made d i kind begun.unknowns begun.word begun.nodes in
     let both = both_made d i begun.unknowns fits.0.0 fits.1 begun.cells in
-    let root = root_made kind begun.unknowns fits.0.0 fits.0.1 both in
+    let root = root_made kind begun.unknowns fits.0.0 fits.0.1 both.nodes both.cells both.first both.second in
     record { nodes = root.1; root = root.0; unknowns = begun.unknowns; usable = fits.0.0; cells = both.cells }
 
 -- the clauses: those of all nodes, and that the root is true

@@ -24,12 +24,12 @@ pub record AreUnknowns (places a : ℕ) (u : Unknowns) : Type 0 where
 -- what a call leaves of a circuit: the nodes that were there, and a string of a width
 pub record LeavesBits (old new : List Node) (width : ℕ) (bits : List Gate) : Type 0 where
   pub front : GrowsTo old new
-  pub bits : AreBits (length new) width bits
+  pub are_bits : AreBits (length new) width bits
 
 -- the nodes that were there, and a gate
 pub record LeavesGate (old new : List Node) (gate : Gate) : Type 0 where
   pub front : GrowsTo old new
-  pub gate : IsThere (length new) gate
+  pub there : IsThere (length new) gate
 
 -- an end of a run of a machine with words of w bits and addresses of a
 pub record AreEnd (places w a : ℕ) (e : End) : Type 0 where

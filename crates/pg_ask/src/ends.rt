@@ -1,13 +1,15 @@
 //! Two runs of one body over one storage, and whether they end as a kind asks.
 
-ghost use Rattle.std.specs.Prelude.{◌≡◌, ◌<◌, [], length, slice_get, Some, IfOk};
+ghost use Rattle.std.specs.Prelude.{◌≡◌, ◌<◌, [], length, slice_get, Some, IfOk, OnOk};
+ghost use Rattle.pg_circuit.specs.Grown.{GrowsTo};
 ghost use Rattle.pg_circuit.specs.Values.{IsThere};
 ghost use Rattle.pg_ast.specs.declared.tree.Instr.{Instr as Instrs};
 ghost use Rattle.pg_cells.specs.Over.{IsOver};
 ghost use Rattle.pg_symex.specs.There.{AreBits, AreRegs};
 ghost use Rattle.pg_ask.specs.There.{AreUnknowns, AreEnd, LeavesGate};
+ghost use Rattle.pg_ask.specs.Ended.{AreEnds, IsEnded, AreBoth};
 ghost use Rattle.pg_ask.specs.Unknowns.{first_regs, second_regs};
-ghost use Rattle.pg_ask.specs.Ends.{both_made, done_made, control_made, seen_apart_made, broken_made, mode_made, either_made, ends_made};
+ghost use Rattle.pg_ask.specs.Ends.{view_for, end_made, both_made, done_made, control_made, seen_apart_made, broken_made, mode_made, either_made, ends_made};
 
 use crate::fits::{alike, bit_0};
 use crate::unknowns::Unknowns;
@@ -182,4 +184,108 @@ pub fn ends(
             either(alloc, circuit, u, v, first, second)
         }
     }
+}
+
+/// How one run ends, over cells under no write, which it leaves so. The error is want of memory.
+fn end(
+    alloc: Global,
+    m: &Machine,
+    instr: usize,
+    circuit: &mut Circuit,
+    touched: &mut Touched,
+    regs: &Regs,
+    compared: &Bits,
+) -> Result<End, AllocError>
+    requires instr { instr < length m.now.desc.instrs }
+    requires view { touched.old ≡ view_for m.now.desc touched.old.cells [] }
+    requires over { IsOver circuit.old.nodes touched.old }
+    requires regs { AreRegs (length circuit.old.nodes) m.now.desc.address regs.now }
+    requires compared { AreBits (length circuit.old.nodes) m.now.desc.address compared.now }
+    ensures made { IfOk result (λ e. (i : Instrs) → slice_get m.now.desc.instrs instr ≡ Some i → IsEnded (end_made m.now.desc i regs.now compared.now circuit.old.nodes touched.old.cells) e circuit.new.nodes touched.new.cells) }
+    ensures view { OnOk result (touched.new ≡ view_for m.now.desc touched.new.cells []) }
+    ensures over { OnOk result (IsOver circuit.new.nodes touched.new) }
+    ensures there { IfOk result (λ e. AreEnd (length circuit.new.nodes) m.now.desc.word m.now.desc.address e) }
+    ensures kept { OnOk result (GrowsTo circuit.old.nodes circuit.new.nodes) }
+{
+    let SymOutcome {
+        mem_trap,
+        trap,
+        mode,
+        p,
+        l,
+        b,
+        writes: _,
+    } = run_symbolic(alloc, m, instr, circuit, touched, regs)?;
+    let word = touched.touch(circuit, compared)?;
+    touched.rewind();
+    Ok(End {
+        mem_trap,
+        trap,
+        mode,
+        p,
+        l,
+        b,
+        word,
+    })
+}
+
+/// How both runs end, over cells under no write, which they leave so. The error is want of memory.
+pub fn both(
+    alloc: Global,
+    m: &Machine,
+    instr: usize,
+    circuit: &mut Circuit,
+    touched: &mut Touched,
+    u: &Unknowns,
+    v: &Bits,
+) -> Result<BothEnds, AllocError>
+    requires instr { instr < length m.now.desc.instrs }
+    requires view { touched.old ≡ view_for m.now.desc touched.old.cells [] }
+    requires over { IsOver circuit.old.nodes touched.old }
+    requires unknowns { AreUnknowns (length circuit.old.nodes) m.now.desc.address u.now }
+    requires usable { AreBits (length circuit.old.nodes) m.now.desc.address v.now }
+    ensures made { IfOk result (λ e. (i : Instrs) → slice_get m.now.desc.instrs instr ≡ Some i → AreBoth (both_made m.now.desc i u.now v.now circuit.old.nodes touched.old.cells) e circuit.new.nodes touched.new.cells) }
+    ensures view { OnOk result (touched.new ≡ view_for m.now.desc touched.new.cells []) }
+    ensures over { OnOk result (IsOver circuit.new.nodes touched.new) }
+    ensures there { IfOk result (λ e. AreEnds (length circuit.new.nodes) m.now.desc.word m.now.desc.address e) }
+    ensures kept { OnOk result (GrowsTo circuit.old.nodes circuit.new.nodes) }
+{
+    let regs = first_regs(alloc, u, v)?;
+    let first = end(alloc, m, instr, circuit, touched, &regs, &u.compared)?;
+    let regs = second_regs(alloc, u, v)?;
+    let second = end(alloc, m, instr, circuit, touched, &regs, &u.compared)?;
+    Ok(BothEnds { first, second })
+}
+
+/// The registers of the first state. The error is want of memory.
+fn first_regs(alloc: Global, u: &Unknowns, v: &Bits) -> Result<Regs, AllocError>
+    ensures { IfOk result (λ r. r ≡ first_regs u.now v.now) }
+{
+    registers(alloc, &u.first_mode, &u.p, &u.first_l, &u.first_b, v)
+}
+
+/// The registers of the second. The error is want of memory.
+fn second_regs(alloc: Global, u: &Unknowns, v: &Bits) -> Result<Regs, AllocError>
+    ensures { IfOk result (λ r. r ≡ second_regs u.now v.now) }
+{
+    registers(alloc, &u.second_mode, &u.p, &u.second_l, &u.second_b, v)
+}
+
+/// These registers once more. The error is want of memory.
+fn registers(
+    alloc: Global,
+    mode: &Bits,
+    p: &Bits,
+    l: &Bits,
+    b: &Bits,
+    v: &Bits,
+) -> Result<Regs, AllocError>
+    ensures { IfOk result (λ r. r ≡ record { mode = mode.now; p = p.now; l = l.now; b = b.now; v = v.now }) }
+{
+    let mode = Bits::from_slice(alloc, mode.as_slice())?;
+    let p = Bits::from_slice(alloc, p.as_slice())?;
+    let l = Bits::from_slice(alloc, l.as_slice())?;
+    let b = Bits::from_slice(alloc, b.as_slice())?;
+    let v = Bits::from_slice(alloc, v.as_slice())?;
+    Ok(Regs { mode, p, l, b, v })
 }
