@@ -4,3 +4,5 @@ pub mod FitsLaws
 pub mod FitsLaw
 pub mod EndsLaws
 pub mod BothLaws
+pub mod InputStages
+pub mod UnknownsLaws
