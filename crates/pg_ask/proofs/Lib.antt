@@ -6,3 +6,5 @@ pub mod EndsLaws
 pub mod BothLaws
 pub mod InputStages
 pub mod UnknownsLaws
+pub mod CausesLaw
+pub mod QuestionLaws

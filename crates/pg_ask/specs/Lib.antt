@@ -5,3 +5,4 @@ pub mod Ends
 pub mod Ended
 pub mod Question
 pub mod Asked
+pub mod Means
