@@ -8,3 +8,4 @@ pub mod InputStages
 pub mod UnknownsLaws
 pub mod CausesLaw
 pub mod QuestionLaws
+pub mod CourseLaws
