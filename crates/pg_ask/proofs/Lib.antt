@@ -9,3 +9,5 @@ pub mod UnknownsLaws
 pub mod CausesLaw
 pub mod QuestionLaws
 pub mod CourseLaws
+pub mod EndsMean
+pub mod AssignmentsLaw
