@@ -78,7 +78,7 @@ mode-same zero (suc n) l k e = absurd (cc e)
 mode-same (suc m) zero l k e = absurd (cc e)
 mode-same (suc m) (suc n) l k e = omega arith
 
-apart-test : (m n : ℕ) → m ≢ n → nat_eq m n ≡ false
+pub apart-test : (m n : ℕ) → m ≢ n → nat_eq m n ≡ false
 apart-test m n h = by (nat_eq m n) refl
   where
     by : (b : Bool) → nat_eq m n ≡ b → b ≡ false

@@ -11,3 +11,4 @@ pub mod QuestionLaws
 pub mod CourseLaws
 pub mod EndsMean
 pub mod AssignmentsLaw
+pub mod PairsLaw
