@@ -5,7 +5,6 @@ use Rattle.pg_ast.specs.declared.tree.Desc.{Desc}
 use Rattle.pg_meaning.specs.States.{State, window}
 use Rattle.pg_type.specs.declared.kind.Kind.{Kind}
 use Rattle.pg_type.specs.declared.kind.Kind.TheVariants.{Privileged, Control, ModeDep, Location, Bound, UControl, ULocation, UBound}
-use Rattle.pg_type.specs.Kinds.{Shows}
 use Rattle.pg_pairs.specs.Pair.{Pair, PairShows}
 
 -- two storages are one where the kind makes the two states equal, but for the mode; where it moves the window, or bounds

@@ -157,7 +157,7 @@ bound_alike d i s t harmless first second same at mode l done = by_bound (equal_
     ))
 
 -- a window at another place, in a storage of the same size
-place_alike : (d : Desc) (i : Instr) (s t : State) → IsInnocuous d i → IsState d s → IsState d t → LookAlike s t → IsAt i s →
+pub place_alike : (d : Desc) (i : Instr) (s t : State) → IsInnocuous d i → IsState d s → IsState d t → LookAlike s t → IsAt i s →
     length s.cells ≡ length t.cells → s.psw.mode ≡ t.psw.mode → s.psw.b ≡ t.psw.b → IsDone (course_at d i s) →
     observation d i s ≡ observation d i t
 place_alike d i s t harmless first second same at size mode b done = by_place (equal_or_not s.psw.l t.psw.l)
@@ -184,7 +184,7 @@ place_alike d i s t harmless first second same at size mode b done = by_place (e
     )))
 
 -- a state of either mode, against the same in user mode
-mode_alike : (d : Desc) (i : Instr) (t : State) → IsInnocuous d i → IsState d t → IsAt i t → IsDone (course_at d i (in_user t)) →
+pub mode_alike : (d : Desc) (i : Instr) (t : State) → IsInnocuous d i → IsState d t → IsAt i t → IsDone (course_at d i (in_user t)) →
     observation d i (in_user t) ≡ observation d i t
 mode_alike d i t harmless state at done = by_mode t.psw.mode refl
   where
@@ -200,7 +200,7 @@ mode_alike d i t harmless state at done = by_mode t.psw.mode refl
       },
     ))))
 
-in_user-state : (d : Desc) (t : State) → IsState d t → IsState d (in_user t)
+pub in_user-state : (d : Desc) (t : State) → IsState d t → IsState d (in_user t)
 in_user-state d t h = record {
   size_least = h.size_least;
   size_most = h.size_most;

@@ -4,6 +4,7 @@ pub mod KindLaws
 pub mod HybridRow
 pub mod AlikeLemmas
 pub mod AlikeSteps
+pub mod PaperLemmas
 pub mod PlainEquations
 pub mod BlindValues
 pub mod BlindDeeds

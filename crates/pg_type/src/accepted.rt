@@ -6,6 +6,7 @@
 
 ghost use Rattle.std.specs.Prelude.{◌≡◌};
 ghost use Rattle.pg_type.specs.Accepting.{IsAccepted, IsHybridAccepted};
+ghost use Rattle.pg_type.specs.PaperWords.{HoldPaperWords};
 
 use pg_valid::Machine;
 
@@ -17,10 +18,12 @@ pub struct Accepted<'m> {
 }
 
 impl<'m> Accepted<'m> {
-    /// A machine that is known to be so.
+    /// A machine that is known to be so. In the paper's own words too each of its instructions is then privileged, or not
+    /// sensitive on states that do not trap.
     pub fn of(machine: &'m Machine) -> Accepted<'m>
         requires { IsAccepted machine.now.desc }
-        ensures { result.machine.now ≡ machine.now }
+        ensures same { result.machine.now ≡ machine.now }
+        ensures paper_words { HoldPaperWords result.machine.now.desc }
     {
         Accepted { machine }
     }

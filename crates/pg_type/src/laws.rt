@@ -2,6 +2,7 @@
 
 ghost use Rattle.std.specs.Prelude.{◌≡◌, ◌↔◌, true, false, None};
 ghost use Rattle.pg_type.specs.Accepting.{IsPrivileged, IsNeverBroken, IsInnocuous, IsAccepted, IsHybridAccepted};
+ghost use Rattle.pg_type.specs.PaperWords.{HoldPaperWords};
 ghost use Rattle.pg_type.specs.Plain.{every_control, any_has, naming, is_guarded, first_breach};
 
 use pg_ast::{Desc, Instr};
@@ -16,6 +17,13 @@ pub fn privileged_where_never_broken(desc: &Desc, instr: &Instr)
 pub fn accepted_means_hybrid_accepted(desc: &Desc)
     requires { IsAccepted desc.now }
     ensures { IsHybridAccepted desc.now }
+{}
+
+/// The paper's own words hold of what is accepted: each instruction is paper-privileged, or not paper-sensitive on states
+/// that do not trap.
+pub fn accepted_means_paper_words(desc: &Desc)
+    requires { IsAccepted desc.now }
+    ensures { HoldPaperWords desc.now }
 {}
 
 /// An instruction whose body names none of the mode and the relocation-bounds register is innocuous.
