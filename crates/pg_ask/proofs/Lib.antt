@@ -12,3 +12,5 @@ pub mod CourseLaws
 pub mod EndsMean
 pub mod AssignmentsLaw
 pub mod PairsLaw
+pub mod TruthLaws
+pub mod ExactLaw
