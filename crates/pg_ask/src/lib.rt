@@ -4,6 +4,7 @@
 mod ask;
 mod ends;
 mod fits;
+pub mod laws;
 mod unknowns;
 
 pub use ask::{Asked, ask};
