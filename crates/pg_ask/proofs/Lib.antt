@@ -13,4 +13,5 @@ pub mod EndsMean
 pub mod AssignmentsLaw
 pub mod PairsLaw
 pub mod TruthLaws
+pub mod AnswersLaw
 pub mod ExactLaw

@@ -20,7 +20,7 @@ length-pad zero a = refl
 length-pad (suc n) [] = ap (λ k. suc k) (length-pad n [])
 length-pad (suc n) (b ∷ a) = ap (λ k. suc k) (length-pad n a)
 
-get_or-pad : (n : ℕ) (a : List Bool) (k : ℕ) → k < n → get_or (pad n a) k false ≡ get_or a k false
+pub get_or-pad : (n : ℕ) (a : List Bool) (k : ℕ) → k < n → get_or (pad n a) k false ≡ get_or a k false
 unfolding pad
 get_or-pad zero a k l = absurd (omega arith)
 get_or-pad (suc n) [] zero l = refl

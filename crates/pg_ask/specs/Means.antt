@@ -63,6 +63,11 @@ AssignmentsShow d = (k : ℕ) (i : Instr) (kind : Kind) (inputs : List Bool) →
     (let q = question_made d i kind in gate_value (values_of inputs q.nodes) q.root) ≡ true →
     (let q = question_made d i kind in StandFor d i kind (values_of inputs q.nodes) q)
 
+-- the same of whatever makes all clauses true: a value for each node in order, false past its end
+abbrev pub AnswersShow : Desc → Type 0
+AnswersShow d = (k : ℕ) (i : Instr) (kind : Kind) (assignment : List Bool) → IsValid d → slice_get d.instrs k ≡ Some i →
+    clauses_true assignment (question d i kind) ≡ true → StandFor d i kind assignment (question_made d i kind)
+
 -- ---- from pairs to values
 
 -- there are inputs under which the root is true

@@ -1,6 +1,6 @@
 //! What questions mean. None of it does anything when it runs.
 
-ghost use Rattle.pg_ask.specs.Means.{QuestionsAre, AssignmentsShow, PairsHaveAssignments, CausesKeepQuestions, QuestionsExact};
+ghost use Rattle.pg_ask.specs.Means.{QuestionsAre, AssignmentsShow, AnswersShow, PairsHaveAssignments, CausesKeepQuestions, QuestionsExact};
 
 use pg_ast::Desc;
 
@@ -15,6 +15,12 @@ pub fn questions_are_circuits(desc: &Desc)
 /// cells makes a pair that shows the kind.
 pub fn assignments_show(desc: &Desc)
     ensures { AssignmentsShow desc.now }
+{}
+
+/// The same of an assignment that makes all clauses of the question true, of whatever length: place k has the value of node k,
+/// and nodes past its end are false.
+pub fn answers_show(desc: &Desc)
+    ensures { AnswersShow desc.now }
 {}
 
 /// A pair that shows the kind is one of some inputs under which the root is true.
