@@ -1,5 +1,5 @@
 -- Assignments that make all clauses of a question true stand for pairs that show the kind.
-use Rattle.std.proofs.Common.{◌≡◌, ℕ, ◌-◌, ◌*◌, ◌+◌, ◌<◌, ◌^◌, min, Bool, true, List, [], ◌∷◌, length, take, get_or, slice_get, Some, refl, sym, ap, ◌∙◌, subst}
+use Rattle.std.proofs.Common.{◌≡◌, ℕ, ◌-◌, ◌*◌, ◌+◌, ◌<◌, ◌^◌, min, Bool, true, List, [], ◌∷◌, length, take, refl, sym, ap, ◌∙◌, subst}
 use Rattle.std.specs.List.{All}
 use Rattle.std.proofs.lemmas.List.Elements.{All-head, All-tail}
 use Rattle.pg_circuit.specs.declared.node.Gate.{Gate}
@@ -10,19 +10,18 @@ use Rattle.pg_vec.specs.Number.{number, bit_of}
 use Rattle.pg_vec.specs.There.{AreThere}
 use Rattle.pg_cells.specs.declared.cell.Cell.{Cell}
 use Rattle.pg_cells.specs.Storage.{Known, Agrees, AreConsistent}
-use Rattle.pg_cells.specs.Cells.{known_of, known_cells}
+use Rattle.pg_cells.specs.Cells.{known_cells}
 use Rattle.pg_cells.specs.Over.{IsWhole}
 use Rattle.pg_cells.proofs.ConsistentLaws.{cells-whole}
 use Rattle.pg_cnf.specs.Truth.{clauses_true}
-use Rattle.pg_cnf.specs.Encoded.{clauses_of, IsRun}
+use Rattle.pg_cnf.specs.Encoded.{clauses_of}
 use Rattle.pg_cnf.proofs.TruthLemmas.{run_of_true}
 use Rattle.pg_ast.specs.declared.tree.Instr.{Instr}
 use Rattle.pg_ast.specs.declared.tree.Desc.{Desc}
-use Rattle.pg_valid.specs.Valid.{IsValid}
 use Rattle.pg_type.specs.declared.kind.Kind.{Kind}
 use Rattle.pg_symex.specs.Runs.{AllRunRight}
-use Rattle.pg_pairs.specs.Pair.{Pair, PairShows}
-use Rattle.pg_ask.specs.Question.{Question, question_made, question}
+use Rattle.pg_pairs.specs.Pair.{PairShows}
+use Rattle.pg_ask.specs.Question.{Question, question_made}
 use Rattle.pg_ask.specs.Means.{IsQuestion, pair_of, StandFor, AnswersShow}
 use Rattle.pg_ask.proofs.TruthLaws.{pad, length-pad, get_or-pad, padded-same}
 use Rattle.pg_ask.proofs.QuestionLaws.{question-means}

@@ -1,5 +1,5 @@
 -- Values that make the root true stand for pairs that show the kind.
-use Rattle.std.proofs.Common.{◌≡◌, ℕ, ◌-◌, ◌^◌, ◌<◌, ◌≤◌, nat_eq, min, Bool, true, false, not, ◌&&◌, List, [], ◌∷◌, length, take, get_or, slice_get, Option, None, Some, refl, sym, ap, ◌∙◌, subst, arith}
+use Rattle.std.proofs.Common.{◌≡◌, ℕ, ◌-◌, ◌^◌, ◌<◌, ◌≤◌, nat_eq, min, Bool, true, false, not, ◌&&◌, List, [], ◌∷◌, length, take, get_or, slice_get, Option, Some, refl, sym, ap, ◌∙◌, subst, arith}
 use Rattle.std.specs.Prelude.{◌≢◌, IsSomeAnd, IsTrue}
 use Rattle.std.specs.List.{All}
 use Rattle.std.proofs.lemmas.Bool.{false≢true, eqb-false}
@@ -8,7 +8,6 @@ use Rattle.std.proofs.lemmas.List.Elements.{All-nil, All-cons, All-head, All-tai
 use Rattle.std.proofs.lemmas.Option.{slice_get-get_or}
 use Rattle.pg_circuit.specs.declared.node.Gate.{Gate}
 use Rattle.pg_circuit.specs.Values.{gate_value, values_of}
-use Rattle.pg_word.specs.declared.psw.Psw.{Psw}
 use Rattle.pg_word.specs.Psw.{mode_of}
 use Rattle.pg_vec.specs.Number.{number}
 use Rattle.pg_vec.specs.There.{AreValues}
@@ -22,17 +21,14 @@ use Rattle.pg_cells.proofs.ConsistentLaws.{cells-whole}
 use Rattle.pg_ast.specs.declared.tree.Instr.{Instr}
 use Rattle.pg_ast.specs.declared.tree.Desc.{Desc}
 use Rattle.pg_meaning.specs.Patterns.{matches}
-use Rattle.pg_meaning.specs.Bodies.{Course, After, body}
-use Rattle.pg_valid.specs.Valid.{IsValid}
+use Rattle.pg_meaning.specs.Bodies.{body}
 use Rattle.pg_type.specs.declared.kind.Kind.{Kind}
 use Rattle.pg_type.specs.declared.kind.Kind.TheVariants.{Privileged, Control, ModeDep, Location, Bound, UControl, ULocation, UBound}
 use Rattle.pg_type.specs.Kinds.{fetched_word}
-use Rattle.pg_symex.specs.Numbers.{entry_psw}
 use Rattle.pg_symex.specs.There.{AreBits}
 use Rattle.pg_symex.specs.Runs.{AllRunRight}
-use Rattle.pg_pairs.specs.Pair.{Pair, IsPair, Relates, IsInBothModes, IsGivenTwice, IsMoved, IsRebounded, Ends, first_course, second_course, PairShows}
-use Rattle.pg_ask.specs.declared.unknowns.Unknowns.{Unknowns}
-use Rattle.pg_ask.specs.Unknowns.{moves, rebounds, first_regs, second_regs}
+use Rattle.pg_pairs.specs.Pair.{Pair, Relates, IsInBothModes, IsGivenTwice, IsMoved, IsRebounded, Ends, first_course, second_course, PairShows}
+use Rattle.pg_ask.specs.Unknowns.{moves, rebounds}
 use Rattle.pg_ask.specs.Question.{Question, question_made}
 use Rattle.pg_ask.specs.Means.{pair_of, StandFor, AssignmentsShow}
 use Rattle.pg_ask.proofs.FitsLaw.{apart_of, Fits, fits_of, fits-told}

@@ -1,5 +1,5 @@
 -- What two runs over one storage tell.
-use Rattle.std.proofs.Common.{◌≡◌, ℕ, ◌^◌, ◌<◌, Bool, true, false, List, [], length, take, get_or, slice_get, Some, refl, sym, ap, ◌∙◌, subst, arith}
+use Rattle.std.proofs.Common.{◌≡◌, ℕ, ◌^◌, Bool, true, false, List, [], length, take, get_or, slice_get, Some, refl, sym, ap, ◌∙◌}
 use Rattle.std.proofs.lemmas.List.Elements.{All-nil}
 use Rattle.pg_circuit.specs.declared.node.Gate.{Gate}
 use Rattle.pg_circuit.specs.declared.node.Node.{Node}
@@ -11,7 +11,6 @@ use Rattle.pg_word.specs.Psw.{mode_of}
 use Rattle.pg_vec.specs.Number.{number}
 use Rattle.pg_vec.specs.There.{AreValues}
 use Rattle.pg_vec.proofs.Kept.{front_then, there_later, values_earlier}
-use Rattle.pg_vec.proofs.EachLaws.{number-below}
 use Rattle.pg_cells.specs.declared.cell.Cell.{Cell}
 use Rattle.pg_cells.specs.declared.cell.Write.{Write}
 use Rattle.pg_cells.specs.Storage.{IsStorage, Agrees, written}

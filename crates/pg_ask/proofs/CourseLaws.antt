@@ -1,18 +1,15 @@
 -- The tests of how runs end, and how the courses of the body end.
-use Rattle.std.proofs.Common.{◌≡◌, ℕ, zero, suc, ◌+◌, ◌^◌, ◌<◌, ◌≤◌, nat_lt, nat_eq, Bool, true, false, not, ◌&&◌, ◌||◌, inl, inr, List, [], ◌∷◌, length, take, get_or, refl, sym, ap, ◌∙◌, subst, arith}
+use Rattle.std.proofs.Common.{◌≡◌, ℕ, zero, suc, ◌^◌, ◌<◌, ◌≤◌, nat_lt, nat_eq, Bool, true, false, not, ◌&&◌, ◌||◌, inl, inr, List, [], ◌∷◌, length, get_or, refl, sym, ap, ◌∙◌, subst, arith}
 use Rattle.std.specs.Prelude.{◌≢◌, ◌⊎◌, if◌then◌else◌}
 use Rattle.std.proofs.lemmas.Bool.{false≢true, eqb-true, eqb-false, ltb-true, lt-ltb}
-use Rattle.std.proofs.lemmas.Bool.Decides.{nat_tests}
 use Rattle.std.proofs.lemmas.List.{length-take, get_or-take}
 use Rattle.pg_circuit.specs.declared.node.Gate.{Gate}
 use Rattle.pg_circuit.specs.Values.{differ, gate_value}
 use Rattle.pg_word.specs.declared.psw.Psw.{Psw}
-use Rattle.pg_word.specs.declared.psw.Mode.{Mode}
-use Rattle.pg_word.specs.declared.psw.Mode.TheVariants.{S, U}
 use Rattle.pg_word.specs.Psw.{mode_of}
 use Rattle.pg_vec.specs.Number.{number}
 use Rattle.pg_meaning.specs.Bodies.{Course, MemTrapped, Trapped, Going, After}
-use Rattle.pg_type.specs.Kinds.{Observation, SeenMemTrap, SeenTrap, SeenDone, observed, IsDone, IsTrap, IsNoMemTrap, ChangesControl}
+use Rattle.pg_type.specs.Kinds.{SeenDone, observed, IsDone, IsTrap, IsNoMemTrap, ChangesControl}
 use Rattle.pg_ask.specs.declared.unknowns.Unknowns.{Unknowns}
 use Rattle.pg_ask.specs.declared.ends.End.{End}
 use Rattle.pg_ask.proofs.EndsLaws.{done_of, stays_of, seen_apart_of}
@@ -145,7 +142,7 @@ apart-told values a v u usable e f x y h k uv t z =
     let same_window : x.window ≡ y.window = cc z in
     let p_is : number values e.p ≡ number values f.p = sym (ap (λ (q : Psw). q.p) h.psw) ∙ same_p ∙ ap (λ (q : Psw). q.p) k.psw in
     let words : c < v → number values e.word ≡ number values f.word = λ l.
-        h.word ∙ sym (get_or-take v h.storage c 0 l) ∙ ap (λ (cs : List ℕ). get_or cs c 0) (sym h.window ∙ same_window ∙ k.window) ∙ get_or-take v k.storage c 0 l ∙ sym k.word in
+    h.word ∙ sym (get_or-take v h.storage c 0 l) ∙ ap (λ (cs : List ℕ). get_or cs c 0) (sym h.window ∙ same_window ∙ k.window) ∙ get_or-take v k.storage c 0 l ∙ sym k.word in
     by (nat_eq (number values e.p) (number values f.p)) (nat_lt c (number values usable)) (nat_eq (number values e.word) (number values f.word)) refl refl refl p_is (λ l. words (subst (λ n. c < n) uv l)) t
   where
     by : (b1 b2 b3 : Bool) → nat_eq (number values e.p) (number values f.p) ≡ b1 → nat_lt (number values u.compared) (number values usable) ≡ b2 → nat_eq (number values e.word) (number values f.word) ≡ b3 →

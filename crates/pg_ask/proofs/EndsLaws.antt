@@ -1,12 +1,11 @@
 -- What the gates are worth that runs end as a kind asks.
-use Rattle.std.proofs.Common.{◌≡◌, ℕ, nat_lt, nat_eq, Bool, true, false, not, ◌&&◌, ◌||◌, List, length, refl, sym, ap, ◌∙◌}
+use Rattle.std.proofs.Common.{ℕ, nat_lt, nat_eq, Bool, true, not, ◌&&◌, ◌||◌, List, length, sym, ◌∙◌}
 use Rattle.pg_circuit.specs.declared.node.Gate.{Gate}
 use Rattle.pg_circuit.specs.declared.node.Node.{Node}
 use Rattle.pg_circuit.specs.Nodes.{IsCircuit}
-use Rattle.pg_circuit.specs.Values.{differ, gate_value, IsThere}
+use Rattle.pg_circuit.specs.Values.{differ, gate_value}
 use Rattle.pg_circuit.specs.Made.{constant_gate, not_gate, and_made, xor_made}
 use Rattle.pg_vec.specs.Number.{number}
-use Rattle.pg_vec.specs.There.{AreThere}
 use Rattle.pg_vec.specs.Gates.{or_made}
 use Rattle.pg_vec.specs.Strings.{same_made}
 use Rattle.pg_vec.proofs.Kept.{front_then, there_later, all_there_later, xor-makes}

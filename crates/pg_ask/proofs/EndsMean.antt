@@ -1,11 +1,10 @@
 -- That runs end as a kind asks, as a test and of the courses of the body.
-use Rattle.std.proofs.Common.{◌≡◌, ℕ, ◌^◌, ◌<◌, ◌≤◌, Bool, true, false, List, length, refl, sym, ap, ◌∙◌, subst}
+use Rattle.std.proofs.Common.{◌≡◌, ℕ, ◌^◌, ◌<◌, ◌≤◌, Bool, true, false, List, sym, ap, ◌∙◌, subst}
 use Rattle.pg_circuit.specs.declared.node.Gate.{Gate}
 use Rattle.pg_circuit.specs.Values.{gate_value}
-use Rattle.pg_word.specs.declared.psw.Psw.{Psw}
 use Rattle.pg_word.specs.Psw.{mode_of}
 use Rattle.pg_vec.specs.Number.{number}
-use Rattle.pg_meaning.specs.Bodies.{Course, MemTrapped, Trapped, Going, After}
+use Rattle.pg_meaning.specs.Bodies.{Course, Going, After}
 use Rattle.pg_type.specs.declared.kind.Kind.{Kind}
 use Rattle.pg_type.specs.declared.kind.Kind.TheVariants.{Privileged, Control, ModeDep, Location, Bound, UControl, ULocation, UBound}
 use Rattle.pg_type.specs.Kinds.{ChangesControl}
@@ -13,7 +12,7 @@ use Rattle.pg_pairs.specs.Pair.{Pair, Ends}
 use Rattle.pg_ask.specs.declared.unknowns.Unknowns.{Unknowns}
 use Rattle.pg_ask.specs.declared.ends.End.{End}
 use Rattle.pg_ask.proofs.EndsLaws.{stays_of, seen_apart_of, ends_of, ends_at}
-use Rattle.pg_ask.proofs.BothLaws.{Leaves, EndTells}
+use Rattle.pg_ask.proofs.BothLaws.{EndTells}
 use Rattle.pg_ask.proofs.CourseLaws.{mem_of, trap_of, told, broken-told, told-broken, control-told, told-control, changes-told, told-changes, SeenApart, compared_for, apart-told, told-apart, mode-told, told-mode, either-told, told-either}
 
 -- two runs, and the pair of which they are

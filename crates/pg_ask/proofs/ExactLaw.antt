@@ -1,7 +1,5 @@
 -- The clauses of a question have an assignment exactly where two states show the kind.
-use Rattle.std.proofs.Common.{◌≡◌, ℕ, Bool, true, List, length, slice_get, Some, refl, sym, ap, ◌∙◌}
-use Rattle.pg_circuit.specs.declared.node.Gate.{Gate}
-use Rattle.pg_circuit.specs.declared.node.Node.{Node}
+use Rattle.std.proofs.Common.{◌≡◌, Bool, true, List, length, refl, sym, ap, ◌∙◌}
 use Rattle.pg_circuit.specs.Values.{gate_value, values_of}
 use Rattle.pg_vec.proofs.Kept.{front_same, values_later}
 use Rattle.pg_cnf.specs.Truth.{clauses_true}
@@ -10,7 +8,6 @@ use Rattle.pg_cnf.proofs.TruthLemmas.{run_of_true, true_of_run}
 use Rattle.pg_ast.specs.declared.tree.Instr.{Instr}
 use Rattle.pg_ast.specs.declared.tree.Desc.{Desc}
 use Rattle.pg_meaning.specs.States.{State}
-use Rattle.pg_valid.specs.Valid.{IsValid}
 use Rattle.pg_type.specs.declared.kind.Kind.{Kind}
 use Rattle.pg_type.specs.Kinds.{Shows}
 use Rattle.pg_symex.specs.Runs.{AllRunRight}
@@ -18,8 +15,8 @@ use Rattle.pg_pairs.specs.Pair.{Pair, PairShows}
 use Rattle.pg_pairs.specs.Placing.{state_around}
 use Rattle.pg_pairs.proofs.PairLemmas.{pairs_show, states_shown}
 use Rattle.pg_pairs.proofs.PlacingLemmas.{states_around}
-use Rattle.pg_ask.specs.Question.{Question, question_made, question}
-use Rattle.pg_ask.specs.Means.{pair_of, HasAssignment, StandFor, QuestionsExact}
+use Rattle.pg_ask.specs.Question.{Question, question_made}
+use Rattle.pg_ask.specs.Means.{pair_of, StandFor, QuestionsExact}
 use Rattle.pg_ask.proofs.TruthLaws.{pad, length-pad, padded-same}
 use Rattle.pg_ask.proofs.QuestionLaws.{QuestionMeans, question-means}
 use Rattle.pg_ask.proofs.AssignmentsLaw.{assignments-show}
@@ -44,19 +41,18 @@ states-of d i kind x h =
 pub questions-exact : (d : Desc) → AllRunRight d → QuestionsExact d
 questions-exact d right k i kind valid here =
     let q = question_made d i kind in
-    let m = question-means d k i kind right valid here in
-    (
-        λ a.
-            let long = pad (length q.nodes) a.0 in
-            let all : clauses_true long (clauses_of q.nodes q.root) ≡ true = padded-same a.0 q.nodes q.root m.is.circuit m.is.root ∙ a.1 in
-            let run = run_of_true long q.nodes q.root m.is.circuit (length-pad (length q.nodes) a.0) all in
-            let holds : gate_value (values_of run.inputs q.nodes) q.root ≡ true = ap (λ (vs : List Bool). gate_value vs q.root) (sym run.values) ∙ run.holds in
-            let x = shown-pair d i kind q m run.inputs (assignments-show d right k i kind run.inputs valid here holds) in
-            states-of d i kind x.0 x.1,
-        λ s.
-            let x = states_shown d i kind s.0 s.1 s.2 in
-            let h = pairs-have d right k i kind x.pair valid here x.shows in
-            let values = values_of h.inputs q.nodes in
-            let run : IsRun q.nodes q.root values = record { inputs = h.inputs; as_many = h.as_many; values = refl; holds = h.holds } in
-            (values, true_of_run values q.nodes q.root m.is.circuit run),
+    let m = question-means d k i kind right valid here in (
+      λ a.
+          let long = pad (length q.nodes) a.0 in
+          let all : clauses_true long (clauses_of q.nodes q.root) ≡ true = padded-same a.0 q.nodes q.root m.is.circuit m.is.root ∙ a.1 in
+          let run = run_of_true long q.nodes q.root m.is.circuit (length-pad (length q.nodes) a.0) all in
+          let holds : gate_value (values_of run.inputs q.nodes) q.root ≡ true = ap (λ (vs : List Bool). gate_value vs q.root) (sym run.values) ∙ run.holds in
+          let x = shown-pair d i kind q m run.inputs (assignments-show d right k i kind run.inputs valid here holds) in
+          states-of d i kind x.0 x.1,
+      λ s.
+          let x = states_shown d i kind s.0 s.1 s.2 in
+          let h = pairs-have d right k i kind x.pair valid here x.shows in
+          let values = values_of h.inputs q.nodes in
+          let run : IsRun q.nodes q.root values = record { inputs = h.inputs; as_many = h.as_many; values = refl; holds = h.holds } in
+          (values, true_of_run values q.nodes q.root m.is.circuit run),
     )

@@ -7,7 +7,7 @@ use Rattle.pg_circuit.specs.declared.node.Node.{Node}
 use Rattle.pg_circuit.specs.Nodes.{IsCircuit}
 use Rattle.pg_circuit.specs.Grown.{GrowsTo}
 use Rattle.pg_circuit.specs.Values.{gate_value, IsThere}
-use Rattle.pg_circuit.specs.Made.{constant_gate, not_gate, and_made}
+use Rattle.pg_circuit.specs.Made.{constant_gate, and_made}
 use Rattle.pg_vec.specs.Number.{number}
 use Rattle.pg_vec.specs.There.{AreThere, AreValues}
 use Rattle.pg_vec.proofs.Kept.{front_then, there_later, all_there_later, values_earlier, constant-value}
@@ -19,8 +19,8 @@ use Rattle.pg_type.specs.declared.kind.Kind.TheVariants.{Privileged, Control, Mo
 use Rattle.pg_symex.specs.There.{AreBits}
 use Rattle.pg_ask.specs.declared.unknowns.Unknowns.{Unknowns}
 use Rattle.pg_ask.specs.There.{AreUnknowns}
-use Rattle.pg_ask.specs.Fits.{usable_made, size_made, alike_made, differ_made, apart_made, matches_made, fits_made}
-use Rattle.pg_ask.proofs.Made.{GateIs, BitsAre, and-is, below_made, below-is}
+use Rattle.pg_ask.specs.Fits.{usable_made, size_made, alike_made, apart_made, matches_made, fits_made}
+use Rattle.pg_ask.proofs.Made.{GateIs, and-is, below_made, below-is}
 use Rattle.pg_ask.proofs.FitsLaws.{usable-is, size-is, alike-is, differ-is, stays-is, matches-is}
 use Rattle.pg_ask.proofs.ThereLaws.{unknowns_on}
 
@@ -211,9 +211,9 @@ fits-are d i kind u word nodes h un tw long l2 lq =
           let e3 : gate_value values m3.0 ≡ c1 && c2 = s3.value inputs values v3 ∙ ap (λ k. (k && c1) && c2) (constant-value inputs values m2.1 true s2.circuit v2) in
           let e4 : gate_value values m4.0 ≡ ((c1 && c2) && c3) && c4 = s4.value inputs values v4 ∙ ap (λ k. (k && c3) && c4) e3 in
           let e5 : gate_value values m5.0 ≡ (((c1 && c2) && c3) && c4) && nat_eq x y =
-              s5.value inputs values v5 ∙ ap (λ k. k && nat_eq x (number values m2.0)) e4 ∙ ap (λ k. (((c1 && c2) && c3) && c4) && nat_eq x k) (s2.value inputs values v2) in
+          s5.value inputs values v5 ∙ ap (λ k. k && nat_eq x (number values m2.0)) e4 ∙ ap (λ k. (((c1 && c2) && c3) && c4) && nat_eq x k) (s2.value inputs values v2) in
           let e7 : gate_value values m7.0 ≡ ((((c1 && c2) && c3) && c4) && nat_eq x y) && c6 =
-              s7.value inputs values v7 ∙ ap (λ k. k && gate_value values m6.0) e5 ∙ ap (λ k. ((((c1 && c2) && c3) && c4) && nat_eq x y) && k) (s6.value inputs values v6) in
+          s7.value inputs values v7 ∙ ap (λ k. k && gate_value values m6.0) e5 ∙ ap (λ k. ((((c1 && c2) && c3) && c4) && nat_eq x y) && k) (s6.value inputs values v6) in
           s9.value inputs values v
           ∙ ap (λ k. k && matches i.pattern.bytes (number values word)) (s8.value inputs values v8 ∙ ap (λ k. k && apart_of kind u values) e7);
     }

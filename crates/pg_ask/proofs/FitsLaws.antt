@@ -1,5 +1,5 @@
 -- What is asked of registers, sizes and the word at P, in numbers.
-use Rattle.std.proofs.Common.{◌≡◌, ℕ, zero, suc, ◌+◌, ◌-◌, ◌*◌, ◌/◌, ◌%◌, ◌^◌, ◌<◌, ◌≤◌, ◌==◌, nat_lt, nat_eq, min, Bool, true, false, not, ◌&&◌, cond, List, [], ◌∷◌, length, drop, get_or, refl, sym, ap, ◌∙◌, subst, arith}
+use Rattle.std.proofs.Common.{◌≡◌, ℕ, ◌+◌, ◌-◌, ◌%◌, ◌^◌, ◌<◌, ◌≤◌, ◌==◌, nat_lt, nat_eq, min, Bool, true, false, not, ◌&&◌, cond, List, [], ◌∷◌, length, drop, get_or, refl, sym, ap, ◌∙◌, arith}
 use Rattle.std.specs.Prelude.{if◌then◌else◌}
 use Rattle.std.proofs.Math.Nat.{add-mod_left, mod-eq_of_lt}
 use Rattle.std.proofs.lemmas.Nat.{mod-mul-add}
@@ -9,22 +9,20 @@ use Rattle.std.proofs.lemmas.List.Elements.{All-get_or}
 use Rattle.pg_circuit.specs.declared.node.Gate.{Gate}
 use Rattle.pg_circuit.specs.declared.node.Node.{Node}
 use Rattle.pg_circuit.specs.Nodes.{IsCircuit}
-use Rattle.pg_circuit.specs.Grown.{GrowsTo}
 use Rattle.pg_circuit.specs.Values.{gate_value, IsThere}
 use Rattle.pg_circuit.specs.Made.{constant_gate, not_gate, and_made}
-use Rattle.pg_word.specs.Bits.{difference_of}
 use Rattle.pg_vec.specs.Number.{number, bit_of}
-use Rattle.pg_vec.specs.There.{AreThere, AreValues}
-use Rattle.pg_vec.specs.Strings.{sub_made, lt_made, mux_made, same_made}
+use Rattle.pg_vec.specs.There.{AreThere}
+use Rattle.pg_vec.specs.Strings.{sub_made, mux_made, same_made}
 use Rattle.pg_vec.proofs.Kept.{front_same, front_then, there_later, all_there_later, values_earlier, constant-value}
 use Rattle.pg_vec.proofs.CompareLaws.{sub-makes}
 use Rattle.pg_vec.proofs.EachLaws.{mux-makes, number-below}
 use Rattle.pg_vec.proofs.Strings.{number-drop}
 use Rattle.pg_meaning.specs.Patterns.{byte_0, byte_1, bit_of_word, takes_bit, matches}
-use Rattle.pg_symex.specs.Exprs.{literal_bits, bit_0}
+use Rattle.pg_symex.specs.Exprs.{literal_bits}
 use Rattle.pg_symex.proofs.LeafLaws.{length-literal, literal-there, number-literal}
 use Rattle.pg_ask.specs.Fits.{usable_made, size_made, alike_made, differ_made, place_made, matches_made}
-use Rattle.pg_ask.proofs.Made.{GateIs, BitsAre, bits-of, then-gate, gate-as, and-is, and_not-is, equal-is, below_made, below-is}
+use Rattle.pg_ask.proofs.Made.{GateIs, BitsAre, then-gate, gate-as, and-is, and_not-is, equal-is, below_made, below-is}
 
 -- ---- the number of usable cells
 
@@ -82,11 +80,11 @@ usable-is nodes a l b n h tl tb tn wl wb wn =
           let zero_is : number values none ≡ 0 = number-literal (length n) 0 values (let q = number-below values n in omega arith) (λ k. constant-value inputs values n2 k s.circuit u2) in
           let room_is : number values room.0 ≡ (x + (2 ^ length n - y)) % 2 ^ length n = r.value inputs values u1 in
           let cells_are : number values cells.0 ≡ x - y =
-              c.value inputs values u3
-              ∙ ap (λ k. cond k (number values none) (number values room.0)) (s.value inputs values u2)
-              ∙ ap (λ k. cond (nat_lt x y) k (number values room.0)) zero_is
-              ∙ ap (λ k. cond (nat_lt x y) 0 k) room_is
-              ∙ cells-is (2 ^ length n) x y (number-below values n) in
+          c.value inputs values u3
+          ∙ ap (λ k. cond k (number values none) (number values room.0)) (s.value inputs values u2)
+          ∙ ap (λ k. cond (nat_lt x y) k (number values room.0)) zero_is
+          ∙ ap (λ k. cond (nat_lt x y) 0 k) room_is
+          ∙ cells-is (2 ^ length n) x y (number-below values n) in
           m.value inputs values v
           ∙ ap (λ k. cond k z (number values cells.0)) (t.value inputs values u4)
           ∙ ap (λ k. cond (nat_lt z k) z k) cells_are

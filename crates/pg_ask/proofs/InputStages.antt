@@ -1,5 +1,5 @@
 -- Strings of inputs, and strings that are the same as others: which inputs give them a number.
-use Rattle.std.proofs.Common.{◌≡◌, ℕ, zero, suc, ◌+◌, ◌*◌, ◌/◌, ◌%◌, ◌^◌, ◌<◌, ◌≤◌, nat_eq, Bool, true, false, List, [], ◌∷◌, ◌++◌, length, take, get_or, slice_get, Some, refl, sym, ap, ◌∙◌, subst, arith, append_assoc, length-append}
+use Rattle.std.proofs.Common.{◌≡◌, ℕ, zero, suc, ◌+◌, ◌/◌, ◌%◌, ◌^◌, ◌<◌, ◌≤◌, nat_eq, Bool, true, false, List, [], ◌∷◌, ◌++◌, length, take, get_or, slice_get, Some, refl, sym, ap, ◌∙◌, subst, arith, append_assoc, length-append}
 use Rattle.std.proofs.lemmas.Bool.{eqb-true, eqb-false, true≢false}
 use Rattle.std.proofs.lemmas.Nat.{mod_below, div-add-mod'}
 use Rattle.std.proofs.lemmas.List.{append-nil, take-take, length-take, take_all, take_at, get_or-take, get_or-append-add}
@@ -9,7 +9,7 @@ use Rattle.pg_circuit.specs.declared.node.Node.{Node}
 use Rattle.pg_circuit.specs.declared.node.Node.TheVariants.{Constant, Input}
 use Rattle.pg_circuit.specs.Nodes.{input_count, IsCircuit}
 use Rattle.pg_circuit.specs.Grown.{GrowsTo}
-use Rattle.pg_circuit.specs.Values.{gate_value, values_of}
+use Rattle.pg_circuit.specs.Values.{gate_value}
 use Rattle.pg_circuit.specs.Made.{gate_at}
 use Rattle.pg_circuit.proofs.CircuitLemmas.{input_count-append, IsCircuit-push}
 use Rattle.pg_circuit.proofs.MadeLemmas.{differ_false}
@@ -101,17 +101,17 @@ number-inputs nodes n x before inputs values h many l b v =
     let given : length (before ++ bits) ≡ input_count nodes + n = omega (arith, length-append before bits, length-bits_of n x) in
     number-gates_from n values (length nodes) x l
     (λ i li.
-        let node : slice_get new (length nodes + i) ≡ Some (Input (input_count nodes + i)) =
-            slice_get-get_or new (length nodes + i) Constant (omega arith)
-            ∙ ap (λ k. Some k) (get_or-append-add nodes ins i Constant ∙ get_or-inputs_from n (input_count nodes) i li) in
-        let at : input_count nodes + i ≡ length before + i = ap (λ k. k + i) (sym many) in
-        sym (get_or-take (length new) values (length nodes + i) false (omega arith))
-        ∙ ap (λ (vs : List Bool). get_or vs (length nodes + i) false) v.begun
-        ∙ input_value inputs new (length nodes + i) (input_count nodes + i) (inputs-circuit n nodes h) node
-        ∙ sym (get_or-take (length (before ++ bits)) inputs (input_count nodes + i) false (omega arith))
-        ∙ ap (λ (vs : List Bool). get_or vs (input_count nodes + i) false) b
-        ∙ ap (λ k. get_or (before ++ bits) k false) at
-        ∙ get_or-append-add before bits i false)
+    let node : slice_get new (length nodes + i) ≡ Some (Input (input_count nodes + i)) =
+    slice_get-get_or new (length nodes + i) Constant (omega arith)
+    ∙ ap (λ k. Some k) (get_or-append-add nodes ins i Constant ∙ get_or-inputs_from n (input_count nodes) i li) in
+    let at : input_count nodes + i ≡ length before + i = ap (λ k. k + i) (sym many) in
+    sym (get_or-take (length new) values (length nodes + i) false (omega arith))
+    ∙ ap (λ (vs : List Bool). get_or vs (length nodes + i) false) v.begun
+    ∙ input_value inputs new (length nodes + i) (input_count nodes + i) (inputs-circuit n nodes h) node
+    ∙ sym (get_or-take (length (before ++ bits)) inputs (input_count nodes + i) false (omega arith))
+    ∙ ap (λ (vs : List Bool). get_or vs (input_count nodes + i) false) b
+    ∙ ap (λ k. get_or (before ++ bits) k false) at
+    ∙ get_or-append-add before bits i false)
 
 pub inputs-stage : (nodes : List Node) (n : ℕ) → IsCircuit nodes → Stage nodes (inputs_made nodes n) n true []
 unfolding inputs_made

@@ -1,42 +1,37 @@
 -- Pairs that show a kind are those of some inputs under which the root is true.
-use Rattle.std.proofs.Common.{◌≡◌, ℕ, zero, suc, ◌+◌, ◌-◌, ◌^◌, ◌<◌, ◌≤◌, nat_eq, min, Bool, true, false, not, ◌&&◌, inl, inr, List, [], ◌∷◌, ◌++◌, length, take, replicate, get_or, slice_get, Option, None, Some, refl, sym, ap, ◌∙◌, subst, arith, length-append}
+use Rattle.std.proofs.Common.{◌≡◌, ℕ, zero, suc, ◌+◌, ◌-◌, ◌^◌, ◌<◌, ◌≤◌, nat_eq, min, Bool, true, false, not, ◌&&◌, inl, inr, List, [], ◌∷◌, ◌++◌, length, take, replicate, get_or, slice_get, Option, Some, refl, sym, ap, ◌∙◌, subst, arith, length-append}
 use Rattle.std.specs.Prelude.{◌≢◌, IsSomeAnd, IsTrue}
 use Rattle.std.proofs.lemmas.Nat.{pow_pos}
-use Rattle.std.proofs.lemmas.List.{length-take, length-take-le, length-replicate, take_all, take_at, get_or-take, get_or_append_left, ext_get_or}
+use Rattle.std.proofs.lemmas.List.{length-take-le, length-replicate, take_all, take_at, get_or-take, get_or_append_left, ext_get_or}
 use Rattle.std.proofs.lemmas.List.Elements.{All-append, All-replicate}
 use Rattle.std.proofs.lemmas.Option.{slice_get-get_or}
-use Rattle.pg_circuit.specs.declared.node.Gate.{Gate}
 use Rattle.pg_circuit.specs.declared.node.Node.{Node}
-use Rattle.pg_circuit.specs.Nodes.{input_count, IsCircuit}
+use Rattle.pg_circuit.specs.Nodes.{input_count}
 use Rattle.pg_circuit.specs.Grown.{GrowsTo}
 use Rattle.pg_circuit.specs.Values.{gate_value, values_of}
 use Rattle.pg_word.specs.declared.psw.Psw.{Psw}
 use Rattle.pg_word.specs.declared.psw.Mode.{Mode}
 use Rattle.pg_word.specs.declared.psw.Mode.TheVariants.{S, U}
-use Rattle.pg_word.specs.Shape.{IsShape}
-use Rattle.pg_word.specs.Psw.{bit_of, mode_of, window_len_of}
+use Rattle.pg_word.specs.Psw.{bit_of, mode_of}
 use Rattle.pg_vec.specs.Number.{number}
 use Rattle.pg_vec.specs.There.{AreValues}
 use Rattle.pg_vec.proofs.Kept.{front_same, front_length, values_later, values_earlier}
 use Rattle.pg_cells.specs.declared.cell.Cell.{Cell}
 use Rattle.pg_cells.specs.Storage.{IsStorage, Agrees}
 use Rattle.pg_cells.specs.Cells.{known_cells}
-use Rattle.pg_cells.specs.Over.{place_of, first_input, AreCells, IsInputOf}
-use Rattle.pg_cells.specs.Means.{HasInputs}
+use Rattle.pg_cells.specs.Over.{place_of, AreCells, IsInputOf}
 use Rattle.pg_cells.proofs.InputLaws.{has_inputs}
 use Rattle.pg_cells.proofs.LaterLaws.{given_true}
 use Rattle.pg_ast.specs.declared.tree.Instr.{Instr}
 use Rattle.pg_ast.specs.declared.tree.Desc.{Desc}
 use Rattle.pg_meaning.specs.Patterns.{matches}
-use Rattle.pg_meaning.specs.Bodies.{Course, After, body}
-use Rattle.pg_meaning.specs.States.{shape_of}
-use Rattle.pg_valid.specs.Valid.{IsValid}
+use Rattle.pg_meaning.specs.Bodies.{body}
 use Rattle.pg_valid.proofs.ValidFacts.{IsShape-of_valid}
 use Rattle.pg_type.specs.declared.kind.Kind.{Kind}
 use Rattle.pg_type.specs.declared.kind.Kind.TheVariants.{Privileged, Control, ModeDep, Location, Bound, UControl, ULocation, UBound}
 use Rattle.pg_symex.specs.Numbers.{entry_psw}
 use Rattle.pg_symex.specs.Runs.{AllRunRight}
-use Rattle.pg_pairs.specs.Pair.{Pair, IsPair, Relates, IsInBothModes, IsGivenTwice, IsMoved, IsRebounded, first_course, second_course, PairShows}
+use Rattle.pg_pairs.specs.Pair.{Pair, IsPair, Relates, IsInBothModes, IsGivenTwice, first_course, second_course, PairShows}
 use Rattle.pg_ask.specs.declared.unknowns.Unknowns.{Unknowns}
 use Rattle.pg_ask.specs.Unknowns.{moves, rebounds, first_regs, second_regs}
 use Rattle.pg_ask.specs.Question.{Question, question_made}
@@ -45,7 +40,7 @@ use Rattle.pg_ask.proofs.FitsLaw.{apart_of, Fits, fits_of, told-fits}
 use Rattle.pg_ask.proofs.EndsLaws.{ends_at}
 use Rattle.pg_ask.proofs.BothLaws.{EndTells}
 use Rattle.pg_ask.proofs.InputStages.{Begins}
-use Rattle.pg_ask.proofs.UnknownsLaws.{ModesFit, Numbers, MayBe, Are, SetsAll}
+use Rattle.pg_ask.proofs.UnknownsLaws.{ModesFit, Numbers, MayBe, Are}
 use Rattle.pg_ask.proofs.QuestionLaws.{QuestionMeans, question-means}
 use Rattle.pg_ask.proofs.CourseLaws.{apart-test, compared_for, compared-below}
 use Rattle.pg_ask.proofs.EndsMean.{RunsOf, told-ends}
@@ -88,8 +83,8 @@ begins-with front given inputs rest e long same =
     let n : length (take (length front) given) ≡ length front = length-take-le (length front) given room in
     ext_get_or false (take (length front) given) front n
     (λ i l.
-        let li : i < length front = omega arith in
-        get_or-take (length front) given i false li ∙ same i li ∙ ap (λ (xs : List Bool). get_or xs i false) e ∙ get_or_append_left front rest false i li)
+    let li : i < length front = omega arith in
+    get_or-take (length front) given i false li ∙ same i li ∙ ap (λ (xs : List Bool). get_or xs i false) e ∙ get_or_append_left front rest false i li)
 
 -- ---- the numbers of a pair
 
@@ -244,33 +239,33 @@ root-true d i kind q m x s inputs values z agrees are whole =
     let is = storage-is d i x pair in
     let room = window-room d i x pair in
     let usable_is : number values q.usable ≡ v =
-        m.usable_is inputs values z
-        ∙ ap (λ k. min k (number values u.first_size - number values u.first_l)) are.first_b
-        ∙ ap (λ k. min x.first.b (k - number values u.first_l)) are.first_size
-        ∙ ap (λ k. min x.first.b (x.first_size - k)) are.first_l
-        ∙ sym pair.first_usable in
+    m.usable_is inputs values z
+    ∙ ap (λ k. min k (number values u.first_size - number values u.first_l)) are.first_b
+    ∙ ap (λ k. min x.first.b (k - number values u.first_l)) are.first_size
+    ∙ ap (λ k. min x.first.b (x.first_size - k)) are.first_l
+    ∙ sym pair.first_usable in
     let inside = in-window cs x.window x.first.p pair.at in
     let word = get_or x.window x.first.p 0 in
     let here : slice_get x.window x.first.p ≡ Some word = slice_get-get_or x.window x.first.p 0 inside in
     let window_is : take (number values q.usable) storage ≡ x.window = ap (λ k. take k storage) usable_is ∙ take_at x.window (replicate (2 ^ a - v) 0) v refl in
     let fetched : get_or storage (number values u.p) 0 ≡ word =
-        ap (λ k. get_or storage k 0) are.p ∙ get_or_append_left x.window (replicate (2 ^ a - v) 0) 0 x.first.p inside in
+    ap (λ k. get_or storage k 0) are.p ∙ get_or_append_left x.window (replicate (2 ^ a - v) 0) 0 x.first.p inside in
     let first_psw : entry_psw values (first_regs u q.usable) ≡ x.first =
-        (let e = ap mode_of are.first_mode ∙ mode-back x.first.mode in λ j. record { mode = e j; p = are.p j; l = are.first_l j; b = are.first_b j }) in
+    (let e = ap mode_of are.first_mode ∙ mode-back x.first.mode in λ j. record { mode = e j; p = are.p j; l = are.first_l j; b = are.first_b j }) in
     let second_psw : entry_psw values (second_regs u q.usable) ≡ x.second =
-        (let e = ap mode_of are.second_mode ∙ mode-back x.second.mode in let f = are.p ∙ pair.same_p in λ j. record { mode = e j; p = f j; l = are.second_l j; b = are.second_b j }) in
+    (let e = ap mode_of are.second_mode ∙ mode-back x.second.mode in let f = are.p ∙ pair.same_p in λ j. record { mode = e j; p = f j; l = are.second_l j; b = are.second_b j }) in
     let c = first_course d i x in
     let e = second_course d i x in
     let first_is : body d i (take (number values q.usable) storage) (entry_psw values (first_regs u q.usable)) (get_or storage (number values u.p) 0) ≡ c =
-        ap (λ k. body d i k (entry_psw values (first_regs u q.usable)) (get_or storage (number values u.p) 0)) window_is
-        ∙ ap (λ k. body d i x.window k (get_or storage (number values u.p) 0)) first_psw
-        ∙ ap (λ k. body d i x.window x.first k) fetched
-        ∙ sym (first_course-is d i x word here) in
+    ap (λ k. body d i k (entry_psw values (first_regs u q.usable)) (get_or storage (number values u.p) 0)) window_is
+    ∙ ap (λ k. body d i x.window k (get_or storage (number values u.p) 0)) first_psw
+    ∙ ap (λ k. body d i x.window x.first k) fetched
+    ∙ sym (first_course-is d i x word here) in
     let second_is : body d i (take (number values q.usable) storage) (entry_psw values (second_regs u q.usable)) (get_or storage (number values u.p) 0) ≡ e =
-        ap (λ k. body d i k (entry_psw values (second_regs u q.usable)) (get_or storage (number values u.p) 0)) window_is
-        ∙ ap (λ k. body d i x.window k (get_or storage (number values u.p) 0)) second_psw
-        ∙ ap (λ k. body d i x.window x.second k) fetched
-        ∙ sym (second_course-is d i x word here) in
+    ap (λ k. body d i k (entry_psw values (second_regs u q.usable)) (get_or storage (number values u.p) 0)) window_is
+    ∙ ap (λ k. body d i x.window k (get_or storage (number values u.p) 0)) second_psw
+    ∙ ap (λ k. body d i x.window x.second k) fetched
+    ∙ sym (second_course-is d i x word here) in
     let runs : RunsOf values a v u q.usable m.first m.second x c e = record {
       first = subst (λ k. EndTells values a k u.compared m.first c) usable_is (subst (λ k. EndTells values a (number values q.usable) u.compared m.first k) first_is (m.first_is inputs values storage z is agrees));
       second = subst (λ k. EndTells values a k u.compared m.second e) usable_is (subst (λ k. EndTells values a (number values q.usable) u.compared m.second k) second_is (m.second_is inputs values storage z is agrees));
@@ -284,10 +279,10 @@ root-true d i kind q m x s inputs values z agrees are whole =
     let ends = told-ends kind values a v u q.usable m.first m.second x c e runs (omega arith) are.compared s.ends in
     let w = min (number values u.second_b) (number values u.second_size - number values u.second_l) in
     let w_is : w ≡ v =
-        ap (λ k. min k (number values u.second_size - number values u.second_l)) are.second_b
-        ∙ ap (λ k. min x.second.b (k - number values u.second_l)) are.second_size
-        ∙ ap (λ k. min x.second.b (x.second_size - k)) are.second_l
-        ∙ sym pair.second_usable in
+    ap (λ k. min k (number values u.second_size - number values u.second_l)) are.second_b
+    ∙ ap (λ k. min x.second.b (k - number values u.second_l)) are.second_size
+    ∙ ap (λ k. min x.second.b (x.second_size - k)) are.second_l
+    ∙ sym pair.second_usable in
     let word_is : word ≡ number values m.word = sym fetched ∙ sym (m.word_is inputs values storage z is agrees) in
     let apart = apart_of kind u values in
     let fits : Fits d.size cs apart (number values u.first_size) (number values u.second_size) (number values q.usable) w (number values u.p) (number values m.word) = record {
@@ -322,7 +317,7 @@ has-assignment d i kind q m x size s =
     let z = values_later given q.nodes q.nodes (front_same q.nodes) in
     let cells = cells-from q.cells q.nodes d.word a (length m.after) m.cell over.cells m.begins m.place in
     let begins = begins-with front given inputs rest refl found.as_many
-        (λ n l. found.others_stay n (no-input q.cells m.after q.nodes d.word a (length m.after) m.grown (omega arith) cells n (let e = set.as_many in omega (arith, e)))) in
+    (λ n l. found.others_stay n (no-input q.cells m.after q.nodes d.word a (length m.after) m.grown (omega arith) cells n (let e = set.as_many in omega (arith, e)))) in
     let are = set.is given values begins (values_earlier given values m.after q.nodes m.grown z) in
     record {
       inputs = given;

@@ -1,39 +1,35 @@
 -- What a whole question is made of, and what its root is worth.
-use Rattle.std.proofs.Common.{◌≡◌, ℕ, zero, suc, ◌+◌, ◌-◌, ◌^◌, ◌<◌, ◌≤◌, min, Bool, true, false, ◌&&◌, List, [], ◌∷◌, length, take, get_or, slice_get, Some, refl, sym, ap, ◌∙◌, subst, arith}
+use Rattle.std.proofs.Common.{◌≡◌, ℕ, zero, suc, ◌-◌, ◌^◌, ◌<◌, ◌≤◌, min, Bool, false, ◌&&◌, List, [], ◌∷◌, length, take, get_or, slice_get, Some, refl, ap, ◌∙◌, subst, arith}
 use Rattle.std.proofs.lemmas.List.Elements.{All-nil}
 use Rattle.pg_circuit.specs.declared.node.Gate.{Gate}
 use Rattle.pg_circuit.specs.declared.node.Node.{Node}
 use Rattle.pg_circuit.specs.declared.node.Node.TheVariants.{Constant}
-use Rattle.pg_circuit.specs.Nodes.{input_count, IsCircuit}
+use Rattle.pg_circuit.specs.Nodes.{IsCircuit}
 use Rattle.pg_circuit.specs.Grown.{GrowsTo}
 use Rattle.pg_circuit.specs.Values.{gate_value, IsThere}
 use Rattle.pg_circuit.specs.Made.{and_made}
-use Rattle.pg_word.specs.Bits.{IsWidth}
 use Rattle.pg_vec.specs.Number.{number}
 use Rattle.pg_vec.specs.There.{AreValues}
-use Rattle.pg_vec.proofs.Kept.{front_same, front_then, there_later, values_earlier}
+use Rattle.pg_vec.proofs.Kept.{front_then, there_later, values_earlier}
 use Rattle.pg_cells.specs.declared.cell.Cell.{Cell}
 use Rattle.pg_cells.specs.Storage.{IsStorage, Agrees}
 use Rattle.pg_cells.specs.Cells.{known_cells}
-use Rattle.pg_cells.specs.Over.{gates_from, place_of, AreCells, IsWrite, IsOver}
+use Rattle.pg_cells.specs.Over.{gates_from, place_of, IsWrite, IsOver}
 use Rattle.pg_cells.specs.Made.{inputs_made, touch_made, cells_after, consistent_made}
 use Rattle.pg_cells.specs.Means.{TellsConsistent}
 use Rattle.pg_cells.proofs.TouchLaws.{touches}
 use Rattle.pg_cells.proofs.OverLaws.{IsOver-later}
 use Rattle.pg_cells.proofs.LaterLaws.{tells_later}
 use Rattle.pg_cells.proofs.ConsistentLaws.{cells-whole, consistent-makes, tells}
-use Rattle.pg_word.specs.Shape.{IsShape}
 use Rattle.pg_ast.specs.declared.tree.Instr.{Instr}
 use Rattle.pg_ast.specs.declared.tree.Desc.{Desc}
 use Rattle.pg_meaning.specs.Bodies.{body}
-use Rattle.pg_meaning.specs.States.{shape_of}
 use Rattle.pg_valid.specs.Valid.{IsValid}
 use Rattle.pg_valid.proofs.ValidFacts.{IsShape-of_valid, IsWidth-word, IsWidth-address}
 use Rattle.pg_valid.proofs.PatternFacts.{valid-length}
 use Rattle.pg_type.specs.declared.kind.Kind.{Kind}
 use Rattle.pg_symex.specs.Numbers.{entry_psw}
 use Rattle.pg_symex.specs.There.{AreBits}
-use Rattle.pg_symex.specs.Follows.{CellsStay}
 use Rattle.pg_symex.specs.Runs.{AllRunRight}
 use Rattle.pg_ask.specs.declared.unknowns.Unknowns.{Unknowns}
 use Rattle.pg_ask.specs.declared.ends.End.{End}
@@ -43,7 +39,7 @@ use Rattle.pg_ask.specs.Fits.{fits_made}
 use Rattle.pg_ask.specs.Ends.{view_for, both_made, ends_made}
 use Rattle.pg_ask.specs.Question.{Begun, begun_made, Question, root_made, question_made}
 use Rattle.pg_ask.specs.Means.{IsQuestion, QuestionsAre}
-use Rattle.pg_ask.proofs.Made.{GateIs, and-is}
+use Rattle.pg_ask.proofs.Made.{and-is}
 use Rattle.pg_ask.proofs.ThereLaws.{bits_on, unknowns_on, end_on}
 use Rattle.pg_ask.proofs.FitsLaw.{apart_of, fits_of, fits-are}
 use Rattle.pg_ask.proofs.EndsLaws.{ends_at, ends-is}

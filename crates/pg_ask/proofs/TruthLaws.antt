@@ -6,7 +6,7 @@ use Rattle.pg_circuit.specs.declared.node.Node.TheVariants.{Constant, Input, And
 use Rattle.pg_circuit.specs.Nodes.{IsNext, IsAfter, IsCircuit}
 use Rattle.pg_circuit.specs.Made.{gate_at, not_gate}
 use Rattle.pg_cnf.specs.Truth.{literal_true, clause_true, clauses_true}
-use Rattle.pg_cnf.specs.Encoded.{literal_of, clause_of, node_clauses, clauses_from, clauses_of}
+use Rattle.pg_cnf.specs.Encoded.{clause_of, node_clauses, clauses_from, clauses_of}
 
 -- as many values as there are nodes, false where there are none
 pub pad : ℕ → List Bool → List Bool

@@ -19,7 +19,7 @@ use Rattle.pg_symex.specs.There.{AreBits}
 use Rattle.pg_ask.specs.declared.unknowns.Unknowns.{Unknowns}
 use Rattle.pg_ask.specs.Unknowns.{modes_made, moves, rebounds, other_made, unknowns_made}
 use Rattle.pg_ask.specs.There.{AreUnknowns}
-use Rattle.pg_ask.proofs.InputStages.{Begins, begins-same, begins-then, Sets, Stage, inputs-stage, other-stage}
+use Rattle.pg_ask.proofs.InputStages.{Begins, begins-same, begins-then, inputs-stage, other-stage}
 
 -- ---- the modes
 

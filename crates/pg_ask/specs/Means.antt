@@ -3,7 +3,7 @@ use Rattle.std.specs.Prelude.{◌≡◌, ◌↔◌, ℕ, ◌^◌, ◌<◌, Bool,
 use Rattle.pg_circuit.specs.Nodes.{input_count, IsCircuit}
 use Rattle.pg_circuit.specs.Values.{gate_value, values_of, IsThere}
 use Rattle.pg_vec.specs.Number.{number}
-use Rattle.pg_cells.specs.Storage.{IsStorage, Known, Agrees, AreConsistent}
+use Rattle.pg_cells.specs.Storage.{IsStorage, Agrees, AreConsistent}
 use Rattle.pg_cells.specs.Cells.{known_cells}
 use Rattle.pg_cells.specs.Over.{IsOver}
 use Rattle.pg_cnf.specs.Truth.{clauses_true}
