@@ -14,4 +14,5 @@ pub mod AssignmentsLaw
 pub mod PairsLaw
 pub mod TruthLaws
 pub mod AnswersLaw
+pub mod NamesLaw
 pub mod ExactLaw

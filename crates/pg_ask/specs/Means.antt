@@ -1,8 +1,9 @@
 -- What a question means: the pairs of states that values of its nodes stand for, and which pairs have values.
-use Rattle.std.specs.Prelude.{◌≡◌, ◌↔◌, ℕ, ◌^◌, ◌<◌, Bool, true, List, [], length, take, slice_get, Some, All}
+use Rattle.std.specs.Prelude.{◌≡◌, ◌↔◌, ℕ, ◌^◌, ◌<◌, Bool, true, List, [], length, map, take, slice_get, Some, All}
 use Rattle.pg_circuit.specs.Nodes.{input_count, IsCircuit}
 use Rattle.pg_circuit.specs.Values.{gate_value, values_of, IsThere}
 use Rattle.pg_vec.specs.Number.{number}
+use Rattle.pg_cells.specs.declared.cell.Cell.{Cell}
 use Rattle.pg_cells.specs.Storage.{IsStorage, Agrees, AreConsistent}
 use Rattle.pg_cells.specs.Cells.{known_cells}
 use Rattle.pg_cells.specs.Over.{IsOver}
@@ -17,6 +18,7 @@ use Rattle.pg_type.specs.Kinds.{Shows}
 use Rattle.pg_symex.specs.Numbers.{entry_psw}
 use Rattle.pg_symex.specs.There.{AreBits}
 use Rattle.pg_pairs.specs.Pair.{Pair, PairShows}
+use Rattle.pg_pairs.specs.Placing.{window_of}
 use Rattle.pg_ask.specs.Unknowns.{first_regs, second_regs}
 use Rattle.pg_ask.specs.There.{AreUnknowns}
 use Rattle.pg_ask.specs.Ends.{view_for}
@@ -67,6 +69,24 @@ AssignmentsShow d = (k : ℕ) (i : Instr) (kind : Kind) (inputs : List Bool) →
 abbrev pub AnswersShow : Desc → Type 0
 AnswersShow d = (k : ℕ) (i : Instr) (kind : Kind) (assignment : List Bool) → IsValid d → slice_get d.instrs k ≡ Some i →
     clauses_true assignment (question d i kind) ≡ true → StandFor d i kind assignment (question_made d i kind)
+
+-- the words of touched cells, each with its address, in the order of the touches
+abbrev pub named_cells : List Bool → List Cell → List (ℕ × ℕ)
+named_cells values cells = map (λ c. (number values c.address, number values c.word)) cells
+
+-- the pair of states that values stand for whose window has the words of the touched cells, and zeros elsewhere
+abbrev pub named_pair : List Bool → Question → Pair
+named_pair values q = record {
+  window = window_of (named_cells values q.cells) (number values q.usable);
+  first = entry_psw values (first_regs q.unknowns q.usable);
+  second = entry_psw values (second_regs q.unknowns q.usable);
+  first_size = number values q.unknowns.first_size;
+  second_size = number values q.unknowns.second_size;
+}
+
+abbrev pub AnswersName : Desc → Type 0
+AnswersName d = (k : ℕ) (i : Instr) (kind : Kind) (assignment : List Bool) → IsValid d → slice_get d.instrs k ≡ Some i →
+    clauses_true assignment (question d i kind) ≡ true → PairShows d i kind (named_pair assignment (question_made d i kind))
 
 -- ---- from pairs to values
 

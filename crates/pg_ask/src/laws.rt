@@ -1,6 +1,6 @@
 //! What questions mean. None of it does anything when it runs.
 
-ghost use Rattle.pg_ask.specs.Means.{QuestionsAre, AssignmentsShow, AnswersShow, PairsHaveAssignments, CausesKeepQuestions, QuestionsExact};
+ghost use Rattle.pg_ask.specs.Means.{QuestionsAre, AssignmentsShow, AnswersShow, AnswersName, PairsHaveAssignments, CausesKeepQuestions, QuestionsExact};
 
 use pg_ast::Desc;
 
@@ -21,6 +21,11 @@ pub fn assignments_show(desc: &Desc)
 /// and nodes past its end are false.
 pub fn answers_show(desc: &Desc)
     ensures { AnswersShow desc.now }
+{}
+
+/// So the words of the touched cells alone, with zeros in all other cells, make a pair that shows the kind.
+pub fn answers_name_pairs(desc: &Desc)
+    ensures { AnswersName desc.now }
 {}
 
 /// A pair that shows the kind is one of some inputs under which the root is true.
