@@ -187,7 +187,7 @@ pub fn ends(
 }
 
 /// How one run ends, over cells under no write, which it leaves so. The error is want of memory.
-fn end(
+fn end_of(
     alloc: Global,
     m: &Machine,
     instr: usize,
@@ -251,9 +251,9 @@ pub fn both(
     ensures kept { OnOk result (GrowsTo circuit.old.nodes circuit.new.nodes) }
 {
     let regs = first_regs(alloc, u, v)?;
-    let first = end(alloc, m, instr, circuit, touched, &regs, &u.compared)?;
+    let first = end_of(alloc, m, instr, circuit, touched, &regs, &u.compared)?;
     let regs = second_regs(alloc, u, v)?;
-    let second = end(alloc, m, instr, circuit, touched, &regs, &u.compared)?;
+    let second = end_of(alloc, m, instr, circuit, touched, &regs, &u.compared)?;
     Ok(BothEnds { first, second })
 }
 

@@ -167,7 +167,7 @@ fn matches(
 /// The number of usable cells, and whether all of it fits: both sizes are sizes of the machine, both states have as many usable
 /// cells, P is usable, the registers differ as the kind asks, and the word at P matches the instruction's pattern. The error
 /// is want of memory.
-pub fn fits(
+pub fn fit(
     alloc: Global,
     circuit: &mut Circuit,
     m: &Machine,

@@ -1,12 +1,12 @@
 //! Questions about instructions, as clauses.
 #![tactic(auto)]
 
-mod ask;
+mod asking;
 mod ends;
 mod fits;
 pub mod laws;
 mod unknowns;
 
-pub use ask::{Asked, ask};
+pub use asking::{Asked, ask};
 pub use ends::{BothEnds, End};
 pub use unknowns::Unknowns;

@@ -42,7 +42,7 @@ pub struct Unknowns {
 }
 
 /// The unknowns of a kind, over addresses of so many bits. The error is want of memory.
-pub fn unknowns(
+pub fn unknowns_of(
     alloc: Global,
     circuit: &mut Circuit,
     kind: Kind,

@@ -11,8 +11,8 @@ ghost use Rattle.pg_ask.specs.Question.{root_made, question};
 ghost use Rattle.pg_ask.specs.Asked.{IsAsked};
 
 use crate::ends::{BothEnds, both, ends};
-use crate::fits::{Fits, fits};
-use crate::unknowns::{Unknowns, unknowns};
+use crate::fits::{Fits, fit};
+use crate::unknowns::{Unknowns, unknowns_of};
 use pg_cells::Touched;
 use pg_circuit::{Circuit, Gate};
 use pg_cnf::{Cnf, encode};
@@ -64,10 +64,10 @@ pub fn ask<'m>(
     let shape = machine.shape();
     let mut circuit = Circuit::new(alloc)?;
     let mut touched = Touched::new(alloc, shape.w, shape.a);
-    let unknowns = unknowns(alloc, &mut circuit, kind, shape.a)?;
+    let unknowns = unknowns_of(alloc, &mut circuit, kind, shape.a)?;
     let word = touched.touch(&mut circuit, &unknowns.p)?;
     let body = &machine.desc.instrs.as_slice()[instr];
-    let Fits { usable, gate } = fits(alloc, &mut circuit, machine, body, kind, &unknowns, &word)?;
+    let Fits { usable, gate } = fit(alloc, &mut circuit, machine, body, kind, &unknowns, &word)?;
     let ended = both(alloc, machine, instr, &mut circuit, &mut touched, &unknowns, &usable)?;
     let root = root(alloc, &mut circuit, &touched, kind, &unknowns, &usable, gate, &ended)?;
     if circuit.len() >= NODES_AT_MOST {
