@@ -49,10 +49,10 @@ ends_of UBound m t n s stays apart = differ (done_of m t) (done_of n s) || ((don
 abbrev done_at : End → List Bool → Bool
 done_at e v = done_of (gate_value v e.mem_trap) (gate_value v e.trap)
 
-done-is : (nodes : List Node) (w a : ℕ) (e : End) → IsCircuit nodes → AreEnd (length nodes) w a e → GateIs nodes (done_made nodes e) (λ v. done_at e v)
+pub done-is : (nodes : List Node) (w a : ℕ) (e : End) → IsCircuit nodes → AreEnd (length nodes) w a e → GateIs nodes (done_made nodes e) (λ v. done_at e v)
 done-is nodes w a e h t = not_and_not-is nodes e.mem_trap e.trap h t.mem_trap t.trap
 
-control-is : (nodes : List Node) (w a : ℕ) (u : Unknowns) (e : End) → IsCircuit nodes → AreUnknowns (length nodes) a u → AreEnd (length nodes) w a e →
+pub control-is : (nodes : List Node) (w a : ℕ) (u : Unknowns) (e : End) → IsCircuit nodes → AreUnknowns (length nodes) a u → AreEnd (length nodes) w a e →
     GateIs nodes (control_made nodes u e) (λ v. done_at e v && not (stays_of u e v))
 unfolding control_made
 control-is nodes w a u e h un t =
@@ -88,7 +88,7 @@ control-is nodes w a u e h un t =
     let r2 = then-gate n1 mode r same_mode (λ v k. gate_value v done.0 && not ((k && same_l v) && same_b v)) s2 r3 in
     then-gate nodes done r (λ v. done_at e v) (λ v k. k && not (stays_of u e v)) s1 r2
 
-apart-is : (nodes : List Node) (w a : ℕ) (u : Unknowns) (usable : List Gate) (e f : End) → IsCircuit nodes → AreUnknowns (length nodes) a u → AreBits (length nodes) a usable → AreEnd (length nodes) w a e → AreEnd (length nodes) w a f →
+pub apart-is : (nodes : List Node) (w a : ℕ) (u : Unknowns) (usable : List Gate) (e f : End) → IsCircuit nodes → AreUnknowns (length nodes) a u → AreBits (length nodes) a usable → AreEnd (length nodes) w a e → AreEnd (length nodes) w a f →
     GateIs nodes (seen_apart_made nodes u usable e f) (λ v. seen_apart_of u usable e f v)
 unfolding seen_apart_made
 apart-is nodes w a u usable e f h un us te tf =
@@ -118,7 +118,7 @@ apart-is nodes w a u usable e f h un us te tf =
     let r2 = then-gate n1 word r same_word (λ v k. not (gate_value v p.0) || (is_inside v && not k)) s2 r3 in
     then-gate nodes p r (λ v. nat_eq (number v e.p) (number v f.p)) (λ v k. not k || (is_inside v && not (same_word v))) s1 r2
 
-broken-is : (nodes : List Node) (w a : ℕ) (e f : End) → IsCircuit nodes → AreEnd (length nodes) w a e → AreEnd (length nodes) w a f →
+pub broken-is : (nodes : List Node) (w a : ℕ) (e f : End) → IsCircuit nodes → AreEnd (length nodes) w a e → AreEnd (length nodes) w a f →
     GateIs nodes (broken_made nodes e f) (λ v. done_at f v || (gate_value v e.trap && not (gate_value v f.mem_trap)))
 unfolding broken_made
 broken-is nodes w a e f h te tf =
@@ -136,7 +136,7 @@ broken-is nodes w a e f h te tf =
     let r2 = then-gate n1 odd r is_odd (λ v k. gate_value v done.0 || k) s2 s3 in
     then-gate nodes done r (λ v. done_at f v) (λ v k. k || is_odd v) s1 r2
 
-mode-is : (nodes : List Node) (w a : ℕ) (u : Unknowns) (usable : List Gate) (e f : End) → IsCircuit nodes → AreUnknowns (length nodes) a u → AreBits (length nodes) a usable → AreEnd (length nodes) w a e → AreEnd (length nodes) w a f →
+pub mode-is : (nodes : List Node) (w a : ℕ) (u : Unknowns) (usable : List Gate) (e f : End) → IsCircuit nodes → AreUnknowns (length nodes) a u → AreBits (length nodes) a usable → AreEnd (length nodes) w a e → AreEnd (length nodes) w a f →
     GateIs nodes (mode_made nodes u usable e f) (λ v. done_at f v && (not (done_at e v) || seen_apart_of u usable e f v))
 unfolding mode_made
 mode-is nodes w a u usable e f h un us te tf =
@@ -163,7 +163,7 @@ mode-is nodes w a u usable e f h un us te tf =
     let r2 = then-gate n1 second r (λ v. done_at f v) (λ v k. k && (not (gate_value v first.0) || seen_apart_of u usable e f v)) s2 r3 in
     then-gate nodes first r (λ v. done_at e v) (λ v k. done_at f v && (not k || seen_apart_of u usable e f v)) s1 r2
 
-either-is : (nodes : List Node) (w a : ℕ) (u : Unknowns) (usable : List Gate) (e f : End) → IsCircuit nodes → AreUnknowns (length nodes) a u → AreBits (length nodes) a usable → AreEnd (length nodes) w a e → AreEnd (length nodes) w a f →
+pub either-is : (nodes : List Node) (w a : ℕ) (u : Unknowns) (usable : List Gate) (e f : End) → IsCircuit nodes → AreUnknowns (length nodes) a u → AreBits (length nodes) a usable → AreEnd (length nodes) w a e → AreEnd (length nodes) w a f →
     GateIs nodes (either_made nodes u usable e f) (λ v. differ (done_at e v) (done_at f v) || ((done_at e v && done_at f v) && seen_apart_of u usable e f v))
 unfolding either_made
 either-is nodes w a u usable e f h un us te tf =

@@ -16,3 +16,5 @@ pub mod TruthLaws
 pub mod AnswersLaw
 pub mod NamesLaw
 pub mod ExactLaw
+pub mod CodeSteps
+pub mod Chains

@@ -156,10 +156,8 @@ fn matches(
     ensures there { IfOk result (λ gate. LeavesGate circuit.old.nodes circuit.new.nodes gate) }
 {
     let mut gate = so_far;
-    let mut left = pattern;
-    while let [byte, rest @ ..] = left {
-        gate = place(circuit, gate, *byte, word[rest.len()])?;
-        left = rest;
+    for (i, byte) in pattern.iter().enumerate() {
+        gate = place(circuit, gate, *byte, word[pattern.len() - 1 - i])?;
     }
     Ok(gate)
 }

@@ -53,7 +53,7 @@ pub fn unknowns_of(
     ensures there { IfOk result (λ u. AreUnknowns (length circuit.new.nodes) a u) }
     ensures kept { OnOk result (GrowsTo circuit.old.nodes circuit.new.nodes) }
 {
-    let (first_mode, second_mode) = modes(alloc, circuit, kind)?;
+    let pair = modes(alloc, circuit, kind)?;
     let p = string(alloc, circuit, a)?;
     let first_l = string(alloc, circuit, a)?;
     let second_l = other(alloc, circuit, moves(kind), &first_l)?;
@@ -62,6 +62,7 @@ pub fn unknowns_of(
     let first_size = string(alloc, circuit, a)?;
     let second_size = other(alloc, circuit, rebounds(kind), &first_size)?;
     let compared = string(alloc, circuit, a)?;
+    let (first_mode, second_mode) = pair;
     Ok(Unknowns {
         first_mode,
         second_mode,
