@@ -18,3 +18,5 @@ pub mod NamesLaw
 pub mod ExactLaw
 pub mod CodeSteps
 pub mod Chains
+pub mod RunSteps
+pub mod AskSteps

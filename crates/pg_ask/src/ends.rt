@@ -207,6 +207,9 @@ fn end_of(
     ensures there { IfOk result (λ e. AreEnd (length circuit.new.nodes) m.now.desc.word m.now.desc.address e) }
     ensures kept { OnOk result (GrowsTo circuit.old.nodes circuit.new.nodes) }
 {
+    let outcome = run_symbolic(alloc, m, instr, circuit, touched, regs)?;
+    let word = touched.touch(circuit, compared)?;
+    touched.rewind();
     let SymOutcome {
         mem_trap,
         trap,
@@ -215,9 +218,7 @@ fn end_of(
         l,
         b,
         writes: _,
-    } = run_symbolic(alloc, m, instr, circuit, touched, regs)?;
-    let word = touched.touch(circuit, compared)?;
-    touched.rewind();
+    } = outcome;
     Ok(End {
         mem_trap,
         trap,
@@ -252,8 +253,8 @@ pub fn both(
 {
     let regs = first_regs(alloc, u, v)?;
     let first = end_of(alloc, m, instr, circuit, touched, &regs, &u.compared)?;
-    let regs = second_regs(alloc, u, v)?;
-    let second = end_of(alloc, m, instr, circuit, touched, &regs, &u.compared)?;
+    let others = second_regs(alloc, u, v)?;
+    let second = end_of(alloc, m, instr, circuit, touched, &others, &u.compared)?;
     Ok(BothEnds { first, second })
 }
 
