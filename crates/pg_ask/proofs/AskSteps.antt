@@ -1,5 +1,5 @@
 -- A question in code is the one that is defined.
-use Rattle.std.proofs.Common.{◌≡◌, ℕ, List, [], ◌∷◌, length, slice_get, Some, Result, Ok, Err, refl, sym, ap, ◌∙◌, subst}
+use Rattle.std.proofs.Common.{◌≡◌, ℕ, zero, suc, ℤ, List, [], ◌∷◌, length, get_or, slice_get, Some, sym, ap, ◌∙◌, subst}
 use Rattle.pg_circuit.specs.declared.node.Gate.{Gate}
 use Rattle.pg_circuit.specs.declared.node.Node.{Node}
 use Rattle.pg_circuit.specs.declared.node.Node.TheVariants.{Constant}
@@ -8,16 +8,23 @@ use Rattle.pg_cells.specs.View.{View}
 use Rattle.pg_cells.specs.Made.{touch_made, cells_after}
 use Rattle.pg_ast.specs.declared.tree.Instr.{Instr}
 use Rattle.pg_ast.specs.declared.tree.Desc.{Desc}
+use Rattle.pg_word.specs.declared.shape.Shape.{Shape}
+use Rattle.pg_meaning.specs.States.{shape_of}
+use Rattle.pg_valid.specs.Valid.{IsValid}
+use Rattle.pg_cnf.specs.Encoded.{clauses_of}
+use Rattle.pg_symex.proofs.RunLaw.{all_run_right}
 use Rattle.pg_type.specs.declared.kind.Kind.{Kind}
 use Rattle.pg_ask.specs.declared.unknowns.Unknowns.{Unknowns}
 use Rattle.pg_ask.specs.declared.ends.End.{End}
 use Rattle.pg_ask.specs.declared.ends.BothEnds.{BothEnds}
 use Rattle.pg_ask.specs.Unknowns.{unknowns_made}
-use Rattle.pg_ask.specs.There.{AreEnd}
+use Rattle.pg_ask.specs.There.{AreUnknowns, AreEnd}
 use Rattle.pg_ask.specs.Fits.{fits_made}
 use Rattle.pg_ask.specs.Ends.{view_for, Both, both_made}
 use Rattle.pg_ask.specs.Ended.{AreBoth, AreEnds}
-use Rattle.pg_ask.specs.Question.{Begun, begun_made, Question, root_made, question_made}
+use Rattle.pg_ask.specs.Question.{Begun, begun_made, Question, root_made, question_made, question}
+use Rattle.pg_ask.specs.Asked.{Decides, IsQuestionOf}
+use Rattle.pg_ask.proofs.ExactLaw.{questions-exact}
 
 -- ends whose words have the width of the first one's
 pub first_end : (places w a : ℕ) (e : BothEnds) → AreEnds places w a e → AreEnd places (length e.first.word) a e.first
@@ -57,3 +64,36 @@ asked_step d i kind n1 n2 n3 n4 n5 u word usable gate root t0 t1 cells e eu ev e
     let gate_is : root ≡ made.0 = ap (λ (p : Gate × List Node). p.0) er in
     let last : (let q : Question = record { nodes = n5; root = root; unknowns = u; usable = usable; cells = cells } in q) ≡ q4 b ((usable, gate), n3) both = λ j. record { nodes = nodes j; root = gate_is j; unknowns = u; usable = usable; cells = cells } in
     last ∙ ap (q4 b ((usable, gate), n3)) both_is ∙ ap (q3 b) ef ∙ ap q2 (begun_step d kind n1 n2 u word t0 t1 eu ev ew ec)
+
+-- ---- the parts of a question
+
+pub begun_view : (d : Desc) (s : Shape) (t0 : View) → t0 ≡ (let v : View = record { w = s.w; a = s.a; cells = []; writes = [] } in v) → s ≡ shape_of d → t0 ≡ view_for d [] []
+begun_view d s t0 e es = e ∙ ap (λ (z : Shape). let v : View = record { w = z.w; a = z.a; cells = []; writes = [] } in v) es
+
+pub touched_view : (d : Desc) (t0 t1 : View) (cells : List Cell) → t0 ≡ view_for d [] [] → t1 ≡ record t0 { cells = cells } → t1 ≡ view_for d t1.cells []
+touched_view d t0 t1 cells v e =
+    let width : t1.w ≡ d.word = ap (λ (x : View). x.w) e ∙ ap (λ (x : View). x.w) v in
+    let address : t1.a ≡ d.address = ap (λ (x : View). x.a) e ∙ ap (λ (x : View). x.a) v in
+    let writes : t1.writes ≡ [] = ap (λ (x : View). x.writes) e ∙ ap (λ (x : View). x.writes) v in
+    λ j. record { w = width j; a = address j; cells = t1.cells; writes = writes j }
+
+pub found_at : (is : List Instr) (k : ℕ) (d i : Instr) → slice_get is k ≡ Some i → get_or is k d ≡ i
+found_at [] k d i e = absurd (cc e)
+found_at (x ∷ is) zero d i e = cc e
+found_at (x ∷ is) (suc k) d i e = found_at is k d i e
+
+pub unknowns_width : (places a b : ℕ) (u : Unknowns) → a ≡ b → AreUnknowns places a u → AreUnknowns places b u
+unknowns_width places a b u e h = subst (λ k. AreUnknowns places k u) e h
+
+-- what was asked
+pub question_of : (d : Desc) (i : Instr) (kind : Kind) (nodes : List Node) (root : Gate) (u : Unknowns) (usable : List Gate) (cells : List Cell) (clauses : List (List ℤ)) → clauses ≡ clauses_of nodes root →
+    (let q : Question = record { nodes = nodes; root = root; unknowns = u; usable = usable; cells = cells } in q) ≡ question_made d i kind → IsQuestionOf d i kind clauses u usable cells
+question_of d i kind nodes root u usable cells clauses ec e = record {
+  clauses_are = ec ∙ ap (λ (q : Question). clauses_of q.nodes q.root) e;
+  unknowns = ap (λ (q : Question). q.unknowns) e;
+  usable_are = ap (λ (q : Question). q.usable) e;
+  cells_are = ap (λ (q : Question). q.cells) e;
+}
+
+pub decides : (d : Desc) (k : ℕ) (i : Instr) (kind : Kind) (clauses : List (List ℤ)) → IsValid d → slice_get d.instrs k ≡ Some i → clauses ≡ question d i kind → Decides d i kind clauses
+decides d k i kind clauses valid here e = subst (λ cs. Decides d i kind cs) (sym e) (questions-exact d (all_run_right d) k i kind valid here)

@@ -20,3 +20,4 @@ pub mod CodeSteps
 pub mod Chains
 pub mod RunSteps
 pub mod AskSteps
+pub mod NumberSteps

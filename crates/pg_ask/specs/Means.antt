@@ -23,6 +23,7 @@ use Rattle.pg_ask.specs.Unknowns.{first_regs, second_regs}
 use Rattle.pg_ask.specs.There.{AreUnknowns}
 use Rattle.pg_ask.specs.Ends.{view_for}
 use Rattle.pg_ask.specs.Question.{Question, question_made, question}
+use Rattle.pg_ask.specs.Asked.{Decides}
 
 -- ---- what there is
 
@@ -108,4 +109,4 @@ CausesKeepQuestions d = (i : Instr) (kind : Kind) (causes : Bool) → question (
 -- *questions-exact*: the clauses of a question have an assignment exactly where two states show the kind
 abbrev pub QuestionsExact : Desc → Type 0
 QuestionsExact d = (k : ℕ) (i : Instr) (kind : Kind) → IsValid d → slice_get d.instrs k ≡ Some i →
-    ((assignment : List Bool) × (clauses_true assignment (question d i kind) ≡ true)) ↔ ((s : State) × (t : State) × Shows d i kind s t)
+    Decides d i kind (question d i kind)

@@ -8,12 +8,12 @@ ghost use Rattle.pg_symex.specs.There.{AreBits};
 ghost use Rattle.pg_ask.specs.There.{AreUnknowns, LeavesGate};
 ghost use Rattle.pg_ask.specs.Ended.{AreEnds};
 ghost use Rattle.pg_ask.specs.Question.{root_made, question};
-ghost use Rattle.pg_ask.specs.Asked.{IsAsked};
+ghost use Rattle.pg_ask.specs.Asked.{IsAsked, Decides};
 
 use crate::ends::{BothEnds, both, ends};
 use crate::fits::{Fits, fit};
 use crate::unknowns::{Unknowns, unknowns_of};
-use pg_cells::Touched;
+use pg_cells::{Cell, Touched};
 use pg_circuit::{Circuit, Gate};
 use pg_cnf::{Cnf, encode};
 use pg_type::Kind;
@@ -29,9 +29,9 @@ pub struct Asked<'m> {
     instr: usize,
     kind: Kind,
     cnf: Cnf,
-    pub(crate) unknowns: Unknowns,
-    pub(crate) usable: Bits,
-    pub(crate) touched: Touched,
+    unknowns: Unknowns,
+    usable: Bits,
+    touched: Touched,
     ghost asked: { ∥ IsAsked machine.now.desc instr kind cnf.clauses unknowns usable touched.cells ∥₁ },
 }
 
@@ -41,6 +41,48 @@ impl<'m> Asked<'m> {
         ensures { result.now ≡ self.now.cnf }
     {
         &self.cnf
+    }
+
+    /// The machine of whose description it is asked.
+    pub fn machine(&self) -> &'m Machine
+        ensures { result.now ≡ self.now.machine.now }
+    {
+        self.machine
+    }
+
+    /// The number of the instruction.
+    pub fn instr(&self) -> usize
+        ensures { result ≡ self.now.instr }
+    {
+        self.instr
+    }
+
+    /// The kind.
+    pub fn kind(&self) -> Kind
+        ensures { result ≡ self.now.kind }
+    {
+        self.kind
+    }
+
+    /// The registers and sizes of the two states, as gates.
+    pub fn unknowns(&self) -> &Unknowns
+        ensures { result.now ≡ self.now.unknowns }
+    {
+        &self.unknowns
+    }
+
+    /// How many cells are usable in both, as gates.
+    pub fn usable(&self) -> &Bits
+        ensures { result.now ≡ self.now.usable }
+    {
+        &self.usable
+    }
+
+    /// The cells that a run touched, in the order of the first touch.
+    pub fn cells(&self) -> &[Cell]
+        ensures { result.now ≡ self.now.touched.cells }
+    {
+        self.touched.cells()
     }
 }
 
@@ -56,6 +98,7 @@ pub fn ask<'m>(
 ) -> Result<Asked<'m>, AllocError>
     requires { instr < length machine.now.desc.instrs }
     ensures question { IfOk result (λ a. (i : Instrs) → slice_get machine.now.desc.instrs instr ≡ Some i → a.cnf.clauses ≡ question machine.now.desc i kind) }
+    ensures exact { IfOk result (λ a. (i : Instrs) → slice_get machine.now.desc.instrs instr ≡ Some i → Decides machine.now.desc i kind a.cnf.clauses) }
     ensures variables { IfOk result (λ a. a.cnf.variables < 2 ^ 29) }
     ensures machine { IfOk result (λ a. a.machine.now ≡ machine.now) }
     ensures instr { IfOk result (λ a. a.instr ≡ instr) }
@@ -67,7 +110,8 @@ pub fn ask<'m>(
     let unknowns = unknowns_of(alloc, &mut circuit, kind, shape.a)?;
     let word = touched.touch(&mut circuit, &unknowns.p)?;
     let body = &machine.desc.instrs.as_slice()[instr];
-    let Fits { usable, gate } = fit(alloc, &mut circuit, machine, body, kind, &unknowns, &word)?;
+    let fits = fit(alloc, &mut circuit, machine, body, kind, &unknowns, &word)?;
+    let Fits { usable, gate } = fits;
     let ended = both(alloc, machine, instr, &mut circuit, &mut touched, &unknowns, &usable)?;
     let root = root(alloc, &mut circuit, &touched, kind, &unknowns, &usable, gate, &ended)?;
     if circuit.len() >= NODES_AT_MOST {
