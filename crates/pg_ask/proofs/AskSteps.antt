@@ -14,6 +14,7 @@ use Rattle.pg_valid.specs.Valid.{IsValid}
 use Rattle.pg_cnf.specs.Encoded.{clauses_of}
 use Rattle.pg_symex.proofs.RunLaw.{all_run_right}
 use Rattle.pg_type.specs.declared.kind.Kind.{Kind}
+use Rattle.pg_symex.specs.There.{AreBits}
 use Rattle.pg_ask.specs.declared.unknowns.Unknowns.{Unknowns}
 use Rattle.pg_ask.specs.declared.ends.End.{End}
 use Rattle.pg_ask.specs.declared.ends.BothEnds.{BothEnds}
@@ -97,3 +98,9 @@ question_of d i kind nodes root u usable cells clauses ec e = record {
 
 pub decides : (d : Desc) (k : ℕ) (i : Instr) (kind : Kind) (clauses : List (List ℤ)) → IsValid d → slice_get d.instrs k ≡ Some i → clauses ≡ question d i kind → Decides d i kind clauses
 decides d k i kind clauses valid here e = subst (λ cs. Decides d i kind cs) (sym e) (questions-exact d (all_run_right d) k i kind valid here)
+
+pub width_is : (places n : ℕ) (xs : List Gate) → AreBits places n xs → AreBits places (length xs) xs
+width_is places n xs h = subst (λ k. AreBits places k xs) (sym h.wide) h
+
+pub ends_width : (places w x a b : ℕ) (e : BothEnds) → w ≡ x → a ≡ b → AreEnds places w a e → AreEnds places x b e
+ends_width places w x a b e ew ea h = subst (λ k. AreEnds places x k e) ea (subst (λ k. AreEnds places k a e) ew h)

@@ -21,3 +21,4 @@ pub mod Chains
 pub mod RunSteps
 pub mod AskSteps
 pub mod NumberSteps
+pub mod StatesSteps

@@ -8,7 +8,9 @@ use Rattle.pg_cells.specs.Storage.{IsStorage, Agrees, AreConsistent}
 use Rattle.pg_cells.specs.Cells.{known_cells}
 use Rattle.pg_cells.specs.Over.{IsOver}
 use Rattle.pg_cnf.specs.Truth.{clauses_true}
-use Rattle.pg_word.specs.Psw.{window_len_of}
+use Rattle.pg_circuit.specs.declared.node.Gate.{Gate}
+use Rattle.pg_word.specs.declared.psw.Psw.{Psw}
+use Rattle.pg_word.specs.Psw.{mode_of, window_len_of}
 use Rattle.pg_ast.specs.declared.tree.Instr.{Instr}
 use Rattle.pg_ast.specs.declared.tree.Desc.{Desc}
 use Rattle.pg_meaning.specs.States.{State}
@@ -70,6 +72,10 @@ AssignmentsShow d = (k : ℕ) (i : Instr) (kind : Kind) (inputs : List Bool) →
 abbrev pub AnswersShow : Desc → Type 0
 AnswersShow d = (k : ℕ) (i : Instr) (kind : Kind) (assignment : List Bool) → IsValid d → slice_get d.instrs k ≡ Some i →
     clauses_true assignment (question d i kind) ≡ true → StandFor d i kind assignment (question_made d i kind)
+
+-- the program status word of registers that are gates
+abbrev pub psw_of : List Bool → (mode p l b : List Gate) → Psw
+psw_of values mode p l b = record { mode = mode_of (number values mode); p = number values p; l = number values l; b = number values b }
 
 -- the words of touched cells, each with its address, in the order of the touches
 abbrev pub named_cells : List Bool → List Cell → List (ℕ × ℕ)

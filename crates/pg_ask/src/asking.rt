@@ -32,7 +32,7 @@ pub struct Asked<'m> {
     unknowns: Unknowns,
     usable: Bits,
     touched: Touched,
-    ghost asked: { ∥ IsAsked machine.now.desc instr kind cnf.clauses unknowns usable touched.cells ∥₁ },
+    pub ghost asked: { IsAsked machine.now.desc instr kind cnf.clauses unknowns usable touched.cells },
 }
 
 impl<'m> Asked<'m> {
