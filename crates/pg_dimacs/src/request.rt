@@ -1,0 +1,44 @@
+//! What the words of the command line ask for.
+
+use pg_type::Kind;
+
+/// A question about one instruction of a description.
+#[derive(Clone, Copy)]
+pub struct Request<'a> {
+    /// The name of the description's file.
+    pub file: &'a str,
+    /// The name of the instruction.
+    pub instr: &'a str,
+    /// The word of the kind.
+    pub word: &'a str,
+    /// The kind.
+    pub kind: Kind,
+}
+
+/// The request of the words, the program's name first: `DESC INSTR KIND`. None where they are others.
+pub fn asked_by(words: &[String]) -> Option<Request<'_>> {
+    let [_, file, instr, word] = words else {
+        return None;
+    };
+    Some(Request {
+        file: file.as_str(),
+        instr: instr.as_str(),
+        word: word.as_str(),
+        kind: kind_of(word.as_str())?,
+    })
+}
+
+/// The kind of a word.
+fn kind_of(word: &str) -> Option<Kind> {
+    match word {
+        "privileged" => Some(Kind::Privileged),
+        "control" => Some(Kind::Control),
+        "mode" => Some(Kind::ModeDep),
+        "location" => Some(Kind::Location),
+        "bound" => Some(Kind::Bound),
+        "ucontrol" => Some(Kind::UControl),
+        "ulocation" => Some(Kind::ULocation),
+        "ubound" => Some(Kind::UBound),
+        _ => None,
+    }
+}
