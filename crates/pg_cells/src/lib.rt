@@ -23,7 +23,7 @@
 mod agree;
 mod cell;
 mod find;
-mod inputs;
+pub mod inputs;
 pub mod laws;
 mod lay;
 pub mod rows;

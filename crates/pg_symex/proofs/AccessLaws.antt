@@ -31,6 +31,7 @@ use Rattle.pg_symex.specs.There.{AreBits, IsSymEntry, IsFlow}
 use Rattle.pg_symex.specs.Exprs.{bit_0, guarded_made, access_made, word_made, load_made}
 use Rattle.pg_symex.specs.Follows.{Follows, CellsStay, Makes}
 use Rattle.pg_symex.proofs.FollowsLaws.{then-follows}
+use Rattle.pg_symex.proofs.CellLaws.{stay-then, cells-stay}
 use Rattle.pg_symex.proofs.ExprForms.{bits-later, flow-later, entry-later, bits_same}
 use Rattle.pg_symex.proofs.OpLaw.{own_width, one_is_width}
 use Rattle.pg_symex.proofs.WindowLaws.{loaded-first, length-written}
@@ -116,23 +117,6 @@ accessed at writes f address h is b =
       mem_trap = λ inputs values w. g.mem_trap inputs values w ∙ ap (λ k. gate_value values f.mem_trap || (gate_value values f.live && not k)) (is_below inputs values w);
     }
 
--- ---- cells
-
-cells-front : (cells : List Cell) (c : Cell) (values : List Bool) (storage : List ℕ) → Agrees storage (known_cells values (cells ++ c ∷ [])) → Agrees storage (known_cells values cells)
-cells-front [] c values storage h = All-nil (λ (k : Known). get_or storage k.address 0 ≡ k.word)
-cells-front (d ∷ cells) c values storage h =
-    All-cons (λ k. get_or storage k.address 0 ≡ k.word) (known_of values d) (known_cells values cells)
-    (All-head (λ k. get_or storage k.address 0 ≡ k.word) (known_of values d) (known_cells values (cells ++ c ∷ [])) h)
-    (cells-front cells c values storage (All-tail (λ k. get_or storage k.address 0 ≡ k.word) (known_of values d) (known_cells values (cells ++ c ∷ [])) h))
-
-found-stay : (nodes : List Node) (w : ℕ) (cells : List Cell) (address : List Gate) (o : Option (List Gate)) → CellsStay cells (with_found nodes w cells address o)
-found-stay nodes w cells address None = λ values storage h. cells-front cells _ values storage h
-found-stay nodes w cells address (Some word) = λ values storage h. h
-
-pub cells-stay : (nodes : List Node) (w : ℕ) (cells : List Cell) (address : List Gate) → CellsStay cells (cells_after nodes w cells address)
-unfolding cells_after
-cells-stay nodes w cells address = found-stay nodes w cells address (found_word cells address)
-
 -- ---- loads
 
 -- what follows an access to an address, and the word there
@@ -184,14 +168,14 @@ load_makes at lets writes f part meant is h =
         mem_trap = there_later after.nodes n after.mem_trap t.grows.front g.flow.mem_trap;
       };
       front = front_then f.nodes part.1.nodes n h.front (front_then part.1.nodes after.nodes n g.front t.grows.front);
-      cells = λ values storage a. h.cells values storage (let P : List Cell → Type 0 = λ cs. Agrees storage (known_cells values cs) in
-          subst P g.cells (cells-stay after.nodes at.w after.cells part.0 values storage a));
+      cells = stay-then f.cells part.1.cells (cells_after after.nodes at.w after.cells part.0) h.cells
+          (let P : List Cell → Type 0 = λ cs. CellsStay cs (cells_after after.nodes at.w after.cells part.0) in subst P g.cells (cells-stay after.nodes at.w after.cells part.0));
       bits = record { there = t.there; wide = t.wide; is_width = is.word.is_width };
       worth = λ inputs values storage v s agrees.
           let u = values_earlier inputs values after.nodes n t.grows.front v in
           let u0 = values_earlier inputs values part.1.nodes after.nodes g.front u in
           let old = let P : List Cell → Type 0 = λ cs. Agrees storage (known_cells values cs) in
-          subst P g.cells (cells-stay after.nodes at.w after.cells part.0 values storage agrees) in
+          subst P g.cells ((cells-stay after.nodes at.w after.cells part.0).agrees values storage agrees) in
           let below : number values part.0 < length (written storage (puts_of values writes)) =
           let e : 2 ^ length part.0 ≡ 2 ^ at.a = ap (λ k. 2 ^ k) h.bits.wide in
           omega (arith, number-below values part.0, s.size, length-written (puts_of values writes) storage) in

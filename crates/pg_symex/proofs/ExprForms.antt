@@ -20,6 +20,7 @@ use Rattle.pg_symex.specs.Numbers.{value_of, entry_value, lets_value, window_val
 use Rattle.pg_symex.specs.There.{AreBits, AreRegs, IsSymEntry, LetsAre, IsFlow}
 use Rattle.pg_symex.specs.Follows.{Follows, Makes}
 use Rattle.pg_symex.proofs.FollowsLaws.{one-follows, two-follow, three-follow}
+use Rattle.pg_symex.proofs.CellLaws.{stay-same, stay-then}
 
 -- ---- what stays
 
@@ -83,7 +84,7 @@ pub leaf_makes : (at : SymEntry) (lets : SymLets) (writes : List Write) (f : Flo
 leaf_makes at lets writes f n xs meant fl b is = record {
   flow = fl;
   front = front_same f.nodes;
-  cells = λ values storage h. h;
+  cells = stay-same f.cells;
   bits = b;
   worth = λ inputs values storage v s agrees. (refl, refl, is inputs values v);
 }
@@ -117,13 +118,13 @@ two_make at lets writes f j k part next meant then_meant h i made m most worth b
     record {
       flow = flow-later at writes next.1 made.1 b.adds.front b.circuit i.flow;
       front = front_then f.nodes part.1.nodes made.1 h.front (front_then part.1.nodes next.1.nodes made.1 i.front b.adds.front);
-      cells = λ values storage a. h.cells values storage (i.cells values storage a);
+      cells = stay-then f.cells part.1.cells next.1.cells h.cells i.cells;
       bits = record { there = b.there; wide = b.wide; is_width = is };
       worth = λ inputs values storage v s agrees.
           let u = values_earlier inputs values next.1.nodes made.1 b.adds.front v in
           let t = values_earlier inputs values part.1.nodes next.1.nodes i.front u in
           two-follow (gate_value values f.live) (gate_value values f.mem_trap) (gate_value values part.1.live) (gate_value values part.1.mem_trap) (gate_value values next.1.live) (gate_value values next.1.mem_trap) (value_of values part.0) (value_of values next.0) (value_of values made.0) _ _ go
-          (h.worth inputs values storage t s (i.cells values storage agrees)) (i.worth inputs values storage u s agrees)
+          (h.worth inputs values storage t s (i.cells.agrees values storage agrees)) (i.worth inputs values storage u s agrees)
           (e values ∙ sym (bits_same (length made.0) m (number values made.0) (worth values) b.wide (b.value inputs values v)));
     }
 
@@ -140,14 +141,14 @@ three_make at lets writes f i j k first second third meant_1 meant_2 meant_3 h1 
       flow = flow-later at writes third.1 made.1 b.adds.front b.circuit h3.flow;
       front = front_then f.nodes first.1.nodes made.1 h1.front (front_then first.1.nodes second.1.nodes made.1 h2.front
           (front_then second.1.nodes third.1.nodes made.1 h3.front b.adds.front));
-      cells = λ values storage a. h1.cells values storage (h2.cells values storage (h3.cells values storage a));
+      cells = stay-then f.cells first.1.cells third.1.cells h1.cells (stay-then first.1.cells second.1.cells third.1.cells h2.cells h3.cells);
       bits = record { there = b.there; wide = b.wide; is_width = is };
       worth = λ inputs values storage v s agrees.
           let u3 = values_earlier inputs values third.1.nodes made.1 b.adds.front v in
           let u2 = values_earlier inputs values second.1.nodes third.1.nodes h3.front u3 in
           let u1 = values_earlier inputs values first.1.nodes second.1.nodes h2.front u2 in
-          let a2 = h3.cells values storage agrees in
+          let a2 = h3.cells.agrees values storage agrees in
           three-follow (gate_value values f.live) (gate_value values f.mem_trap) (gate_value values first.1.live) (gate_value values first.1.mem_trap) (gate_value values second.1.live) (gate_value values second.1.mem_trap) (gate_value values third.1.live) (gate_value values third.1.mem_trap) (value_of values first.0) (value_of values second.0) (value_of values third.0) (value_of values made.0) _ _ _ go
-          (h1.worth inputs values storage u1 s (h2.cells values storage a2)) (h2.worth inputs values storage u2 s a2) (h3.worth inputs values storage u3 s agrees)
+          (h1.worth inputs values storage u1 s (h2.cells.agrees values storage a2)) (h2.worth inputs values storage u2 s a2) (h3.worth inputs values storage u3 s agrees)
           (e values ∙ sym (bits_same (length made.0) m (number values made.0) (worth values) b.wide (b.value inputs values v)));
     }

@@ -21,6 +21,7 @@ use Rattle.pg_symex.specs.Stmts.{SymDeed, with_live, joined_made, if_made}
 use Rattle.pg_symex.specs.Ends.{run_value, IsSymRun, Skips, Ends, Does}
 use Rattle.pg_symex.proofs.ExprForms.{entry-later, flow-later}
 use Rattle.pg_symex.proofs.StmtForms.{run-later}
+use Rattle.pg_symex.proofs.CellLaws.{stay-then}
 
 -- an arm: whatever the body under way, it leaves the lets as they were
 abbrev pub IsArm : SymEntry → LetWidths → SymDeed → (List Bool → Run → Course Run) → Type 0
@@ -142,11 +143,11 @@ if-does at r ws test held other first second entry is there arm_1 arm_2 =
     record {
       run = guard-run at u ws live_3 n5 d2.0.run m.adds.front m.circuit m.there;
       front = front_then r.flow.nodes n3 n5 f3 (front_then n3 n4 n5 d2.0.front m.adds.front);
-      cells = λ values storage c. d1.0.cells values storage (d2.0.cells values storage c);
+      cells = stay-then r.flow.cells s.flow.cells u.flow.cells d1.0.cells d2.0.cells;
       skips = λ inputs values storage v z c dead.
           let u4 = values_earlier inputs values n4 n5 m.adds.front v in
           let u3 = values_earlier inputs values n3 n4 d2.0.front u4 in
-          let x = d1.0.skips inputs values storage u3 z (d2.0.cells values storage c) (dead-test (gate_value values r.flow.live) _ _ dead (test_1 inputs values v)) in
+          let x = d1.0.skips inputs values storage u3 z (d2.0.cells.agrees values storage c) (dead-test (gate_value values r.flow.live) _ _ dead (test_1 inputs values v)) in
           let y = d2.0.skips inputs values storage u4 z c (dead-test (gate_value values r.flow.live) _ _ dead (test_2 inputs values v)) in
           record {
             live = m.value inputs values v ∙ ap (λ b. b || gate_value values u.flow.live) x.live ∙ y.live;
@@ -161,7 +162,7 @@ if-does at r ws test held other first second entry is there arm_1 arm_2 =
           let q = run_value values storage at r in
           if-ends values storage at r a s t u new (gate_value values test) (first values q) (second values q) (second values)
           (live-test (gate_value values r.flow.live) _ _ reached (test_1 inputs values v)) (live-test (gate_value values r.flow.live) _ _ reached (test_2 inputs values v))
-          (λ e. d1.0.skips inputs values storage u3 z (d2.0.cells values storage c) e) (λ e. d1.0.ends inputs values storage u3 z (d2.0.cells values storage c) e)
+          (λ e. d1.0.skips inputs values storage u3 z (d2.0.cells.agrees values storage c) e) (λ e. d1.0.ends inputs values storage u3 z (d2.0.cells.agrees values storage c) e)
           (λ e. d2.0.skips inputs values storage u4 z c e) (λ e. d2.0.ends inputs values storage u4 z c e) refl
           refl refl refl refl refl refl refl refl (m.value inputs values v) refl refl refl refl refl d2.1 refl d1.1;
     }

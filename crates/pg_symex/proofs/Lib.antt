@@ -4,6 +4,7 @@ pub mod WindowLaws
 pub mod OpLaw
 pub mod ExprForms
 pub mod LeafLaws
+pub mod CellLaws
 pub mod AccessLaws
 pub mod ExprLaw
 pub mod StmtEquations

@@ -33,7 +33,7 @@ use Rattle.pg_symex.specs.Body.{sym_entry, run_begun, body_made, run_made}
 use Rattle.pg_symex.specs.Runs.{Tells, AllRunRight}
 use Rattle.pg_symex.proofs.ExprForms.{bits-later, regs-later}
 use Rattle.pg_symex.proofs.LeafLaws.{length-literal, literal-there, number-literal}
-use Rattle.pg_symex.proofs.AccessLaws.{cells-stay}
+use Rattle.pg_symex.proofs.CellLaws.{stay-then, cells-stay}
 use Rattle.pg_symex.proofs.OpLaw.{own_width}
 use Rattle.pg_symex.proofs.StmtLaw.{stmt_right, in_order-right}
 
@@ -129,7 +129,7 @@ all_run_right d k i regs nodes cells valid here circuit over are =
     record {
       circuit = b.run.flow.circuit;
       front = front_then nodes n2 n3 f2 b.front;
-      stay = λ values storage a. cells-stay nodes d.word cells regs.p values storage (b.cells values storage a);
+      stay = stay-then cells cells_1 new.flow.cells (cells-stay nodes d.word cells regs.p) b.cells;
       over = b.run.flow.over;
       mem_trap = b.run.flow.mem_trap;
       trap = b.run.trap;
@@ -139,7 +139,7 @@ all_run_right d k i regs nodes cells valid here circuit over are =
           let u1 = values_earlier inputs values n1 n2 s.adds.front u2 in
           let true_is = constant-value inputs values n2 true s.circuit u2 in
           let false_is = constant-value inputs values n2 false s.circuit u2 in
-          let fetched : number values word ≡ get_or storage (number values regs.p) 0 = t.worth inputs values storage u1 z (b.cells values storage agrees) in
+          let fetched : number values word ≡ get_or storage (number values regs.p) 0 = t.worth inputs values storage u1 z (b.cells.agrees values storage agrees) in
           let literal : number values one ≡ 1 = number-literal d.address 1 values (one-fits d.address a_width) (λ c. constant-value inputs values n2 c s.circuit u2) in
           let sum : number values p ≡ (number values regs.p + 1) % 2 ^ d.address = next_p d.word d.address values regs.p one p p1.wide literal (s.value inputs values u2) in
           let ends = b.ends inputs values storage v z agrees true_is in

@@ -28,7 +28,7 @@ use Rattle.pg_symex.specs.Flow.{SymEntry, Flow, SymRun, view_of, with_nodes}
 use Rattle.pg_symex.specs.Numbers.{value_of, next_psw, entry_value, lets_value, window_value}
 use Rattle.pg_symex.specs.There.{AreBits, AreNext, IsSymEntry, LetsAre, IsFlow}
 use Rattle.pg_symex.specs.Exprs.{access_made}
-use Rattle.pg_symex.specs.Follows.{Follows, Makes}
+use Rattle.pg_symex.specs.Follows.{Follows, CellsStay, Makes}
 use Rattle.pg_symex.specs.Stmts.{store_made, assigned, trap_made, with_lets_of}
 use Rattle.pg_symex.specs.Ends.{run_value, IsSymRun, Skips, Ends, Does}
 use Rattle.pg_symex.proofs.FollowsLaws.{unreached}
@@ -36,6 +36,7 @@ use Rattle.pg_symex.proofs.ExprForms.{bits-later, lets-later, flow-later}
 use Rattle.pg_symex.proofs.WindowLaws.{length-written}
 use Rattle.pg_symex.proofs.AccessLaws.{accessed}
 use Rattle.pg_symex.proofs.OpLaw.{own_width}
+use Rattle.pg_symex.proofs.CellLaws.{stay-same, stay-then}
 
 -- ---- what stays
 
@@ -90,14 +91,14 @@ pub seq-does : (at : SymEntry) (r s t : SymRun) (mid after : LetWidths) (first s
 seq-does at r s t mid after first second h k = record {
   run = k.run;
   front = front_then r.flow.nodes s.flow.nodes t.flow.nodes h.front k.front;
-  cells = λ values storage a. h.cells values storage (k.cells values storage a);
+  cells = stay-then r.flow.cells s.flow.cells t.flow.cells h.cells k.cells;
   skips = λ inputs values storage v is a dead.
       let u = values_earlier inputs values s.flow.nodes t.flow.nodes k.front v in
-      let x = h.skips inputs values storage u is (k.cells values storage a) dead in
+      let x = h.skips inputs values storage u is (k.cells.agrees values storage a) dead in
       skips-then values storage at r s t x (k.skips inputs values storage v is a x.live);
   ends = λ inputs values storage v is a reached.
       let u = values_earlier inputs values s.flow.nodes t.flow.nodes k.front v in
-      seq-ends values storage at r s t (first values (run_value values storage at r)) (second values) (h.ends inputs values storage u is (k.cells values storage a) reached)
+      seq-ends values storage at r s t (first values (run_value values storage at r)) (second values) (h.ends inputs values storage u is (k.cells.agrees values storage a) reached)
       (λ dead. k.skips inputs values storage v is a dead) (λ live. k.ends inputs values storage v is a live);
 }
 
@@ -125,17 +126,17 @@ pub expr-does : (at : SymEntry) (r : SymRun) (n : ℕ) (part : List Gate × Flow
 expr-does at r n part new after meant due none m d = record {
   run = d.run;
   front = front_then r.flow.nodes part.1.nodes new.flow.nodes m.front d.front;
-  cells = λ values storage a. m.cells values storage (d.cells values storage a);
+  cells = stay-then r.flow.cells part.1.cells new.flow.cells m.cells d.cells;
   skips = λ inputs values storage v is a dead.
       let u = values_earlier inputs values part.1.nodes new.flow.nodes d.front v in
-      let w = unreached _ _ _ _ (value_of values part.0) _ dead (m.worth inputs values storage u is (d.cells values storage a)) in
+      let w = unreached _ _ _ _ (value_of values part.0) _ dead (m.worth inputs values storage u is (d.cells.agrees values storage a)) in
       let k = d.skips inputs values storage v is a w.0 in
       record { live = k.live; mem_trap = k.mem_trap ∙ w.1; trap = k.trap; window = k.window; next = k.next };
   ends = λ inputs values storage v is a reached.
       let u = values_earlier inputs values part.1.nodes new.flow.nodes d.front v in
       let q = run_value values storage at r in
       expr-ends values storage at r part.1 new (value_of values part.0) (meant (entry_value values at) q.lets q.window) (λ o. due values o q) (none values q)
-      (m.worth inputs values storage u is (d.cells values storage a)) reached
+      (m.worth inputs values storage u is (d.cells.agrees values storage a)) reached
       (λ dead. d.skips inputs values storage v is a dead) (λ live. d.ends inputs values storage v is a live);
 }
 
@@ -178,7 +179,7 @@ pub nothing-does : (at : SymEntry) (r : SymRun) (ws : LetWidths) → IsSymRun at
 nothing-does at r ws h = record {
   run = h;
   front = front_same r.flow.nodes;
-  cells = λ values storage a. a;
+  cells = stay-same r.flow.cells;
   skips = λ inputs values storage v is a dead. record { live = dead; mem_trap = refl; trap = refl; window = refl; next = refl };
   ends = λ inputs values storage v is a reached. (reached, refl, refl, refl);
 }
@@ -210,7 +211,7 @@ assigned-does at r ws n xs old put set_of is x p =
     record {
       run = record { flow = later.flow; trap = later.trap; next = p.there (length nodes) bits later.next (record { there = m.there; wide = m.wide ∙ x.wide; is_width = x.is_width }); lets = later.lets };
       front = m.adds.front;
-      cells = λ values storage a. a;
+      cells = stay-same r.flow.cells;
       skips = λ inputs values storage v s a dead. record {
         live = dead;
         mem_trap = refl;
@@ -243,7 +244,7 @@ trap-does at r ws is =
         lets = later.lets;
       };
       front = m.adds.front;
-      cells = λ values storage a. a;
+      cells = stay-same r.flow.cells;
       skips = λ inputs values storage v s a dead. record {
         live = constant-value inputs values nodes false m.circuit v;
         mem_trap = refl;
@@ -342,7 +343,7 @@ store-does at r ws address value entry is ba bv =
         lets = later.lets;
       };
       front = g.front;
-      cells = λ values storage a. let P : List Cell → Type 0 = λ cs. Agrees storage (known_cells values cs) in subst P g.cells a;
+      cells = let P : List Cell → Type 0 = λ cs. CellsStay cs f.cells in subst P g.cells (stay-same f.cells);
       skips = λ inputs values storage v s a dead.
           let off = dead-and _ _ (gate_value values r.flow.live) dead (g.live inputs values v) in
           record {

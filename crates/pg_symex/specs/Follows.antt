@@ -1,5 +1,5 @@
 -- What gates mean that are made of an expression.
-use Rattle.std.specs.Prelude.{◌≡◌, ℕ, Bool, false, ◌||◌, List, length, Option, None, Some}
+use Rattle.std.specs.Prelude.{◌≡◌, ℕ, Bool, false, ◌||◌, List, length, take, Option, None, Some}
 use Rattle.pg_circuit.specs.declared.node.Gate.{Gate}
 use Rattle.pg_circuit.specs.Grown.{GrowsTo}
 use Rattle.pg_circuit.specs.Values.{gate_value}
@@ -23,9 +23,11 @@ abbrev pub Follows : Bool → Bool → Bool → Bool → Bits → Option Bits �
 Follows live mem_trap then_live then_trap x None = (then_live ≡ false) × (then_trap ≡ (mem_trap || live))
 Follows live mem_trap then_live then_trap x (Some y) = (then_live ≡ live) × (then_trap ≡ mem_trap) × (x ≡ y)
 
--- a storage that agrees with the cells that there are then agrees with those that there were
-abbrev pub CellsStay : List Cell → List Cell → Type 0
-CellsStay old new = (values : List Bool) (storage : List ℕ) → Agrees storage (known_cells values new) → Agrees storage (known_cells values old)
+-- the cells that there were are the first of those that there are then; so a storage that agrees with all of them agrees with
+-- those that there were
+pub record CellsStay (old new : List Cell) : Type 0 where
+  pub front : take (length old) new ≡ old
+  pub agrees : (values : List Bool) (storage : List ℕ) → Agrees storage (known_cells values new) → Agrees storage (known_cells values old)
 
 -- Bits of a width were made from what was kept before; the circuit has grown, and in every circuit that begins with its nodes,
 -- whatever the inputs are, and for every storage that agrees with the cells, they follow what is meant.

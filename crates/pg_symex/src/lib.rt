@@ -23,7 +23,7 @@ mod exprs;
 mod guards;
 pub mod laws;
 mod lets;
-mod literal;
+pub mod literal;
 mod names;
 mod operate;
 mod regs;
