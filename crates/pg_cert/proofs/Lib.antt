@@ -1,1 +1,3 @@
 pub mod VerdictLemmas
+pub mod Numbers
+pub mod Parts

@@ -7,12 +7,16 @@
 //! # Modules
 //!
 //! - `cert`: findings. `report`: their marks, and the verdict.
+//! - `line`: what a line of a certificate's text says. `laws`: what follows from the definitions alone.
 //!
 //! What a finding means is `pg_proof`'s and `pg_type`'s to say. Nothing here tests one.
 #![tactic(auto)]
 
 mod cert;
+pub mod laws;
+mod line;
 mod report;
 
 pub use cert::{Cert, Family, Finding, FindingList, StepList};
+pub use line::{Found, Heading, Line};
 pub use report::{Mark, MarkList, Report, Verdict, report_of};

@@ -1,4 +1,4 @@
-use Rattle.std.proofs.Common.{ℕ, Bool, ap, sym, ◌∙◌, arith}
+use Rattle.std.proofs.Common.{ℕ, Bool, ap, sym, ◌∙◌}
 use Rattle.pg_cert.specs.Verdicts.{marks_of, kind_count, breaks, first_breaking}
 use Rattle.pg_cert.proofs.VerdictLemmas.{found, missed, ended}
 use Rattle.pg_cert.proofs.report.Report.first_breaking.Goals as goal

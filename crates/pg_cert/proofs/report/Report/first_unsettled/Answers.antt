@@ -1,4 +1,4 @@
-use Rattle.std.proofs.Common.{ℕ, Bool, not, ap, sym, ◌∙◌, arith}
+use Rattle.std.proofs.Common.{ℕ, Bool, not, ap, sym, ◌∙◌}
 use Rattle.pg_cert.specs.Verdicts.{marks_of, kind_count, is_settled, first_unsettled}
 use Rattle.pg_cert.proofs.VerdictLemmas.{found, missed, ended}
 use Rattle.pg_cert.proofs.report.Report.first_unsettled.Goals as goal
