@@ -1,3 +1,4 @@
 pub mod VerdictLemmas
-pub mod Numbers
-pub mod Parts
+pub mod Spelled
+pub mod OneText
+pub mod Walks

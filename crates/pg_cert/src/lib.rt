@@ -7,7 +7,8 @@
 //! # Modules
 //!
 //! - `cert`: findings. `report`: their marks, and the verdict.
-//! - `line`: what a line of a certificate's text says. `laws`: what follows from the definitions alone.
+//! - `line`: what a line of a certificate's text says. `parts`: its parts. `reading`: what they are read as.
+//! - `laws`: what follows from the definitions alone.
 //!
 //! What a finding means is `pg_proof`'s and `pg_type`'s to say. Nothing here tests one.
 #![tactic(auto)]
@@ -15,6 +16,8 @@
 mod cert;
 pub mod laws;
 mod line;
+pub mod parts;
+pub mod reading;
 mod report;
 
 pub use cert::{Cert, Family, Finding, FindingList, StepList};

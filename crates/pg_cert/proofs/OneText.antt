@@ -1,6 +1,6 @@
 -- The parts of a line are read as the line, and are those between the spaces of its text: so a text is that of one line.
 use Rattle.std.proofs.Common.{◌≡◌, ℕ, suc, ◌-◌, ◌/◌, ◌%◌, ◌^◌, ◌<◌, ◌≤◌, Bool, true, false, not, ℤ, pos, negsuc, List, [], ◌∷◌, ◌++◌, length, map, take, get_or, All, Some, None, Option, sym, ap, ◌∙◌, refl, lit<, arith, append_assoc, length-append}
-use Rattle.std.specs.Prelude.{◌==◌, ◌&&◌, nat_lt, nat_le, nat_abs, slice_index}
+use Rattle.std.specs.Prelude.{◌==◌, ◌&&◌, nat_lt, nat_le, nat_abs, slice_index, codes}
 use Rattle.std.specs.List.{list_any, list_all, slice_split, join_with_byte}
 use Rattle.std.specs.Char.{is_ascii_hexdigit}
 use Rattle.std.specs.Fmt.{decimal, signed_decimal}
@@ -26,8 +26,8 @@ use Rattle.pg_cert.specs.declared.line.Found.TheVariants.{Refuted, Shown, Spent}
 use Rattle.pg_cert.specs.declared.line.Line.{Line}
 use Rattle.pg_cert.specs.declared.line.Line.TheVariants.{First, Header, Step, Remove, Size, Psw, Cells, End}
 use Rattle.pg_cert.specs.Lines.{kind_text, found_parts, step_parts, psw_parts, line_parts, line_text, most_budget, most_number, most_variable, is_found, are_lits, are_hints, is_psw, are_cells, ascend, is_line, IsLine}
-use Rattle.pg_cert.specs.Reading.{then_read, read_number, read_lits, read_numbers, read_words, read_kind, read_mode, read_found, read_header, read_cells, read_parts}
-use Rattle.pg_cert.proofs.Numbers.{list_all-append, list_all-implied, decimal_is_digits, read_number-decimal, read_lits-signed, read_numbers-decimal, ascend-numbers, read_words-hex, hex_is_hex}
+use Rattle.pg_cert.specs.Reading.{then_read, read_number, read_lits, read_numbers, read_words, read_kind, read_mode, read_found, read_header, read_cells, read_parts, but_last}
+use Rattle.pg_cert.proofs.Spelled.{list_all-append, list_all-implied, decimal_is_digits, read_number-decimal, read_lits-signed, read_numbers-decimal, ascend-numbers, read_words-hex, hex_is_hex}
 
 -- ---- what is read of the parts of a line
 
@@ -41,17 +41,17 @@ read_kind-text UControl = refl
 read_kind-text ULocation = refl
 read_kind-text UBound = refl
 
-read_found-parts : (found : Found) → is_found found ≡ true → read_found (found_parts found) ≡ Some found
-read_found-parts Refuted h = refl
-read_found-parts Shown h = refl
-read_found-parts (Spent k) h =
+read_found-parts : (name kind : List ℕ) (found : Found) → is_found found ≡ true → read_found (codes "finding" ∷ name ∷ kind ∷ found_parts found) ≡ Some found
+read_found-parts name kind Refuted h = refl
+read_found-parts name kind Shown h = refl
+read_found-parts name kind (Spent k) h =
     let most : k ≤ most_budget = leb-true k most_budget (and_parts (nat_le 1 k) (nat_le k most_budget) h).1 in
     ap (λ o. then_read o (λ n. Some (Spent n))) (read_number-decimal most_number k (omega arith) (omega arith))
 
-read_header-parts : (name : List ℕ) (kind : Kind) (found : Found) → is_found found ≡ true → read_header (name ∷ kind_text kind ∷ found_parts found) ≡ Some (Header name kind found)
+read_header-parts : (name : List ℕ) (kind : Kind) (found : Found) → is_found found ≡ true → read_header (codes "finding" ∷ name ∷ kind_text kind ∷ found_parts found) ≡ Some (Header name kind found)
 read_header-parts name kind found h =
-    ap (λ o. then_read o (λ k. then_read (read_found (found_parts found)) (λ f. Some (Header name k f)))) (read_kind-text kind)
-    ∙ ap (λ o. then_read o (λ f. Some (Header name kind f))) (read_found-parts found h)
+    ap (λ o. then_read o (λ k. then_read (read_found (codes "finding" ∷ name ∷ kind_text kind ∷ found_parts found)) (λ f. Some (Header name k f)))) (read_kind-text kind)
+    ∙ ap (λ o. then_read o (λ f. Some (Header name kind f))) (read_found-parts name (kind_text kind) found h)
 
 module _ (shape : Shape) (numbers : IsShape shape) where
   address_most : 2 ^ shape.a ≤ 2 ^ 20
@@ -88,7 +88,7 @@ module _ (shape : Shape) (numbers : IsShape shape) where
       mode_read S = refl
       mode_read U = refl
 
-  colon_first : (head : List ℕ) (parts : List (List ℕ)) → slice_index head (length head - 1) ≡ 58 → read_parts shape.w (head ∷ parts) ≡ read_cells shape.w head parts
+  colon_first : (head : List ℕ) (parts : List (List ℕ)) → slice_index head (length head - 1) ≡ 58 → read_parts shape.w (head ∷ parts) ≡ read_cells shape.w (head ∷ parts)
   unfolding read_parts
   colon_first head parts e =
       let test : (slice_index head (length head - 1) == 58) ≡ true = eq-eqb (slice_index head (length head - 1)) 58 e in
@@ -287,10 +287,6 @@ split_joined (part ∷ next ∷ parts) l h =
     let both = and_parts (spaceless part) (list_all spaceless (next ∷ parts)) h in
     slice_split_at (λ c. c == 32) part 32 (join_with_byte 32 (next ∷ parts)) (none_space part both.0) refl
     ∙ ap (λ ps. part ∷ ps) (split_joined (next ∷ parts) (omega arith) both.1)
-
--- a text without its last byte
-abbrev pub but_last : List ℕ → List ℕ
-but_last text = take (length text - 1) text
 
 pub but_last-push : (text : List ℕ) (c : ℕ) → but_last (text ++ c ∷ []) ≡ text
 but_last-push text c =
