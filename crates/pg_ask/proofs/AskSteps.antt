@@ -11,6 +11,10 @@ use Rattle.pg_ast.specs.declared.tree.Desc.{Desc}
 use Rattle.pg_word.specs.declared.shape.Shape.{Shape}
 use Rattle.pg_meaning.specs.States.{shape_of}
 use Rattle.pg_valid.specs.Valid.{IsValid}
+use Rattle.pg_word.specs.Bits.{IsWidth}
+use Rattle.pg_vec.specs.There.{AreThere}
+use Rattle.pg_valid.proofs.ValidFacts.{IsWidth-word}
+use Rattle.pg_valid.proofs.PatternFacts.{valid-length}
 use Rattle.pg_cnf.specs.Encoded.{clauses_of}
 use Rattle.pg_symex.proofs.RunLaw.{all_run_right}
 use Rattle.pg_type.specs.declared.kind.Kind.{Kind}
@@ -53,7 +57,7 @@ pub asked_step : (d : Desc) (i : Instr) (kind : Kind) (n1 n2 n3 n4 n5 : List Nod
 unfolding question_made
 asked_step d i kind n1 n2 n3 n4 n5 u word usable gate root t0 t1 cells e eu ev ew ec ef eb er =
     let q4 : Begun → (List Gate × Gate) × List Node → Both → Question = λ b f both.
-        (let r = root_made kind b.unknowns f.0.0 f.0.1 both.nodes both.cells both.first both.second in record { nodes = r.1; root = r.0; unknowns = b.unknowns; usable = f.0.0; cells = both.cells }) in
+    (let r = root_made kind b.unknowns f.0.0 f.0.1 both.nodes both.cells both.first both.second in record { nodes = r.1; root = r.0; unknowns = b.unknowns; usable = f.0.0; cells = both.cells }) in
     let q3 : Begun → (List Gate × Gate) × List Node → Question = λ b f. q4 b f (both_made d i b.unknowns f.0.0 f.1 b.cells) in
     let q2 : Begun → Question = λ b. q3 b (fits_made d i kind b.unknowns b.word b.nodes) in
     let b : Begun = record { unknowns = u; word = word; nodes = n2; cells = t1.cells } in
@@ -104,3 +108,20 @@ width_is places n xs h = subst (λ k. AreBits places k xs) (sym h.wide) h
 
 pub ends_width : (places w x a b : ℕ) (e : BothEnds) → w ≡ x → a ≡ b → AreEnds places w a e → AreEnds places x b e
 ends_width places w x a b e ew ea h = subst (λ k. AreEnds places x k e) ea (subst (λ k. AreEnds places k a e) ew h)
+
+-- the word at P, of the width of an instruction's pattern
+pub word_bits : (d : Desc) (k : ℕ) (i : Instr) (places w : ℕ) (word : List Gate) → IsValid d → slice_get d.instrs k ≡ Some i → AreThere places word → length word ≡ w → w ≡ d.word → AreBits places (length i.pattern.bytes) word
+word_bits d k i places w word valid here t e ew =
+    let n = valid-length d k i valid here in
+    record { there = t; wide = e ∙ ew ∙ sym n; is_width = subst IsWidth (sym n) (IsWidth-word d valid) }
+
+pub unknowns_as_due : (kind : Kind) (a b : ℕ) (n0 n1 ns : List Node) (u : Unknowns) → a ≡ b → n0 ≡ ns → (u, n1) ≡ unknowns_made kind a n0 → (u, n1) ≡ unknowns_made kind b ns
+unknowns_as_due kind a b n0 n1 ns u ea en e = e ∙ ap (λ k. unknowns_made kind k n0) ea ∙ ap (λ k. unknowns_made kind b k) en
+
+pub asked_all : (d : Desc) (k : ℕ) (kind : Kind) (body : Instr) (n1 n2 n3 n4 n5 : List Node) (u : Unknowns) (word usable : List Gate) (gate root : Gate) (t0 t1 : View) (cells : List Cell) (e : BothEnds) (clauses : List (List ℤ)) → slice_get d.instrs k ≡ Some body → (u, n1) ≡ unknowns_made kind d.address (Constant ∷ []) →
+    t0 ≡ view_for d [] [] → (word, n2) ≡ touch_made n1 t0 u.p → t1 ≡ record t0 { cells = cells_after n1 t0.w t0.cells u.p } → ((usable, gate), n3) ≡ fits_made d body kind u word n2 → ((i : Instr) → slice_get d.instrs k ≡ Some i → AreBoth (both_made d i u usable n3 t1.cells) e n4 cells) →
+    (root, n5) ≡ root_made kind u usable gate n4 cells e.first e.second → clauses ≡ clauses_of n5 root → (i : Instr) → slice_get d.instrs k ≡ Some i → IsQuestionOf d i kind clauses u usable cells
+asked_all d k kind body n1 n2 n3 n4 n5 u word usable gate root t0 t1 cells e clauses found eu ev ew ec ef eb er en i here =
+    let both : Some body ≡ Some i = sym found ∙ here in
+    let same : body ≡ i = cc both in
+    question_of d i kind n5 root u usable cells clauses en (asked_step d i kind n1 n2 n3 n4 n5 u word usable gate root t0 t1 cells e eu ev ew ec (ef ∙ ap (λ z. fits_made d z kind u word n2) same) (eb i here) er)

@@ -58,19 +58,21 @@ unknowns_made kind a nodes =
     then_made (other_made (rebounds kind) a after_first_b first_b) (λ second_b after_second_b.
     then_made (inputs_made after_second_b a) (λ first_size after_first_size.
     then_made (other_made (rebounds kind) a after_first_size first_size) (λ second_size after_second_size.
-    then_made (inputs_made after_second_size a) (λ compared after_compared.
-    (record {
-      first_mode = modes.0;
-      second_mode = modes.1;
-      p = p;
-      first_l = first_l;
-      second_l = second_l;
-      first_b = first_b;
-      second_b = second_b;
-      first_size = first_size;
-      second_size = second_size;
-      compared = compared;
-    }, after_compared))))))))))
+    then_made (inputs_made after_second_size a) (λ compared after_compared. (
+      record {
+        first_mode = modes.0;
+        second_mode = modes.1;
+        p = p;
+        first_l = first_l;
+        second_l = second_l;
+        first_b = first_b;
+        second_b = second_b;
+        first_size = first_size;
+        second_size = second_size;
+        compared = compared;
+      },
+      after_compared,
+    ))))))))))
 
 -- the registers of each state; both have one number of usable cells
 abbrev pub first_regs : Unknowns → List Gate → Regs

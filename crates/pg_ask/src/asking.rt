@@ -109,11 +109,29 @@ pub fn ask<'m>(
     let mut touched = Touched::new(alloc, shape.w, shape.a);
     let unknowns = unknowns_of(alloc, &mut circuit, kind, shape.a)?;
     let word = touched.touch(&mut circuit, &unknowns.p)?;
-    let body = &machine.desc.instrs.as_slice()[instr];
+    let instrs = machine.desc.instrs.as_slice();
+    let body = &instrs[instr];
     let fits = fit(alloc, &mut circuit, machine, body, kind, &unknowns, &word)?;
     let Fits { usable, gate } = fits;
-    let ended = both(alloc, machine, instr, &mut circuit, &mut touched, &unknowns, &usable)?;
-    let root = root(alloc, &mut circuit, &touched, kind, &unknowns, &usable, gate, &ended)?;
+    let ended = both(
+        alloc,
+        machine,
+        instr,
+        &mut circuit,
+        &mut touched,
+        &unknowns,
+        &usable,
+    )?;
+    let root = root(
+        alloc,
+        &mut circuit,
+        &touched,
+        kind,
+        &unknowns,
+        &usable,
+        gate,
+        &ended,
+    )?;
     if circuit.len() >= NODES_AT_MOST {
         return Err(AllocError);
     }

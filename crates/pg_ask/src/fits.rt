@@ -81,12 +81,7 @@ fn size(
 }
 
 /// A gate, and that two strings of one width are the same. The error is want of memory.
-pub fn alike(
-    circuit: &mut Circuit,
-    so_far: Gate,
-    x: &Bits,
-    y: &Bits,
-) -> Result<Gate, AllocError>
+pub fn alike(circuit: &mut Circuit, so_far: Gate, x: &Bits, y: &Bits) -> Result<Gate, AllocError>
     requires so_far { IsThere (length circuit.old.nodes) so_far }
     requires x { AreBits (length circuit.old.nodes) (length y.now) x.now }
     requires y { AreBits (length circuit.old.nodes) (length y.now) y.now }
@@ -98,12 +93,7 @@ pub fn alike(
 }
 
 /// A gate, and that two strings of one width differ. The error is want of memory.
-fn differ(
-    circuit: &mut Circuit,
-    so_far: Gate,
-    x: &Bits,
-    y: &Bits,
-) -> Result<Gate, AllocError>
+fn differ(circuit: &mut Circuit, so_far: Gate, x: &Bits, y: &Bits) -> Result<Gate, AllocError>
     requires so_far { IsThere (length circuit.old.nodes) so_far }
     requires x { AreBits (length circuit.old.nodes) (length y.now) x.now }
     requires y { AreBits (length circuit.old.nodes) (length y.now) y.now }

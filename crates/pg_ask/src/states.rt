@@ -51,11 +51,7 @@ fn address(assignment: &[bool], bits: &Bits) -> u32
 }
 
 /// The words of the touched cells, each beside its address. The error is want of memory.
-fn named(
-    alloc: Global,
-    assignment: &[bool],
-    cells: &[Cell],
-) -> Result<Vec<(u32, u64)>, AllocError>
+fn named(alloc: Global, assignment: &[bool], cells: &[Cell]) -> Result<Vec<(u32, u64)>, AllocError>
     requires { All (λ c. length c.address ≤ 32) cells.now }
     ensures { IfOk result (λ v. v.items ≡ named_cells assignment.now cells.now) }
 {

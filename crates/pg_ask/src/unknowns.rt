@@ -121,12 +121,7 @@ fn bit(alloc: Global, circuit: &Circuit, value: bool) -> Result<Bits, AllocError
 }
 
 /// What the second state has in the place of a string: inputs of its own, or the same gates. The error is want of memory.
-fn other(
-    alloc: Global,
-    circuit: &mut Circuit,
-    own: bool,
-    same: &Bits,
-) -> Result<Bits, AllocError>
+fn other(alloc: Global, circuit: &mut Circuit, own: bool, same: &Bits) -> Result<Bits, AllocError>
     requires { AreBits (length circuit.old.nodes) (length same.now) same.now }
     ensures made { IfOk result (λ bits. (bits, circuit.new.nodes) ≡ other_made own (length same.now) circuit.old.nodes same.now) }
     ensures there { IfOk result (λ bits. LeavesBits circuit.old.nodes circuit.new.nodes (length same.now) bits) }

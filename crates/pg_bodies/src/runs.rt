@@ -65,8 +65,8 @@ fn inputs(alloc: Global, circuit: &mut Circuit, count: u32) -> Result<Bits, Allo
     Ok(Bits::from_vec(gates))
 }
 
-/// One run of an instruction, over cells without a write. The error is want of memory. That cells and registers have the
-/// widths of the machine is tested, since no type says it, and answered the same way where they have not.
+/// One run of an instruction, over cells of its machine without a write; they stay such. The error is want of memory. That
+/// registers have the widths of the machine is tested, since no type says it, and answered the same way where they have not.
 fn run(
     alloc: Global,
     machine: &Machine,
@@ -76,28 +76,19 @@ fn run(
     regs: &Regs,
 ) -> Result<(), AllocError>
     requires instr { instr < length machine.now.desc.instrs }
+    requires word_width { touched.old.w ≡ machine.now.desc.word }
+    requires address_width { touched.old.a ≡ machine.now.desc.address }
     requires over { IsOver circuit.old.nodes touched.old }
     requires no_write { touched.old.writes ≡ [] }
-    ensures { OnOk result (IsOver circuit.new.nodes touched.new) }
+    ensures over { OnOk result (IsOver circuit.new.nodes touched.new) }
+    ensures word_width { OnOk result (touched.new.w ≡ touched.old.w) }
+    ensures address_width { OnOk result (touched.new.a ≡ touched.old.a) }
 {
-    if !are_cells_of(machine, touched) || !are_regs(circuit, machine.shape().a, regs) {
+    if !are_regs(circuit, machine.shape().a, regs) {
         return Err(AllocError);
     }
     let _outcome = run_symbolic(alloc, machine, instr, circuit, touched, regs)?;
-    if are_cells_of(machine, touched) {
-        Ok(())
-    } else {
-        Err(AllocError)
-    }
-}
-
-/// Whether cells have the widths of a machine.
-fn are_cells_of(machine: &Machine, touched: &Touched) -> bool
-    ensures word { IsTrue result → touched.now.w ≡ machine.now.desc.word }
-    ensures address { IsTrue result → touched.now.a ≡ machine.now.desc.address }
-{
-    let shape = machine.shape();
-    touched.word_width() == shape.w && touched.address_width() == shape.a
+    Ok(())
 }
 
 /// Whether registers are of the circuit and of these widths.

@@ -43,5 +43,5 @@ returns-clause-kept c =
 pub returns-clause-over : goal.returns-clause-over
 returns-clause-over c =
     let all = end_leaves c.args.m.now.desc c.args.instr c.args.regs.now c.args.compared.now c.args.circuit.now.nodes c.touch.new.circuit.nodes c.args.touched.now.cells c.rewind.new.self.cells _ c.args.m.now.valid c.requires.instr c.args.circuit.now.circuit
-        (subst (λ (x : View). IsOver c.args.circuit.now.nodes x) c.requires.view c.requires.over) c.requires.regs c.requires.compared (returns-clause-made c) in
+    (subst (λ (x : View). IsOver c.args.circuit.now.nodes x) c.requires.view c.requires.over) c.requires.regs c.requires.compared (returns-clause-made c) in
     subst (λ (x : View). IsOver c.touch.new.circuit.nodes x) (sym (returns-clause-view c)) all.over

@@ -1,0 +1,4 @@
+pub mod VerdictLemmas
+pub mod Spelled
+pub mod OneText
+pub mod Walks

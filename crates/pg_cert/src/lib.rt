@@ -1,0 +1,25 @@
+//! Certificates: what is found of each instruction and kind, and its text.
+//!
+//! A certificate has one finding for each instruction of a machine and each kind: a log that shows that no states show the
+//! kind, two states that do, or how many steps were spent without an answer. `report_of` keeps of each what a verdict is
+//! made of, and `Report::verdict` is the answer: whether a monitor may run the machine, and if not, because of which instruction.
+//!
+//! # Modules
+//!
+//! - `cert`: findings. `report`: their marks, and the verdict.
+//! - `line`: what a line of a certificate's text says. `parts`: its parts. `reading`: what they are read as.
+//! - `laws`: what follows from the definitions alone.
+//!
+//! What a finding means is `pg_proof`'s and `pg_type`'s to say. Nothing here tests one.
+#![tactic(auto)]
+
+mod cert;
+pub mod laws;
+mod line;
+pub mod parts;
+pub mod reading;
+mod report;
+
+pub use cert::{Cert, Family, Finding, FindingList, StepList};
+pub use line::{Found, Heading, Line};
+pub use report::{Mark, MarkList, Report, Verdict, report_of};
