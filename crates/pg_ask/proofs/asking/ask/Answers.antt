@@ -75,7 +75,7 @@ invariant_of-result c =
         valid = c.args.machine.now.valid;
         in_range = c.requires;
         of = λ i here. asked_all c.args.machine.now.desc c.args.instr c.args.kind c.index-instrs-instr.result c.unknowns_of.new.circuit.nodes c.touch.new.circuit.nodes c.fit.new.circuit.nodes c.both.new.circuit.nodes c.root.new.circuit.nodes c.in_ok-unknowns.unknowns c.in_ok-word.word c.in_ok-fits.fits.usable c.in_ok-fits.fits.gate c.in_ok-root.root c.new-touched.result c.touch.new.self c.both.new.touched.cells c.in_ok-ended.ended c.in_ok-cnf.cnf.clauses
-    (found_instr c.as_slice-instrs.result.now c.args.machine.now.desc.instrs c.args.instr c.index-instrs-instr.result c.as_slice-instrs.ensures c.requires c.index-instrs-instr.is) (unknowns_as_due c.args.kind _ c.args.machine.now.desc.address _ _ _ _ (ap (λ (s : Shape). s.a) c.shape-shape.ensures.numbers) c.in_ok-circuit.ensures c.in_ok-unknowns.ensures.made) (begun_view c.args.machine.now.desc c.shape-shape.result.now c.new-touched.result c.new-touched.ensures.view c.shape-shape.ensures.numbers) c.in_ok-word.ensures.made c.in_ok-word.ensures.cells c.in_ok-fits.ensures.made c.in_ok-ended.ensures.made c.in_ok-root.ensures.made c.in_ok-cnf.ensures.clauses i here;
+            (found_instr c.as_slice-instrs.result.now c.args.machine.now.desc.instrs c.args.instr c.index-instrs-instr.result c.as_slice-instrs.ensures c.requires c.index-instrs-instr.is) (unknowns_as_due c.args.kind _ c.args.machine.now.desc.address _ _ _ _ (ap (λ (s : Shape). s.a) c.shape-shape.ensures.numbers) c.in_ok-circuit.ensures c.in_ok-unknowns.ensures.made) (begun_view c.args.machine.now.desc c.shape-shape.result.now c.new-touched.result c.new-touched.ensures.view c.shape-shape.ensures.numbers) c.in_ok-word.ensures.made c.in_ok-word.ensures.cells c.in_ok-fits.ensures.made c.in_ok-ended.ensures.made c.in_ok-root.ensures.made c.in_ok-cnf.ensures.clauses i here;
       };
     }
 
