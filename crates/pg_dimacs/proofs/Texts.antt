@@ -1,6 +1,6 @@
 -- Texts of clauses, step by step.
 use Rattle.std.proofs.Common.{◌≡◌, ℕ, ◌+◌, ◌<◌, List, [], ◌∷◌, ◌++◌, length, drop, get_or, append_assoc, arith, ap, sym, ◌∙◌}
-use Rattle.std.specs.Prelude.{max, ℤ, pos, nat_abs}
+use Rattle.std.specs.Prelude.{max, ℤ, pos, nat_abs, Result, Ok, Err, IfOk}
 use Rattle.std.specs.Fmt.{signed_decimal}
 use Rattle.std.proofs.lemmas.List.{drop_more}
 use Rattle.pg_dimacs.specs.Dimacs.{literals_text, clauses_text, greatest_in, greatest_variable}
@@ -42,3 +42,8 @@ unfolding greatest_variable
 greatest_variable_next most whole cs i c lt e h =
     let split : drop i cs ≡ c ∷ drop (i + 1) cs = drop_more cs i c lt ∙ ap (λ u. u ∷ drop (i + 1) cs) (sym e) in
     max-nested (greatest_in c) most (greatest_variable (drop (i + 1) cs)) ∙ ap (λ y. max most (greatest_variable y)) (sym split) ∙ h
+
+-- what is known of an Ok says what follows from it
+pub if_ok : {T E : Type 0} {P Q : T → Type 0} (r : Result T E) → ((x : T) → P x → Q x) → IfOk r P → IfOk r Q
+if_ok (Ok x) f h = f x h
+if_ok (Err e) f h = h

@@ -1,5 +1,5 @@
 -- Clauses as text, in the format DIMACS CNF, with lines that end in LF and numbers in decimal digits.
-use Rattle.std.specs.Prelude.{ℕ, max, ℤ, nat_abs, List, [], ◌∷◌, ◌++◌, length, codes}
+use Rattle.std.specs.Prelude.{◌≡◌, ℕ, max, ℤ, nat_abs, List, [], ◌∷◌, ◌++◌, length, codes}
 use Rattle.std.specs.Fmt.{decimal, signed_decimal}
 
 -- literals, with a space behind each
@@ -29,3 +29,8 @@ head_text variables clauses = codes "p cnf " ++ decimal variables ++ 32 ∷ deci
 -- the head, and the clauses in their order
 unfoldable pub dimacs_text : List (List ℤ) → List ℕ
 dimacs_text clauses = head_text (greatest_variable clauses) (length clauses) ++ clauses_text clauses
+
+-- some lines, and then the text of these clauses
+pub record IsQuestionText (clauses : List (List ℤ)) (text : List ℕ) : Type 0 where
+  pub comments : List ℕ
+  pub whole : text ≡ comments ++ dimacs_text clauses

@@ -8,7 +8,10 @@
 //! `pgv`. Nothing that `pgv` does stands on this program.
 #![tactic(auto)]
 
-ghost use Rattle.std.specs.Prelude.{◌<◌, length, IfSome};
+ghost use Rattle.std.specs.Prelude.{◌≡◌, ◌<◌, length, slice_get, Some, IfSome, IfOk};
+ghost use Rattle.pg_ast.specs.declared.tree.Instr.{Instr as Instrs};
+ghost use Rattle.pg_ask.specs.Question.{question};
+ghost use Rattle.pg_dimacs.specs.Dimacs.{IsQuestionText};
 
 mod comments;
 mod load;
@@ -21,7 +24,7 @@ use crate::load::load;
 use crate::request::{Request, asked_by};
 use crate::stop::Stop;
 use crate::text::push_formula;
-use pg_ask::ask;
+use pg_ask::{Asked, ask};
 use pg_edge::{Shelf, Sink};
 use pg_host::{DirShelf, StdSink};
 use pg_valid::Machine;
@@ -80,7 +83,7 @@ fn find(machine: &Machine, name: &str) -> Option<usize>
     }
 }
 
-/// The question of an instruction as text. The error is want of memory.
+/// The question of an instruction as text: lines of comment, and its clauses. The error is want of memory.
 fn written(
     alloc: Global,
     machine: &Machine,
@@ -88,10 +91,18 @@ fn written(
     request: &Request<'_>,
 ) -> Result<Vec<u8>, AllocError>
     requires { instr < length machine.now.desc.instrs }
+    ensures { IfOk result (λ text. (i : Instrs) → slice_get machine.now.desc.instrs instr ≡ Some i → IsQuestionText (question machine.now.desc i request.now.kind) text.items) }
 {
     let asked = ask(alloc, machine, instr, request.kind)?;
+    text_of(alloc, request, &asked)
+}
+
+/// A question as text: lines of comment, and its clauses. The error is want of memory.
+fn text_of(alloc: Global, request: &Request<'_>, asked: &Asked<'_>) -> Result<Vec<u8>, AllocError>
+    ensures { IfOk result (λ text. IsQuestionText asked.now.cnf.clauses text.items) }
+{
     let mut text = Vec::new(alloc);
-    push_comments(&mut text, request, &asked)?;
+    push_comments(&mut text, request, asked)?;
     push_formula(&mut text, asked.cnf())?;
     Ok(text)
 }
