@@ -1,0 +1,20 @@
+//! The verifier of certificates: whether a text is the one spelling of a valid certificate of a machine.
+//!
+//! A text is read line by line, however its bytes are handed over. Each finding is tried as it comes: the steps of a log by a
+//! checker over the clauses of the question, which is asked as the finding opens, two states by replaying them. Nothing is
+//! trusted that whoever wrote the text may have done. Once a finding is closed only its mark is kept.
+//!
+//! # Modules
+//!
+//! - `fault`: why a text is refused. `drawing`: the two states of a finding, as lines give them. `opened`: the finding that is
+//!   open.
+//! - `verifier`: the type, and its life: `new` or `hybrid`, then `feed` or `line`, then `finish`. `verify` is all of it.
+//! - `steps`, `states`, `headers`: what a line does, by what it says.
+//! - `laws`: what follows from the definitions alone: a text is taken exactly where it spells a valid certificate.
+#![tactic(auto)]
+
+mod drawing;
+mod fault;
+mod opened;
+
+pub use fault::{StepCause, VerifyFault};
