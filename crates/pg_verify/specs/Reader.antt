@@ -1,5 +1,5 @@
--- How far the text of a certificate has been read.
-use Rattle.std.specs.Prelude.{ℕ, Bool, List, Option, None, Some}
+-- How far the text of a certificate has been read, or why it was refused.
+use Rattle.std.specs.Prelude.{ℕ, Bool, List, Result}
 use Rattle.pg_word.specs.declared.psw.Psw.{Psw}
 use Rattle.pg_word.specs.Sparse.{storage_of}
 use Rattle.pg_ast.specs.declared.tree.Desc.{Desc}
@@ -42,10 +42,9 @@ pub data Mark : Type 0 where
   Shown : (s t : Drawn) → Mark
   Spent : (budget : ℕ) → Mark
 
--- a text that is being read: for which machine and which family, whether clauses may be taken away, the marks of the findings
--- that are closed, what is open, how many lines and bytes were taken, the bytes of a line that is not whole, and why it was
--- refused, if it was
-pub record Reader : Type 0 where
+-- how far a text has been read: for which machine and which family, whether clauses may be taken away, the marks of the
+-- findings that are closed, what is open, how many lines and bytes were taken, and the bytes of a line that is not whole
+pub record Progress : Type 0 where
   pub desc : Desc
   pub family : Family
   pub removes : Bool
@@ -54,4 +53,7 @@ pub record Reader : Type 0 where
   pub lines : ℕ
   pub fed : ℕ
   pub rest : List ℕ
-  pub fault : Option VerifyFault
+
+-- a reader is somewhere in a text, or has refused it, for good
+abbrev pub Reader : Type 0
+Reader = Result Progress VerifyFault

@@ -1,5 +1,5 @@
 -- What a line does to what was read before it, by what it says.
-use Rattle.std.specs.Prelude.{ℕ, zero, suc, ◌+◌, ◌-◌, ◌*◌, ◌/◌, Bool, true, false, not, ◌&&◌, ◌==◌, nat_lt, min, if◌then◌else◌, ℤ, List, [], ◌∷◌, ◌++◌, length, position, bytes_eq, Option, None, Some, is_some, slice_get}
+use Rattle.std.specs.Prelude.{ℕ, zero, suc, ◌+◌, ◌-◌, ◌*◌, Bool, true, false, not, ◌&&◌, ◌==◌, nat_lt, min, if◌then◌else◌, ℤ, List, [], ◌∷◌, ◌++◌, length, position, bytes_eq, Option, None, Some, slice_get, Result, Ok, Err}
 use Rattle.std.specs.List.{list_all}
 use Rattle.pg_word.specs.declared.psw.Psw.{Psw as Psws}
 use Rattle.pg_ast.specs.declared.tree.Instr.{Instr}
@@ -20,11 +20,12 @@ use Rattle.pg_proof.specs.Removal.{after_removal}
 use Rattle.pg_ask.specs.Question.{question}
 use Rattle.pg_cert.specs.declared.cert.Family.{Family}
 use Rattle.pg_cert.specs.declared.cert.Family.TheVariants.{Plain, Hybrid}
+use Rattle.pg_cert.specs.declared.line.Heading.{Heading}
 use Rattle.pg_cert.specs.declared.line.Found.{Found}
 use Rattle.pg_cert.specs.declared.line.Found.TheVariants as found
 use Rattle.pg_cert.specs.declared.line.Line.{Line}
 use Rattle.pg_cert.specs.declared.line.Line.TheVariants as line
-use Rattle.pg_cert.specs.Verdicts.{kinds_of, kind_count}
+use Rattle.pg_cert.specs.Verdicts.{kind_count}
 use Rattle.pg_cert.specs.Parsing.{Said, Says, NoToken, NoForm, OtherVersion, said}
 use Rattle.pg_cert.specs.Texts.{family_of, instr_of, kind_of}
 use Rattle.pg_cert.specs.Validity.{may_remove}
@@ -32,59 +33,165 @@ use Rattle.pg_verify.specs.declared.fault.VerifyFault.{VerifyFault}
 use Rattle.pg_verify.specs.declared.fault.VerifyFault.TheVariants as fault
 use Rattle.pg_verify.specs.declared.fault.StepCause.{StepCause}
 use Rattle.pg_verify.specs.declared.fault.StepCause.TheVariants.{UnknownLit, UnknownHint, NotUnit, NoConflict}
-use Rattle.pg_verify.specs.Reader.{Drawn, state_of, Pair, NoState, FirstSize, FirstState, SecondSize, BothStates, Open, Fresh, Between, Refuting, Showing, Spending, Ended, Mark, Refuted, Shown, Spent, Reader}
+use Rattle.pg_verify.specs.Reader.{Drawn, state_of, Pair, NoState, FirstSize, FirstState, SecondSize, BothStates, Open, Fresh, Between, Refuting, Showing, Spending, Ended, Mark, Refuted, Shown, Spent, Progress, Reader}
 use Rattle.pg_verify.specs.Judging.{shows}
 
 -- ---- what may come of a line
 
-abbrev pub refused : Reader → VerifyFault → Reader
-refused r f = record r { fault = Some f }
+-- a value and what is done with it, or a refusal
+abbrev pub then_take : {X Y : Type 0} → Result X VerifyFault → (X → Result Y VerifyFault) → Result Y VerifyFault
+then_take (Ok x) go = go x
+then_take (Err f) go = Err f
 
--- no such line may stand there
-abbrev pub misplaced : Reader → Reader
-misplaced r = refused r (fault.Grammar r.lines)
+-- no such line may stand there. Each line is given by its number
+abbrev pub misplaced : {X : Type 0} → ℕ → Result X VerifyFault
+misplaced n = Err (fault.Grammar n)
 
-abbrev pub with_open : Reader → Open → Reader
-with_open r open = record r { open = open }
+abbrev pub with_open : Progress → Open → Progress
+with_open p open = record p { open = open }
 
--- what is done where nothing was refused yet
-abbrev pub unless_refused : Reader → (Reader → Reader) → Reader
-unless_refused r go = (if is_some r.fault then r else go r)
+-- what is open changes, and nothing else
+abbrev pub reopened : Progress → Result Open VerifyFault → Reader
+reopened p next = then_take next (λ open. Ok (with_open p open))
+
+-- ---- steps
+
+abbrev pub cause_of : ProofFault → StepCause
+cause_of proof.UnknownLit = UnknownLit
+cause_of proof.UnknownHint = UnknownHint
+cause_of proof.NotUnit = NotUnit
+cause_of proof.NoConflict = NoConflict
+cause_of proof.UnknownClause = NoConflict
+cause_of proof.Memory = NoConflict
+
+-- where a step is valid
+abbrev pub where_valid : {X : Type 0} → ℕ → Option ProofFault → Result X VerifyFault → Result X VerifyFault
+where_valid n None valid = valid
+where_valid n (Some f) valid = Err (fault.BadStep n (cause_of f))
+
+-- a log with one step more
+abbrev pub with_step : ℕ → Log → Steps → Result Log VerifyFault
+with_step n log step = where_valid n (fault_of log.variables log.held step) (Ok (with_clause log step.lits))
+
+-- beside being valid: not empty, tight, and no clause held is part of it
+abbrev pub is_worth : Log → Steps → Bool
+is_worth log step = not (is_empty step.lits) && (is_tight log.variables log.held step && not (is_covered log.held step.lits))
+
+-- a spent log with one step more: one that is left, and worth its place
+abbrev pub with_spent_step : ℕ → (budget count : ℕ) → Log → Steps → Result Log VerifyFault
+with_spent_step n budget count log step =
+    where_valid n (fault_of log.variables log.held step)
+        (if nat_lt count budget && is_worth log step then Ok (with_clause log step.lits) else Err (fault.BadSpent n))
+
+unfoldable pub after_step : ℕ → Steps → Open → Result Open VerifyFault
+after_step n step Fresh = misplaced n
+after_step n step Between = misplaced n
+after_step n step (Refuting header log) = then_take (with_step n log step) (λ after. Ok (Refuting header after))
+after_step n step (Showing header pair) = misplaced n
+after_step n step (Spending header budget count log) = then_take (with_spent_step n budget count log step) (λ after. Ok (Spending header budget (suc count) after))
+after_step n step Ended = misplaced n
+
+abbrev pub held_after : ℕ → Option Log → Result Log VerifyFault
+held_after n None = Err (fault.BadDelete n)
+held_after n (Some log) = Ok log
+
+unfoldable pub after_remove : ℕ → Bool → List ℕ → Open → Result Open VerifyFault
+after_remove n removes numbers Fresh = misplaced n
+after_remove n removes numbers Between = misplaced n
+after_remove n removes numbers (Refuting header log) =
+    (if removes then then_take (held_after n (after_removal log numbers)) (λ after. Ok (Refuting header after)) else misplaced n)
+after_remove n removes numbers (Showing header pair) = misplaced n
+after_remove n removes numbers (Spending header budget count log) = misplaced n
+after_remove n removes numbers Ended = misplaced n
+
+-- ---- states
+
+-- a pair of states with one line more, or none where it may not stand there
+abbrev pub with_size : ℕ → Pair → Option Pair
+with_size size NoState = Some (FirstSize size)
+with_size size (FirstSize m) = None
+with_size size (FirstState s) = Some (SecondSize s size)
+with_size size (SecondSize s m) = None
+with_size size (BothStates s t) = None
+
+abbrev pub drawn : ℕ → Psws → Drawn
+drawn size psw = record { size = size; psw = psw; cells = [] }
+
+abbrev pub with_psw : Psws → Pair → Option Pair
+with_psw psw NoState = None
+with_psw psw (FirstSize size) = Some (FirstState (drawn size psw))
+with_psw psw (FirstState s) = None
+with_psw psw (SecondSize s size) = Some (BothStates s (drawn size psw))
+with_psw psw (BothStates s t) = None
+
+-- the cells of a row that are not zero, with their addresses
+abbrev pub listed : ℕ → List ℕ → List (ℕ × ℕ)
+listed at [] = []
+listed at (word ∷ words) = (if word == 0 then listed (suc at) words else (at, word) ∷ listed (suc at) words)
+
+-- a row fits where it comes behind all cells that are listed and has as many words as the storage has there, 8 at most
+abbrev pub row_fits : Drawn → ℕ → List ℕ → Bool
+row_fits s first words = list_all (λ cell. nat_lt cell.0 first) s.cells && (length words == min line_cells (s.size - first))
+
+abbrev pub with_row : ℕ → List ℕ → Drawn → Option Drawn
+with_row first words s = (if row_fits s first words then Some (record s { cells = s.cells ++ listed first words }) else None)
+
+abbrev pub as_first : Option Drawn → Option Pair
+as_first None = None
+as_first (Some s) = Some (FirstState s)
+
+abbrev pub as_second : Drawn → Option Drawn → Option Pair
+as_second s None = None
+as_second s (Some t) = Some (BothStates s t)
+
+abbrev pub with_cells : ℕ → List ℕ → Pair → Option Pair
+with_cells first words NoState = None
+with_cells first words (FirstSize size) = None
+with_cells first words (FirstState s) = as_first (with_row first words s)
+with_cells first words (SecondSize s size) = None
+with_cells first words (BothStates s t) = as_second s (with_row first words t)
+
+abbrev pub shown_on : ℕ → ℕ → Option Pair → Result Open VerifyFault
+shown_on n header None = misplaced n
+shown_on n header (Some pair) = Ok (Showing header pair)
+
+unfoldable pub after_state_line : ℕ → (Pair → Option Pair) → Open → Result Open VerifyFault
+after_state_line n go Fresh = misplaced n
+after_state_line n go Between = misplaced n
+after_state_line n go (Refuting header log) = misplaced n
+after_state_line n go (Showing header pair) = shown_on n header (go pair)
+after_state_line n go (Spending header budget count log) = misplaced n
+after_state_line n go Ended = misplaced n
 
 -- ---- findings
 
 -- the finding that is due has the number of those that are closed
-abbrev pub due_instr : Reader → ℕ
-due_instr r = instr_of r.family (length r.marks)
+abbrev pub due_instr : Progress → ℕ
+due_instr p = instr_of p.family (length p.marks)
 
-abbrev pub due_kind : Reader → Kind
-due_kind r = kind_of r.family (length r.marks)
+abbrev pub due_kind : Progress → Kind
+due_kind p = kind_of p.family (length p.marks)
 
-abbrev pub all_findings : Reader → ℕ
-all_findings r = length r.desc.instrs * kind_count r.family
+abbrev pub all_findings : Progress → ℕ
+all_findings p = length p.desc.instrs * kind_count p.family
 
--- the clauses of the question of an instruction, by its number
-abbrev pub clauses_at : Desc → Kind → Option Instr → List (List ℤ)
-clauses_at d kind None = []
-clauses_at d kind (Some i) = question d i kind
+abbrev pub missing : {X : Type 0} → Progress → Result X VerifyFault
+missing p = Err (fault.Missing (due_instr p) (due_kind p))
 
 abbrev pub shows_at : Desc → Kind → Option Instr → Drawn → Drawn → Bool
-shows_at d kind None s t = false
-shows_at d kind (Some i) s t = shows d i kind (state_of s) (state_of t)
+shows_at d k None s t = false
+shows_at d k (Some i) s t = shows d i k (state_of s) (state_of t)
 
 -- whether two states show the kind that is due of the instruction that is due
-abbrev pub shows_due : Reader → Drawn → Drawn → Bool
-shows_due r s t = shows_at r.desc (due_kind r) (slice_get r.desc.instrs (due_instr r)) s t
+abbrev pub shows_due : Progress → Drawn → Drawn → Bool
+shows_due p s t = shows_at p.desc (due_kind p) (slice_get p.desc.instrs (due_instr p)) s t
 
-abbrev pub with_mark : Reader → Mark → Reader
-with_mark r mark = record r { marks = r.marks ++ mark ∷ []; open = Between }
-
--- whether a header or the last line may stand where this is open
+-- a header, or the last line, may stand where no finding is open or the one that is has come to an end
 abbrev pub is_whole : Pair → Bool
 is_whole NoState = false
-is_whole (FirstSize n) = false
+is_whole (FirstSize size) = false
 is_whole (FirstState s) = false
-is_whole (SecondSize s n) = false
+is_whole (SecondSize s size) = false
 is_whole (BothStates s t) = true
 
 abbrev pub may_close : Open → Bool
@@ -95,26 +202,34 @@ may_close (Showing header pair) = is_whole pair
 may_close (Spending header budget count log) = true
 may_close Ended = false
 
-abbrev pub closing_pair : Reader → ℕ → Pair → Reader
-closing_pair r header NoState = r
-closing_pair r header (FirstSize n) = r
-closing_pair r header (FirstState s) = r
-closing_pair r header (SecondSize s n) = r
-closing_pair r header (BothStates s t) = (if shows_due r s t then with_mark r (Shown s t) else refused r (fault.BadPair header))
+abbrev pub marked : Progress → Mark → Progress
+marked p mark = record p { marks = p.marks ++ mark ∷ []; open = Between }
 
-abbrev pub closing : Reader → Open → Reader
-closing r Fresh = r
-closing r Between = r
-closing r (Refuting header log) = (if log.closed then with_mark r Refuted else refused r (fault.NotClosed header))
-closing r (Showing header pair) = closing_pair r header pair
-closing r (Spending header budget count log) = (if count == budget then with_mark r (Spent budget) else refused r (fault.BadSpent header))
-closing r Ended = r
+abbrev pub closed_pair : Progress → ℕ → Pair → Reader
+closed_pair p header NoState = Ok p
+closed_pair p header (FirstSize size) = Ok p
+closed_pair p header (FirstState s) = Ok p
+closed_pair p header (SecondSize s size) = Ok p
+closed_pair p header (BothStates s t) = (if shows_due p s t then Ok (marked p (Shown s t)) else Err (fault.BadPair header))
 
--- the finding that is open is closed: its mark is kept, or it is refused
-unfoldable pub closed : Reader → Reader
-closed r = closing r r.open
+abbrev pub closed_open : Progress → Open → Reader
+closed_open p Fresh = Ok p
+closed_open p Between = Ok p
+closed_open p (Refuting header log) = (if log.closed then Ok (marked p Refuted) else Err (fault.NotClosed header))
+closed_open p (Showing header pair) = closed_pair p header pair
+closed_open p (Spending header budget count log) = (if count == budget then Ok (marked p (Spent budget)) else Err (fault.BadSpent header))
+closed_open p Ended = Ok p
+
+-- the finding that is open is closed: its mark is kept, or the text is refused
+unfoldable pub closed : Progress → Reader
+closed p = closed_open p p.open
 
 -- ---- headers, and the last line
+
+-- the clauses of a question
+abbrev pub clauses_at : Desc → Kind → Option Instr → List (List ℤ)
+clauses_at d k None = []
+clauses_at d k (Some i) = question d i k
 
 abbrev pub opening : ℕ → List (List ℤ) → Found → Open
 opening header clauses found.Refuted = Refuting header (begun clauses)
@@ -122,16 +237,16 @@ opening header clauses found.Shown = Showing header NoState
 opening header clauses (found.Spent budget) = Spending header budget 0 (begun clauses)
 
 -- a finding of an instruction and a kind, by their places, opens where it is the one that is due
-abbrev pub placed : Reader → (instr : ℕ) → Kind → (place : ℕ) → Found → Reader
-placed r instr k place f =
-    let number = instr * kind_count r.family + place in
-    (if nat_lt number (length r.marks) then refused r (fault.Extra r.lines)
-    else (if nat_lt (length r.marks) number then refused r (fault.Missing (due_instr r) (due_kind r))
-    else with_open r (opening r.lines (clauses_at r.desc k (slice_get r.desc.instrs instr)) f)))
+abbrev pub placed : Progress → (instr : ℕ) → Kind → (place : ℕ) → Found → Reader
+placed p instr k place f =
+    let number = instr * kind_count p.family + place in
+    (if nat_lt number (length p.marks) then Err (fault.Extra p.lines)
+    else (if nat_lt (length p.marks) number then missing p
+    else Ok (with_open p (opening p.lines (clauses_at p.desc k (slice_get p.desc.instrs instr)) f))))
 
-abbrev pub named : Reader → Option ℕ → Kind → (place : ℕ) → Found → Reader
-named r None k place f = refused r (fault.NoSuchInstr r.lines)
-named r (Some instr) k place f = placed r instr k place f
+abbrev pub named : Progress → Option ℕ → Kind → (place : ℕ) → Found → Reader
+named p None k place f = Err (fault.NoSuchInstr p.lines)
+named p (Some instr) k place f = placed p instr k place f
 
 abbrev pub instr_named : Desc → List ℕ → Option ℕ
 instr_named d name = position (λ n. bytes_eq n name) (instr_names d.instrs)
@@ -155,127 +270,18 @@ kind_place Hybrid kind.UControl = Some 1
 kind_place Hybrid kind.ULocation = Some 2
 kind_place Hybrid kind.UBound = Some 3
 
-abbrev pub with_header : Reader → List ℕ → Kind → Option ℕ → Found → Reader
-with_header r name k None f = misplaced r
-with_header r name k (Some place) f = unless_refused (closed r) (λ after. named after (instr_named after.desc name) k place f)
+abbrev pub with_header : Progress → List ℕ → Kind → Option ℕ → Found → Reader
+with_header p name k None f = misplaced p.lines
+with_header p name k (Some place) f = then_take (closed p) (λ after. named after (instr_named after.desc name) k place f)
 
-unfoldable pub after_header : Reader → List ℕ → Kind → Found → Reader
-after_header r name k f = (if may_close r.open then with_header r name k (kind_place r.family k) f else misplaced r)
+unfoldable pub after_header : Progress → List ℕ → Kind → Found → Reader
+after_header p name k f = (if may_close p.open then with_header p name k (kind_place p.family k) f else misplaced p.lines)
 
-unfoldable pub after_end : Reader → Reader
-after_end r =
-    (if may_close r.open
-    then unless_refused (closed r) (λ after. (if length after.marks == all_findings after then with_open after Ended else refused after (fault.Missing (due_instr after) (due_kind after))))
-    else misplaced r)
+abbrev pub ended : Progress → Reader
+ended p = (if length p.marks == all_findings p then Ok (with_open p Ended) else missing p)
 
--- ---- steps
-
-abbrev pub cause_of : ProofFault → StepCause
-cause_of proof.UnknownLit = UnknownLit
-cause_of proof.UnknownHint = UnknownHint
-cause_of proof.NotUnit = NotUnit
-cause_of proof.NoConflict = NoConflict
-cause_of proof.UnknownClause = NoConflict
-cause_of proof.Memory = NoConflict
-
--- where a step is valid
-abbrev pub at_step_fault : Reader → Option ProofFault → Reader → Reader
-at_step_fault r None valid = valid
-at_step_fault r (Some f) valid = refused r (fault.BadStep r.lines (cause_of f))
-
--- beside being valid: not empty, tight, and no clause held is part of it
-abbrev pub is_worth : Log → Steps → Bool
-is_worth log step = not (is_empty step.lits) && (is_tight log.variables log.held step && not (is_covered log.held step.lits))
-
-abbrev pub stepping : Reader → Steps → Open → Reader
-stepping r step Fresh = misplaced r
-stepping r step Between = misplaced r
-stepping r step (Refuting header log) = at_step_fault r (fault_of log.variables log.held step) (with_open r (Refuting header (with_clause log step.lits)))
-stepping r step (Showing header pair) = misplaced r
-stepping r step (Spending header budget count log) =
-    at_step_fault r (fault_of log.variables log.held step)
-        (if nat_lt count budget && is_worth log step then with_open r (Spending header budget (suc count) (with_clause log step.lits)) else refused r (fault.BadSpent r.lines))
-stepping r step Ended = misplaced r
-
-unfoldable pub after_step : Reader → Steps → Reader
-after_step r step = stepping r step r.open
-
-abbrev pub at_removal : Reader → ℕ → Option Log → Reader
-at_removal r header None = refused r (fault.BadDelete r.lines)
-at_removal r header (Some log) = with_open r (Refuting header log)
-
-abbrev pub removing : Reader → List ℕ → Open → Reader
-removing r numbers Fresh = misplaced r
-removing r numbers Between = misplaced r
-removing r numbers (Refuting header log) = (if r.removes then at_removal r header (after_removal log numbers) else misplaced r)
-removing r numbers (Showing header pair) = misplaced r
-removing r numbers (Spending header budget count log) = misplaced r
-removing r numbers Ended = misplaced r
-
-unfoldable pub after_remove : Reader → List ℕ → Reader
-after_remove r numbers = removing r numbers r.open
-
--- ---- states
-
--- the pair of a finding with one more line, if it may stand there
-abbrev pub with_pair : Reader → ℕ → Option Pair → Reader
-with_pair r header None = misplaced r
-with_pair r header (Some pair) = with_open r (Showing header pair)
-
-abbrev pub showing : Reader → (Pair → Option Pair) → Open → Reader
-showing r go Fresh = misplaced r
-showing r go Between = misplaced r
-showing r go (Refuting header log) = misplaced r
-showing r go (Showing header pair) = with_pair r header (go pair)
-showing r go (Spending header budget count log) = misplaced r
-showing r go Ended = misplaced r
-
-abbrev pub pair_with_size : ℕ → Pair → Option Pair
-pair_with_size n NoState = Some (FirstSize n)
-pair_with_size n (FirstSize m) = None
-pair_with_size n (FirstState s) = Some (SecondSize s n)
-pair_with_size n (SecondSize s m) = None
-pair_with_size n (BothStates s t) = None
-
-abbrev pub drawn : ℕ → Psws → Drawn
-drawn n psw = record { size = n; psw = psw; cells = [] }
-
-abbrev pub pair_with_psw : Psws → Pair → Option Pair
-pair_with_psw psw NoState = None
-pair_with_psw psw (FirstSize n) = Some (FirstState (drawn n psw))
-pair_with_psw psw (FirstState s) = None
-pair_with_psw psw (SecondSize s n) = Some (BothStates s (drawn n psw))
-pair_with_psw psw (BothStates s t) = None
-
--- the cells of a row that are not zero, with their addresses
-abbrev pub listed : ℕ → List ℕ → List (ℕ × ℕ)
-listed at [] = []
-listed at (word ∷ words) = (if word == 0 then listed (suc at) words else (at, word) ∷ listed (suc at) words)
-
--- a row fits where it comes behind all cells that are listed and has as many words as the storage has there, 8 at most
-abbrev pub row_fits : Drawn → ℕ → List ℕ → Bool
-row_fits s first words = list_all (λ cell. nat_lt cell.0 first) s.cells && (length words == min line_cells (s.size - first))
-
-abbrev pub with_row : Drawn → ℕ → List ℕ → Option Drawn
-with_row s first words = (if row_fits s first words then Some (record s { cells = s.cells ++ listed first words }) else None)
-
-abbrev pub as_first : Option Drawn → Option Pair
-as_first None = None
-as_first (Some s) = Some (FirstState s)
-
-abbrev pub as_second : Drawn → Option Drawn → Option Pair
-as_second s None = None
-as_second s (Some t) = Some (BothStates s t)
-
-abbrev pub pair_with_row : ℕ → List ℕ → Pair → Option Pair
-pair_with_row first words NoState = None
-pair_with_row first words (FirstSize n) = None
-pair_with_row first words (FirstState s) = as_first (with_row s first words)
-pair_with_row first words (SecondSize s n) = None
-pair_with_row first words (BothStates s t) = as_second s (with_row t first words)
-
-unfoldable pub after_state_line : Reader → (Pair → Option Pair) → Reader
-after_state_line r go = showing r go r.open
+unfoldable pub after_end : Progress → Reader
+after_end p = (if may_close p.open then then_take (closed p) ended else misplaced p.lines)
 
 -- ---- lines
 
@@ -293,24 +299,31 @@ same_family Plain Hybrid = false
 same_family Hybrid Plain = false
 same_family Hybrid Hybrid = true
 
--- by what the line says; its number is that of the lines taken
-unfoldable pub after_form : Reader → Line → Reader
-after_form r (line.First heading) =
-    (if is_fresh r.open && same_family (family_of heading) r.family then record r { open = Between; removes = may_remove heading } else misplaced r)
-after_form r (line.Header name k f) = after_header r name k f
-after_form r (line.Step step) = after_step r step
-after_form r (line.Remove numbers) = after_remove r numbers
-after_form r (line.Size n) = after_state_line r (pair_with_size n)
-after_form r (line.Psw psw) = after_state_line r (pair_with_psw psw)
-after_form r (line.Cells first words) = after_state_line r (pair_with_row first words)
-after_form r line.End = after_end r
+-- a first line of this family is due
+abbrev pub is_first_due : Progress → Family → Bool
+is_first_due p family = is_fresh p.open && same_family family p.family
 
-abbrev pub after_said : Reader → Said → Reader
-after_said r (Says l) = after_form r l
-after_said r NoToken = refused r (fault.Token r.lines)
-after_said r NoForm = misplaced r
-after_said r (OtherVersion family) = (if is_fresh r.open && same_family family r.family then refused r fault.Version else misplaced r)
+unfoldable pub after_first : Progress → Heading → Reader
+after_first p heading =
+    (if is_first_due p (family_of heading) then Ok (record p { open = Between; removes = may_remove heading }) else misplaced p.lines)
+
+-- by what the line says; its number is that of the lines taken
+unfoldable pub after_form : Progress → Line → Reader
+after_form p (line.First heading) = after_first p heading
+after_form p (line.Header name k f) = after_header p name k f
+after_form p (line.Step step) = reopened p (after_step p.lines step p.open)
+after_form p (line.Remove numbers) = reopened p (after_remove p.lines p.removes numbers p.open)
+after_form p (line.Size size) = reopened p (after_state_line p.lines (with_size size) p.open)
+after_form p (line.Psw psw) = reopened p (after_state_line p.lines (with_psw psw) p.open)
+after_form p (line.Cells first words) = reopened p (after_state_line p.lines (with_cells first words) p.open)
+after_form p line.End = after_end p
+
+unfoldable pub after_said : Progress → Said → Reader
+after_said p (Says l) = after_form p l
+after_said p NoToken = Err (fault.Token p.lines)
+after_said p NoForm = misplaced p.lines
+after_said p (OtherVersion family) = (if is_first_due p family then Err fault.Version else misplaced p.lines)
 
 -- one line more: its bytes, its LF among them
-unfoldable pub after_line : Reader → List ℕ → Reader
-after_line r bytes = after_said (record r { lines = suc r.lines }) (said (shape_of r.desc) bytes)
+unfoldable pub after_line : Progress → List ℕ → Reader
+after_line p bytes = after_said (record p { lines = suc p.lines }) (said (shape_of p.desc) bytes)
