@@ -16,10 +16,12 @@
 mod cert;
 pub mod laws;
 mod line;
+mod parse;
 pub mod parts;
 pub mod reading;
 mod report;
 
 pub use cert::{Cert, Family, Finding, FindingList, StepList};
 pub use line::{Found, Heading, Line};
+pub use parse::LineFault;
 pub use report::{Mark, MarkList, Report, Verdict, report_of};

@@ -1,5 +1,7 @@
+pub mod TempQuestion
 pub mod Reader
 pub mod Judging
 pub mod Taking
 pub mod Feeding
 pub mod Verified
+pub mod Seen

@@ -16,5 +16,7 @@
 mod drawing;
 mod fault;
 mod opened;
+mod states;
+mod steps;
 
 pub use fault::{StepCause, VerifyFault};
