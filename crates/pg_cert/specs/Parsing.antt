@@ -1,6 +1,6 @@
 -- What the bytes of one line say. The laws beside it tie this to the spelling: bytes say a line exactly where they are its
 -- text, and it is in range.
-use Rattle.std.specs.Prelude.{◌≡◌, ℕ, Bool, true, false, not, ◌&&◌, ◌||◌, ◌==◌, nat_le, if◌then◌else◌, ⊤, List, [], ◌∷◌, length, codes, bytes_eq, Option, None, Some, Result, Ok, Err}
+use Rattle.std.specs.Prelude.{◌≡◌, ℕ, Bool, false, not, ◌&&◌, ◌||◌, ◌==◌, nat_le, if◌then◌else◌, ⊤, List, [], ◌∷◌, length, codes, bytes_eq, Option, None, Some, Result, Ok, Err}
 use Rattle.std.specs.List.{list_any, list_all, slice_split}
 use Rattle.pg_word.specs.declared.shape.Shape.{Shape}
 use Rattle.pg_cert.specs.declared.cert.Family.{Family}

@@ -1,13 +1,12 @@
 -- The text of a certificate: its lines in order.
-use Rattle.std.specs.Prelude.{ℕ, zero, suc, ◌*◌, ◌/◌, ◌%◌, ◌==◌, if◌then◌else◌, List, [], ◌∷◌, ◌++◌, map, slice_index_or}
-use Rattle.std.specs.List.{list_all}
+use Rattle.std.specs.Prelude.{⊤, ℕ, zero, suc, ◌*◌, ◌^◌, ◌<◌, ◌/◌, ◌%◌, ◌==◌, if◌then◌else◌, List, [], ◌∷◌, ◌++◌, map, slice_index_or}
+use Rattle.std.specs.List.{All, list_all}
 use Rattle.pg_word.specs.declared.shape.Shape.{Shape}
 use Rattle.pg_word.specs.declared.sparse.Sparse.{Sparse}
 use Rattle.pg_word.specs.Sparse.{storage_of}
 use Rattle.pg_ast.specs.declared.tree.Desc.{Desc}
 use Rattle.pg_meaning.specs.States.{shape_of}
 use Rattle.pg_image.specs.Lines.{line_cells, line_words, line_count}
-use Rattle.pg_proof.specs.declared.step.Step.{Step as Steps}
 use Rattle.pg_proof.specs.declared.step.Act.{Act}
 use Rattle.pg_proof.specs.declared.step.Act.TheVariants as act
 use Rattle.pg_type.specs.declared.kind.Kind.{Kind}
@@ -38,9 +37,13 @@ unfoldable pub rows_before : ℕ → List ℕ → List Line
 rows_before zero cells = []
 rows_before (suc k) cells = rows_before k cells ++ row_lines (line_cells * k) (line_words k cells)
 
+-- the rows of a storage of so many cells, of which the listed ones are not zero
+abbrev pub rows_of : ℕ → List (ℕ × ℕ) → List Line
+rows_of size cells = rows_before (line_count size) (storage_of size cells)
+
 -- a state: its size, its program status word, and its cells that are not zero
 abbrev pub state_lines : Sparse → List Line
-state_lines s = Size s.size ∷ Psw s.psw ∷ rows_before (line_count s.size) (storage_of s.size s.cells)
+state_lines s = Size s.size ∷ Psw s.psw ∷ rows_of s.size s.cells
 
 -- ---- findings
 
@@ -100,3 +103,15 @@ lines_text shape (line ∷ lines) = line_text shape line ++ lines_text shape lin
 
 abbrev pub cert_text : Desc → Heading → Cert → List ℕ
 cert_text d heading cert = lines_text (shape_of d) (cert_lines d heading cert)
+
+-- ---- what can be written
+
+-- the words of a state have w bits
+abbrev pub DoStateWordsFit : ℕ → Sparse → Type 0
+DoStateWordsFit w s = All (λ cell. cell.1 < 2 ^ w) s.cells
+
+-- the words of the states that are shown have w bits
+abbrev pub DoFindingWordsFit : ℕ → Finding → Type 0
+DoFindingWordsFit w (finding.Refuted acts) = ⊤
+DoFindingWordsFit w (finding.Shown s t) = DoStateWordsFit w s × DoStateWordsFit w t
+DoFindingWordsFit w (finding.Spent k steps) = ⊤

@@ -16,6 +16,7 @@
 mod drawing;
 mod fault;
 mod opened;
+mod reading;
 mod states;
 mod steps;
 

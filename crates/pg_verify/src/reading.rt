@@ -1,0 +1,283 @@
+//! How far a text has been read.
+//!
+//! A line is taken by what it says: `steps` and `states` have the lines of the finding that is open; here are the first line,
+//! headers, which close one finding and open the next, and the last line.
+
+ghost use Rattle.std.specs.Prelude.{◌≡◌, ◌+◌, ◌*◌, ◌<◌, ◌≤◌, ◌^◌, ◌==◌, length, slice_get, true, map, Some, IfOk, Ok};
+ghost use Rattle.pg_cert.specs.Verdicts.{kind_count};
+ghost use Rattle.pg_proof.specs.State.{begun as log_begun};
+ghost use Rattle.pg_verify.specs.Taking.{closed, closed_pair, marked, shows_due, due_instr, due_kind, all_findings, may_close, is_whole, kind_place, instr_named, clauses_at, placed, named, after_first, after_header, after_end, after_form, is_fresh, same_family, is_first_due, ended};
+ghost use Rattle.pg_verify.specs.Feeding.{begun, drawn_of, kept};
+ghost use Rattle.pg_verify.specs.Seen.{open_of, pair_of, IsTold};
+ghost use Rattle.pg_verify.specs.Reader.{BothStates};
+ghost use Rattle.pg_verify.specs.declared.fault.VerifyFault.TheVariants.{Missing};
+ghost use Rattle.pg_cert.specs.Texts.{family_of};
+ghost use Rattle.pg_cert.specs.Validity.{may_remove};
+
+use crate::drawing::Drawing;
+use crate::fault::VerifyFault;
+use crate::opened::Opened;
+use pg_cert::{Family, Found, Heading, Mark, MarkList};
+use pg_replay::replay;
+use pg_type::Kind;
+use pg_valid::Machine;
+use pg_word::Sparse;
+use std::alloc::{AllocError, Global};
+use std::marker::Model;
+use std::mem;
+
+/// How far a text has been read, while it is not refused.
+#[derive(Drop)]
+pub struct Reading<'m> {
+    machine: &'m Machine,
+    family: Family,
+    removes: bool,
+    marks: MarkList,
+    opened: Opened,
+    lines: u32,
+    fed: u32,
+    rest: Vec<u8>,
+    alloc: Global,
+}
+
+impl<'m> Model for Reading<'m> {
+    ghost use Rattle.std.specs.Prelude.{◌+◌, ◌≤◌, ◌^◌, length, map};
+    ghost use Rattle.pg_verify.specs.Reader.{Progress};
+    ghost use Rattle.pg_verify.specs.Feeding.{kept, most_bytes};
+    ghost use Rattle.pg_verify.specs.Seen.{open_of, numbered};
+
+    ghost use Rattle.pg_ast.specs.contracts.tree.Stmt as s;
+    ghost use Rattle.std.specs.Coded.{codes};
+
+    ghost Value = { Progress };
+
+    ghost coded = { Prim.hlevel (codes, s.the_row.coded) };
+
+    ghost view = { λ r. record { desc = r.machine.now.desc; family = r.family; removes = r.removes; marks = map kept r.marks; opened = open_of r.opened; lines = r.lines; fed = r.fed; rest = r.rest.items } };
+
+    ghost invariant = { λ r. (r.lines + length r.rest.items ≤ r.fed + 1) × (r.fed ≤ most_bytes) × (numbered (open_of r.opened) ≤ 2 ^ 31 + r.lines) };
+}
+
+impl<'m> Reading<'m> {
+    /// Before the first byte of a text, of this family.
+    pub fn new(alloc: Global, machine: &'m Machine, family: Family) -> Reading<'m>
+        ensures { result ≡ begun machine.now.desc family }
+    {
+        Reading {
+            machine,
+            family,
+            removes: false,
+            marks: MarkList::new(alloc),
+            opened: Opened::Fresh,
+            lines: 0,
+            fed: 0,
+            rest: Vec::new(alloc),
+            alloc,
+        }
+    }
+
+    /// The mark of the finding that was open. The error is want of memory.
+    fn keep(&mut self, mark: Mark) -> Result<(), VerifyFault>
+        ensures { IsTold (Ok (marked self.old (kept mark))) self.new result }
+    {
+        self.marks.push(mark)?;
+        self.opened = Opened::Between;
+        Ok(())
+    }
+
+    /// Whether two states show the kind that is due of the instruction that is due.
+    fn shows_due(&self, s: &Sparse, t: &Sparse) -> bool
+        ensures { result ≡ shows_due self.now (drawn_of s.now) (drawn_of t.now) }
+    {
+        let instr = self.due_instr();
+        if self.machine.count() <= instr {
+            return false;
+        }
+        replay(self.machine, instr, self.due_kind(), s, t)
+    }
+
+    /// The number of the instruction of which a finding is due.
+    fn due_instr(&self) -> usize
+        ensures { result ≡ due_instr self.now }
+    {
+        self.marks.len() / self.family.kinds().len()
+    }
+
+    /// The kind of which a finding is due.
+    fn due_kind(&self) -> Kind
+        ensures { result ≡ due_kind self.now }
+    {
+        let kinds = self.family.kinds();
+        kinds[self.marks.len() % kinds.len()]
+    }
+
+    /// That the finding which is due is missing.
+    fn missing(&self) -> VerifyFault
+        ensures { result ≡ Missing (due_instr self.now) (due_kind self.now) }
+    {
+        VerifyFault::Missing(self.due_instr(), self.due_kind())
+    }
+
+    /// The two states of the finding that was open are tried.
+    fn close_pair(&mut self, header: u32, s: Sparse, t: Sparse) -> Result<(), VerifyFault>
+        ensures { IsTold (closed_pair self.old header (BothStates (drawn_of s) (drawn_of t))) self.new result }
+    {
+        if self.shows_due(&s, &t) {
+            self.keep(Mark::Shown(s, t))
+        } else {
+            Err(VerifyFault::BadPair(header))
+        }
+    }
+
+    /// The finding that is open, if one is, is closed: its mark is kept, or it is refused.
+    #[tactic(auto, unfolding(crate::specs::Taking::closed))]
+    fn close(&mut self) -> Result<(), VerifyFault>
+        requires { may_close self.old.opened ≡ true }
+        ensures { IsTold (closed self.old) self.new result }
+    {
+        match mem::replace(&mut self.opened, Opened::Between) {
+            Opened::Refuting(header, checker) => {
+                if checker.closed() {
+                    self.keep(Mark::Refuted)
+                } else {
+                    Err(VerifyFault::NotClosed(header))
+                }
+            }
+            Opened::Spending(header, budget, count, _) => {
+                if count == budget {
+                    self.keep(Mark::Spent(budget))
+                } else {
+                    Err(VerifyFault::BadSpent(header))
+                }
+            }
+            Opened::Showing(header, Drawing::BothStates(s, t)) => self.close_pair(header, s, t),
+            Opened::Showing(_, _) => Ok(()),
+            Opened::Fresh => Ok(()),
+            Opened::Between => Ok(()),
+            Opened::Ended => Ok(()),
+        }
+    }
+
+    /// A first line, where one is due.
+    #[tactic(auto, unfolding(crate::specs::Taking::after_first))]
+    fn take_first(&mut self, heading: Heading) -> Result<(), VerifyFault>
+        ensures { IsTold (after_first self.old heading) self.new result }
+    {
+        if !self.is_first_due(family_of(heading)) {
+            return Err(VerifyFault::Grammar(self.lines));
+        }
+        self.opened = Opened::Between;
+        self.removes = may_remove(heading);
+        Ok(())
+    }
+
+    /// Whether a first line of this family is due.
+    fn is_first_due(&self, family: Family) -> bool
+        ensures { result ≡ is_first_due self.now family }
+    {
+        is_fresh(&self.opened) && same_family(family, self.family)
+    }
+}
+
+/// Whether nothing was read.
+fn is_fresh(opened: &Opened) -> bool
+    ensures { result ≡ is_fresh (open_of opened.now) }
+{
+    match opened {
+        Opened::Fresh => true,
+        Opened::Between => false,
+        Opened::Refuting(_, _) => false,
+        Opened::Showing(_, _) => false,
+        Opened::Spending(_, _, _, _) => false,
+        Opened::Ended => false,
+    }
+}
+
+/// Whether both states are whole.
+fn is_whole(drawing: &Drawing) -> bool
+    ensures { result ≡ is_whole (pair_of drawing.now) }
+{
+    match drawing {
+        Drawing::BothStates(_, _) => true,
+        Drawing::NoState => false,
+        Drawing::FirstSize(_) => false,
+        Drawing::FirstState(_) => false,
+        Drawing::SecondSize(_, _) => false,
+    }
+}
+
+/// Whether a header, or the last line, may stand where this is open.
+fn may_close(opened: &Opened) -> bool
+    ensures { result ≡ may_close (open_of opened.now) }
+{
+    match opened {
+        Opened::Fresh => false,
+        Opened::Between => true,
+        Opened::Refuting(_, _) => true,
+        Opened::Showing(_, drawing) => is_whole(drawing),
+        Opened::Spending(_, _, _, _) => true,
+        Opened::Ended => false,
+    }
+}
+
+/// Whether two families are one.
+fn same_family(x: Family, y: Family) -> bool
+    ensures { result ≡ same_family x y }
+{
+    match (x, y) {
+        (Family::Plain, Family::Plain) => true,
+        (Family::Plain, Family::Hybrid) => false,
+        (Family::Hybrid, Family::Plain) => false,
+        (Family::Hybrid, Family::Hybrid) => true,
+    }
+}
+
+/// The family of a certificate that begins so.
+fn family_of(heading: Heading) -> Family
+    ensures { result ≡ family_of heading }
+{
+    match heading {
+        Heading::PlainOne => Family::Plain,
+        Heading::PlainTwo => Family::Plain,
+        Heading::HybridOne => Family::Hybrid,
+    }
+}
+
+/// Whether clauses may be taken away in a certificate that begins so.
+fn may_remove(heading: Heading) -> bool
+    ensures { result ≡ may_remove heading }
+{
+    match heading {
+        Heading::PlainOne => false,
+        Heading::PlainTwo => true,
+        Heading::HybridOne => true,
+    }
+}
+
+/// The place of a kind among those of a family, if it is one of them.
+fn kind_place(family: Family, kind: Kind) -> Option<usize>
+    ensures { result ≡ kind_place family kind }
+{
+    match family {
+        Family::Plain => match kind {
+            Kind::Privileged => Some(0),
+            Kind::Control => Some(1),
+            Kind::ModeDep => Some(2),
+            Kind::Location => Some(3),
+            Kind::Bound => Some(4),
+            Kind::UControl => None,
+            Kind::ULocation => None,
+            Kind::UBound => None,
+        },
+        Family::Hybrid => match kind {
+            Kind::Privileged => Some(0),
+            Kind::Control => None,
+            Kind::ModeDep => None,
+            Kind::Location => None,
+            Kind::Bound => None,
+            Kind::UControl => Some(1),
+            Kind::ULocation => Some(2),
+            Kind::UBound => Some(3),
+        },
+    }
+}
