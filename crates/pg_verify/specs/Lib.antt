@@ -1,4 +1,3 @@
-pub mod TempQuestion
 pub mod Reader
 pub mod Judging
 pub mod Taking

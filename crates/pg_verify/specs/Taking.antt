@@ -17,7 +17,7 @@ use Rattle.pg_proof.specs.Refutation.{fault_of}
 use Rattle.pg_proof.specs.Tight.{is_tight}
 use Rattle.pg_proof.specs.Covered.{is_covered}
 use Rattle.pg_proof.specs.Removal.{after_removal}
-use Rattle.pg_verify.specs.TempQuestion.{question}
+use Rattle.pg_ask.specs.Question.{question}
 use Rattle.pg_cert.specs.declared.cert.Family.{Family}
 use Rattle.pg_cert.specs.declared.cert.Family.TheVariants.{Plain, Hybrid}
 use Rattle.pg_cert.specs.declared.line.Heading.{Heading}

@@ -1,5 +1,5 @@
 use Rattle.std.proofs.Common.{arith, ◌∙◌}
-use Rattle.pg_verify.proofs.RowLemmas.{row_goes_on}
+use Rattle.pg_verify.proofs.PushedRows.{row_goes_on}
 use Rattle.pg_verify.proofs.states.push_words.Goals as goal
 
 pub loop-word-preserved : goal.loop-word-preserved

@@ -1,5 +1,5 @@
 use Rattle.std.proofs.Common.{◌≡◌, ◌≤◌}
-use Rattle.pg_verify.proofs.RowLemmas.{IsListedSoFar}
+use Rattle.pg_verify.proofs.PushedRows.{IsListedSoFar}
 use Rattle.pg_verify.proofs.states.push_words.Given as goal
 
 abbrev pub invariant-loop-word : goal.invariant-loop-word
