@@ -1,5 +1,5 @@
 -- A text that is fed, byte by byte: a line is taken with its LF.
-use Rattle.std.specs.Prelude.{◌≡◌, ⊤, ℕ, zero, suc, ◌==◌, if◌then◌else◌, List, [], ◌∷◌, ◌++◌, map, Result, Ok, Err}
+use Rattle.std.specs.Prelude.{◌≡◌, ⊤, ℕ, zero, suc, false, ◌==◌, if◌then◌else◌, List, [], ◌∷◌, ◌++◌, map, Result, Ok, Err}
 use Rattle.pg_word.specs.declared.sparse.Sparse.{Sparse}
 use Rattle.pg_ast.specs.declared.tree.Desc.{Desc}
 use Rattle.pg_cert.specs.declared.cert.Family.{Family}
@@ -18,7 +18,7 @@ most_bytes = 268435456
 
 -- before the first byte
 abbrev pub begun : Desc → Family → Progress
-begun d family = record { desc = d; family = family; removes = false; marks = []; open = Fresh; lines = 0; fed = 0; rest = [] }
+begun d family = record { desc = d; family = family; removes = false; marks = []; opened = Fresh; lines = 0; fed = 0; rest = [] }
 
 -- a byte more, which belongs to the line that is not whole, and ends it where it is LF
 abbrev pub taken_byte : Progress → ℕ → Reader
@@ -51,7 +51,7 @@ at_end p Ended = Ok p
 
 -- bytes that are left are a line without its LF, which is none
 abbrev pub at_rest : Progress → List ℕ → Reader
-at_rest p [] = at_end p p.open
+at_rest p [] = at_end p p.opened
 at_rest p (c ∷ cs) = or_misplaced (suc p.lines) (after_line (record p { rest = [] }) (c ∷ cs))
 
 -- no byte comes after this

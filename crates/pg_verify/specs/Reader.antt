@@ -49,7 +49,7 @@ pub record Progress : Type 0 where
   pub family : Family
   pub removes : Bool
   pub marks : List Mark
-  pub open : Open
+  pub opened : Open
   pub lines : ℕ
   pub fed : ℕ
   pub rest : List ℕ

@@ -48,26 +48,27 @@ abbrev pub misplaced : {X : Type 0} → ℕ → Result X VerifyFault
 misplaced n = Err (fault.Grammar n)
 
 abbrev pub with_open : Progress → Open → Progress
-with_open p open = record p { open = open }
+with_open p next = record p { opened = next }
 
 -- what is open changes, and nothing else
 abbrev pub reopened : Progress → Result Open VerifyFault → Reader
-reopened p next = then_take next (λ open. Ok (with_open p open))
+reopened p next = then_take next (λ now. Ok (with_open p now))
 
 -- ---- steps
 
-abbrev pub cause_of : ProofFault → StepCause
-cause_of proof.UnknownLit = UnknownLit
-cause_of proof.UnknownHint = UnknownHint
-cause_of proof.NotUnit = NotUnit
-cause_of proof.NoConflict = NoConflict
-cause_of proof.UnknownClause = NoConflict
-cause_of proof.Memory = NoConflict
+-- why a line is refused whose step a checker refuses. Want of memory stays what it is
+abbrev pub step_fault_of : ℕ → ProofFault → VerifyFault
+step_fault_of n proof.UnknownLit = fault.BadStep n UnknownLit
+step_fault_of n proof.UnknownHint = fault.BadStep n UnknownHint
+step_fault_of n proof.NotUnit = fault.BadStep n NotUnit
+step_fault_of n proof.NoConflict = fault.BadStep n NoConflict
+step_fault_of n proof.UnknownClause = fault.BadStep n NoConflict
+step_fault_of n proof.Memory = fault.Memory
 
 -- where a step is valid
 abbrev pub where_valid : {X : Type 0} → ℕ → Option ProofFault → Result X VerifyFault → Result X VerifyFault
 where_valid n None valid = valid
-where_valid n (Some f) valid = Err (fault.BadStep n (cause_of f))
+where_valid n (Some f) valid = Err (step_fault_of n f)
 
 -- a log with one step more
 abbrev pub with_step : ℕ → Log → Steps → Result Log VerifyFault
@@ -203,7 +204,7 @@ may_close (Spending header budget count log) = true
 may_close Ended = false
 
 abbrev pub marked : Progress → Mark → Progress
-marked p mark = record p { marks = p.marks ++ mark ∷ []; open = Between }
+marked p mark = record p { marks = p.marks ++ mark ∷ []; opened = Between }
 
 abbrev pub closed_pair : Progress → ℕ → Pair → Reader
 closed_pair p header NoState = Ok p
@@ -222,7 +223,7 @@ closed_open p Ended = Ok p
 
 -- the finding that is open is closed: its mark is kept, or the text is refused
 unfoldable pub closed : Progress → Reader
-closed p = closed_open p p.open
+closed p = closed_open p p.opened
 
 -- ---- headers, and the last line
 
@@ -275,13 +276,13 @@ with_header p name k None f = misplaced p.lines
 with_header p name k (Some place) f = then_take (closed p) (λ after. named after (instr_named after.desc name) k place f)
 
 unfoldable pub after_header : Progress → List ℕ → Kind → Found → Reader
-after_header p name k f = (if may_close p.open then with_header p name k (kind_place p.family k) f else misplaced p.lines)
+after_header p name k f = (if may_close p.opened then with_header p name k (kind_place p.family k) f else misplaced p.lines)
 
 abbrev pub ended : Progress → Reader
 ended p = (if length p.marks == all_findings p then Ok (with_open p Ended) else missing p)
 
 unfoldable pub after_end : Progress → Reader
-after_end p = (if may_close p.open then then_take (closed p) ended else misplaced p.lines)
+after_end p = (if may_close p.opened then then_take (closed p) ended else misplaced p.lines)
 
 -- ---- lines
 
@@ -301,21 +302,21 @@ same_family Hybrid Hybrid = true
 
 -- a first line of this family is due
 abbrev pub is_first_due : Progress → Family → Bool
-is_first_due p family = is_fresh p.open && same_family family p.family
+is_first_due p family = is_fresh p.opened && same_family family p.family
 
 unfoldable pub after_first : Progress → Heading → Reader
 after_first p heading =
-    (if is_first_due p (family_of heading) then Ok (record p { open = Between; removes = may_remove heading }) else misplaced p.lines)
+    (if is_first_due p (family_of heading) then Ok (record p { opened = Between; removes = may_remove heading }) else misplaced p.lines)
 
 -- by what the line says; its number is that of the lines taken
 unfoldable pub after_form : Progress → Line → Reader
 after_form p (line.First heading) = after_first p heading
 after_form p (line.Header name k f) = after_header p name k f
-after_form p (line.Step step) = reopened p (after_step p.lines step p.open)
-after_form p (line.Remove numbers) = reopened p (after_remove p.lines p.removes numbers p.open)
-after_form p (line.Size size) = reopened p (after_state_line p.lines (with_size size) p.open)
-after_form p (line.Psw psw) = reopened p (after_state_line p.lines (with_psw psw) p.open)
-after_form p (line.Cells first words) = reopened p (after_state_line p.lines (with_cells first words) p.open)
+after_form p (line.Step step) = reopened p (after_step p.lines step p.opened)
+after_form p (line.Remove numbers) = reopened p (after_remove p.lines p.removes numbers p.opened)
+after_form p (line.Size size) = reopened p (after_state_line p.lines (with_size size) p.opened)
+after_form p (line.Psw psw) = reopened p (after_state_line p.lines (with_psw psw) p.opened)
+after_form p (line.Cells first words) = reopened p (after_state_line p.lines (with_cells first words) p.opened)
 after_form p line.End = after_end p
 
 unfoldable pub after_said : Progress → Said → Reader
