@@ -1,5 +1,5 @@
 -- A text that is fed, byte by byte: a line is taken with its LF.
-use Rattle.std.specs.Prelude.{◌≡◌, ⊤, ℕ, zero, suc, false, ◌==◌, if◌then◌else◌, List, [], ◌∷◌, ◌++◌, map, Result, Ok, Err}
+use Rattle.std.specs.Prelude.{◌≡◌, ⊤, ℕ, suc, false, ◌==◌, if◌then◌else◌, List, [], ◌∷◌, ◌++◌, map, Result, Ok, Err}
 use Rattle.pg_word.specs.declared.sparse.Sparse.{Sparse}
 use Rattle.pg_ast.specs.declared.tree.Desc.{Desc}
 use Rattle.pg_cert.specs.declared.cert.Family.{Family}

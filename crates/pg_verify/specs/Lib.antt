@@ -1,5 +1,1 @@
-pub mod Reader
 pub mod Judging
-pub mod Taking
-pub mod Feeding
-pub mod Verified

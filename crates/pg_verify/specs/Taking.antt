@@ -48,11 +48,11 @@ abbrev pub misplaced : {X : Type 0} → ℕ → Result X VerifyFault
 misplaced n = Err (fault.Grammar n)
 
 abbrev pub with_open : Progress → Open → Progress
-with_open p next = record p { opened = next }
+with_open p o = record p { opened = o }
 
 -- what is open changes, and nothing else
 abbrev pub reopened : Progress → Result Open VerifyFault → Reader
-reopened p next = then_take next (λ now. Ok (with_open p now))
+reopened p next = then_take next (λ o. Ok (with_open p o))
 
 -- ---- steps
 

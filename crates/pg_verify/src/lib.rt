@@ -13,8 +13,7 @@
 //! - `laws`: what follows from the definitions alone: a text is taken exactly where it spells a valid certificate.
 #![tactic(auto)]
 
-mod drawing;
 mod fault;
-mod opened;
+mod laws;
 
 pub use fault::{StepCause, VerifyFault};
