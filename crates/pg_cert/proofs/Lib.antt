@@ -2,3 +2,5 @@ pub mod VerdictLemmas
 pub mod Spelled
 pub mod OneText
 pub mod Walks
+pub mod Spacing
+pub mod LineLemmas

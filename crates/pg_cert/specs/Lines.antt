@@ -1,6 +1,6 @@
 -- The lines of certificates. A line is a list of parts with one space between, and LF behind the last.
-use Rattle.std.specs.Prelude.{ℕ, ◌-◌, ◌/◌, ◌%◌, ◌^◌, Bool, true, not, ◌&&◌, ◌==◌, nat_le, nat_lt, IsTrue, ℤ, nat_abs, List, [], ◌∷◌, ◌++◌, length, map, codes}
-use Rattle.std.specs.List.{list_any, list_all, join_with_byte}
+use Rattle.std.specs.Prelude.{⊤, ℕ, ◌-◌, ◌/◌, ◌%◌, ◌^◌, ◌<◌, Bool, true, not, ◌&&◌, ◌==◌, nat_le, nat_lt, IsTrue, ℤ, nat_abs, List, [], ◌∷◌, ◌++◌, length, map, codes}
+use Rattle.std.specs.List.{All, list_any, list_all, join_with_byte}
 use Rattle.std.specs.Fmt.{decimal, signed_decimal}
 use Rattle.pg_word.specs.declared.shape.Shape.{Shape}
 use Rattle.pg_word.specs.declared.psw.Psw.{Psw as Psws}
@@ -38,27 +38,63 @@ found_parts Refuted = codes "refuted" ∷ []
 found_parts Shown = codes "shown" ∷ []
 found_parts (Spent k) = codes "spent" ∷ decimal k ∷ []
 
+abbrev pub header_parts : List ℕ → Kind → Found → List (List ℕ)
+header_parts name kind found = codes "finding" ∷ name ∷ kind_text kind ∷ found_parts found
+
 -- a list is ended by 0, which none of its numbers is
 abbrev pub step_parts : List ℤ → List ℕ → List (List ℕ)
 step_parts lits hints = codes "s" ∷ map signed_decimal lits ++ codes "0" ∷ map decimal hints ++ codes "0" ∷ []
 
+abbrev pub removal_parts : List ℕ → List (List ℕ)
+removal_parts numbers = codes "d" ∷ map decimal numbers ++ codes "0" ∷ []
+
+abbrev pub size_parts : ℕ → List (List ℕ)
+size_parts n = codes "size" ∷ decimal n ∷ []
+
 abbrev pub psw_parts : Psws → List (List ℕ)
 psw_parts psw = codes "psw" ∷ mode_text psw.mode ∷ decimal psw.p ∷ decimal psw.l ∷ decimal psw.b ∷ []
+
+-- the first cell with a colon, and the words, of w bits
+abbrev pub cells_parts : ℕ → ℕ → List ℕ → List (List ℕ)
+cells_parts w first words = (decimal first ++ 58 ∷ []) ∷ map (hex_text (w / 4)) words
+
+abbrev pub end_parts : List (List ℕ)
+end_parts = codes "end" ∷ []
 
 -- the parts of a line, for words of w bits
 unfoldable pub line_parts : ℕ → Line → List (List ℕ)
 line_parts w (First heading) = heading_parts heading
-line_parts w (Header name kind found) = codes "finding" ∷ name ∷ kind_text kind ∷ found_parts found
+line_parts w (Header name kind found) = header_parts name kind found
 line_parts w (Step step) = step_parts step.lits step.hints
-line_parts w (Remove numbers) = codes "d" ∷ map decimal numbers ++ codes "0" ∷ []
-line_parts w (Size n) = codes "size" ∷ decimal n ∷ []
+line_parts w (Remove numbers) = removal_parts numbers
+line_parts w (Size n) = size_parts n
 line_parts w (Psw psw) = psw_parts psw
-line_parts w (Cells first words) = (decimal first ++ 58 ∷ []) ∷ map (hex_text (w / 4)) words
-line_parts w End = codes "end" ∷ []
+line_parts w (Cells first words) = cells_parts w first words
+line_parts w End = end_parts
+
+-- parts with one space between each two, and LF behind the last
+abbrev pub parts_text : List (List ℕ) → List ℕ
+parts_text parts = join_with_byte 32 parts ++ 10 ∷ []
 
 -- the one spelling of a line
 unfoldable pub line_text : Shape → Line → List ℕ
-line_text shape line = join_with_byte 32 (line_parts shape.w line) ++ 10 ∷ []
+line_text shape line = parts_text (line_parts shape.w line)
+
+-- the words of a line of cells have w bits
+abbrev pub DoWordsFit : ℕ → Line → Type 0
+DoWordsFit w (First heading) = ⊤
+DoWordsFit w (Header name kind found) = ⊤
+DoWordsFit w (Step step) = ⊤
+DoWordsFit w (Remove numbers) = ⊤
+DoWordsFit w (Size n) = ⊤
+DoWordsFit w (Psw psw) = ⊤
+DoWordsFit w (Cells first words) = All (λ word. word < 2 ^ w) words
+DoWordsFit w End = ⊤
+
+-- parts with a space before each: what stands behind the first part of a line
+unfoldable pub spaced : List (List ℕ) → List ℕ
+spaced [] = []
+spaced (part ∷ parts) = 32 ∷ part ++ spaced parts
 
 -- ---- lines in range
 

@@ -7,7 +7,8 @@
 //! # Modules
 //!
 //! - `cert`: findings. `report`: their marks, and the verdict.
-//! - `line`: what a line of a certificate's text says. `parts`: its parts. `reading`: what they are read as.
+//! - `line`: what a line of a certificate's text says. `parts`: its parts. `reading`: what they are read as. `ranges`:
+//!   whether its numbers are in range. `put`: its text. `parse`: the line that bytes say.
 //! - `laws`: what follows from the definitions alone.
 //!
 //! What a finding means is `pg_proof`'s and `pg_type`'s to say. Nothing here tests one.
@@ -16,10 +17,14 @@
 mod cert;
 pub mod laws;
 mod line;
+pub mod parse;
 pub mod parts;
+pub mod put;
+pub mod ranges;
 pub mod reading;
 mod report;
 
 pub use cert::{Cert, Family, Finding, FindingList, StepList};
 pub use line::{Found, Heading, Line};
+pub use parse::{LineFault, parse_line};
 pub use report::{Mark, MarkList, Report, Verdict, report_of};
