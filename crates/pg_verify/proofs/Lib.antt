@@ -1,1 +1,7 @@
 pub mod JudgingLemmas
+pub mod RowLemmas
+pub mod Standing
+pub mod StepLemmas
+pub mod OpenLemmas
+pub mod CloseLemmas
+pub mod FormLemmas

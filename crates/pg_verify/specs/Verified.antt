@@ -1,22 +1,36 @@
 -- *verify-exact*: a text is not refused exactly where it is the one spelling of a valid certificate.
-use Rattle.std.specs.Prelude.{◌≡◌, ℕ, ◌≤◌, List, length, map, Ok}
+use Rattle.std.specs.Prelude.{◌≡◌, ⊤, ℕ, ◌≤◌, List, length, map, Ok}
+use Rattle.std.specs.List.{All}
+use Rattle.pg_word.specs.Sparse.{IsCellList}
 use Rattle.pg_ast.specs.declared.tree.Instr.{Instr}
 use Rattle.pg_ast.specs.declared.tree.Desc.{Desc}
+use Rattle.pg_meaning.specs.States.{shape_of}
 use Rattle.pg_valid.specs.Valid.{IsValid}
 use Rattle.pg_type.specs.declared.kind.Kind.{Kind}
 use Rattle.pg_ask.specs.Question.{question}
 use Rattle.pg_cert.specs.declared.cert.Family.{Family}
+use Rattle.pg_cert.specs.declared.cert.Finding.{Finding}
+use Rattle.pg_cert.specs.declared.cert.Finding.TheVariants as finding
 use Rattle.pg_cert.specs.declared.cert.Cert.{Cert}
 use Rattle.pg_cert.specs.declared.line.Heading.{Heading}
 use Rattle.pg_cert.specs.Verdicts.{mark_of}
-use Rattle.pg_cert.specs.Texts.{cert_text}
+use Rattle.pg_cert.specs.Lines.{IsLine}
+use Rattle.pg_cert.specs.Texts.{cert_lines, cert_text}
 use Rattle.pg_cert.specs.Validity.{IsValidCert}
 use Rattle.pg_verify.specs.Reader.{Progress}
 use Rattle.pg_verify.specs.Feeding.{verified, kept, most_bytes}
 
--- a certificate of the description that is valid for its questions
-abbrev pub IsValidOf : Heading → Desc → Cert → Type 0
-IsValidOf heading d cert = IsValidCert (question d) heading d cert
+-- the cells of states are listed in the one way. That they are within the size is part of what a listed state is
+abbrev pub AreListed : Finding → Type 0
+AreListed (finding.Refuted acts) = ⊤
+AreListed (finding.Shown s t) = IsCellList s.cells × IsCellList t.cells
+AreListed (finding.Spent k steps) = ⊤
+
+-- a certificate of the description that is valid for its questions, each line of which is in range
+pub record IsValidOf (heading : Heading) (d : Desc) (cert : Cert) : Type 0 where
+  pub valid : IsValidCert (question d) heading d cert
+  pub in_range : All (IsLine (shape_of d)) (cert_lines d heading cert)
+  pub listed : All AreListed cert.findings
 
 -- what stands behind a text that is not refused: a valid certificate of which it is the text, and whose marks are kept
 pub record Spells (d : Desc) (family : Family) (bytes : List ℕ) (p : Progress) : Type 0 where
