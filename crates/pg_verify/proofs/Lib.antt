@@ -5,3 +5,5 @@ pub mod StepLemmas
 pub mod OpenLemmas
 pub mod CloseLemmas
 pub mod FormLemmas
+pub mod SpellLemmas
+pub mod TellLemmas

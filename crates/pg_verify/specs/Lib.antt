@@ -1,1 +1,5 @@
+pub mod Reader
 pub mod Judging
+pub mod Taking
+pub mod Feeding
+pub mod Verified
