@@ -4,3 +4,4 @@ pub mod OneText
 pub mod Walks
 pub mod Spacing
 pub mod LineLemmas
+pub mod Said

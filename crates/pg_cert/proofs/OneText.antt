@@ -137,125 +137,129 @@ module _ (shape : Shape) (numbers : IsShape shape) where
   read_parts-line (Cells first words) h = read_cells-parts first words h
   read_parts-line End h = refl
 
--- ---- no space stands in a part
+-- ---- the bytes of a part
 
-abbrev spaceless : List ℕ → Bool
-spaceless part = list_all (λ c. not (c == 32)) part
+-- a byte that is seen: above a space, and below hexadecimal 7f
+abbrev pub is_graphic : ℕ → Bool
+is_graphic c = nat_lt 32 c && nat_le c 126
 
-digit_no_space : (c : ℕ) → is_digit c ≡ true → not (c == 32) ≡ true
-digit_no_space c h = grind (arith, nat_tests)
+abbrev pub graphic : List ℕ → Bool
+graphic part = list_all is_graphic part
 
-hex_no_space : (c : ℕ) → is_ascii_hexdigit c ≡ true → not (c == 32) ≡ true
-hex_no_space c h = grind (arith, nat_tests)
+digit_graphic : (c : ℕ) → is_digit c ≡ true → is_graphic c ≡ true
+digit_graphic c h = grind (arith, nat_tests)
 
-word_no_space : (c : ℕ) → is_word_byte c ≡ true → not (c == 32) ≡ true
-word_no_space c h = grind (arith, nat_tests)
+hex_graphic : (c : ℕ) → is_ascii_hexdigit c ≡ true → is_graphic c ≡ true
+hex_graphic c h = grind (arith, nat_tests)
 
-letter_no_space : (c : ℕ) → is_letter c ≡ true → not (c == 32) ≡ true
-letter_no_space c h = grind (arith, nat_tests)
+word_graphic : (c : ℕ) → is_word_byte c ≡ true → is_graphic c ≡ true
+word_graphic c h = grind (arith, nat_tests)
 
-decimal_spaceless : (n : ℕ) → n < 2 ^ 64 → spaceless (decimal n) ≡ true
-decimal_spaceless n h = list_all-implied is_digit (λ c. not (c == 32)) digit_no_space (decimal n) (decimal_is_digits n h)
+letter_graphic : (c : ℕ) → is_letter c ≡ true → is_graphic c ≡ true
+letter_graphic c h = grind (arith, nat_tests)
 
-lit_spaceless : (z : ℤ) → nat_abs z ≤ most_variable → spaceless (signed_decimal z) ≡ true
-lit_spaceless (pos n) l = decimal_spaceless n (omega arith)
-lit_spaceless (negsuc n) l = and_from true (spaceless (decimal (suc n))) refl (decimal_spaceless (suc n) (omega arith))
+decimal_graphic : (n : ℕ) → n < 2 ^ 64 → graphic (decimal n) ≡ true
+decimal_graphic n h = list_all-implied is_digit is_graphic digit_graphic (decimal n) (decimal_is_digits n h)
 
-name_spaceless : (name : List ℕ) → is_word name ≡ true → spaceless name ≡ true
-name_spaceless [] h = refl
-name_spaceless (c ∷ cs) h =
+lit_graphic : (z : ℤ) → nat_abs z ≤ most_variable → graphic (signed_decimal z) ≡ true
+lit_graphic (pos n) l = decimal_graphic n (omega arith)
+lit_graphic (negsuc n) l = and_from true (graphic (decimal (suc n))) refl (decimal_graphic (suc n) (omega arith))
+
+name_graphic : (name : List ℕ) → is_word name ≡ true → graphic name ≡ true
+name_graphic [] h = refl
+name_graphic (c ∷ cs) h =
     let front = (and_parts (is_letter c && list_all is_word_byte cs) (nat_le (length (c ∷ cs)) most_name_bytes) h).0 in
     let both = and_parts (is_letter c) (list_all is_word_byte cs) front in
-    and_from (not (c == 32)) (spaceless cs) (letter_no_space c both.0) (list_all-implied is_word_byte (λ c. not (c == 32)) word_no_space cs both.1)
+    and_from (is_graphic c) (graphic cs) (letter_graphic c both.0) (list_all-implied is_word_byte is_graphic word_graphic cs both.1)
 
-lits_spaceless : (above : ℕ) (zs : List ℤ) → ascend most_variable above (map nat_abs zs) ≡ true → list_all spaceless (map signed_decimal zs) ≡ true
-lits_spaceless above [] h = refl
-lits_spaceless above (z ∷ zs) h =
+lits_graphic : (above : ℕ) (zs : List ℤ) → ascend most_variable above (map nat_abs zs) ≡ true → list_all graphic (map signed_decimal zs) ≡ true
+lits_graphic above [] h = refl
+lits_graphic above (z ∷ zs) h =
     let first = and_parts (nat_lt above (nat_abs z)) (nat_le (nat_abs z) most_variable && ascend most_variable (nat_abs z) (map nat_abs zs)) h in
     let second = and_parts (nat_le (nat_abs z) most_variable) (ascend most_variable (nat_abs z) (map nat_abs zs)) first.1 in
-    and_from (spaceless (signed_decimal z)) (list_all spaceless (map signed_decimal zs)) (lit_spaceless z (leb-true (nat_abs z) most_variable second.0)) (lits_spaceless (nat_abs z) zs second.1)
+    and_from (graphic (signed_decimal z)) (list_all graphic (map signed_decimal zs)) (lit_graphic z (leb-true (nat_abs z) most_variable second.0)) (lits_graphic (nat_abs z) zs second.1)
 
-numbers_spaceless : (ns : List ℕ) → list_all (λ n. nat_le 1 n && nat_le n most_number) ns ≡ true → list_all spaceless (map decimal ns) ≡ true
-numbers_spaceless [] h = refl
-numbers_spaceless (n ∷ ns) h =
+numbers_graphic : (ns : List ℕ) → list_all (λ n. nat_le 1 n && nat_le n most_number) ns ≡ true → list_all graphic (map decimal ns) ≡ true
+numbers_graphic [] h = refl
+numbers_graphic (n ∷ ns) h =
     let both = and_parts (nat_le 1 n && nat_le n most_number) (list_all (λ n. nat_le 1 n && nat_le n most_number) ns) h in
     let upper : n ≤ most_number = leb-true n most_number (and_parts (nat_le 1 n) (nat_le n most_number) both.0).1 in
-    and_from (spaceless (decimal n)) (list_all spaceless (map decimal ns)) (decimal_spaceless n (omega arith)) (numbers_spaceless ns both.1)
+    and_from (graphic (decimal n)) (list_all graphic (map decimal ns)) (decimal_graphic n (omega arith)) (numbers_graphic ns both.1)
 
-words_spaceless : (n : ℕ) (xs : List ℕ) → list_all spaceless (map (hex_text n) xs) ≡ true
-words_spaceless n [] = refl
-words_spaceless n (x ∷ xs) =
-    and_from (spaceless (hex_text n x)) (list_all spaceless (map (hex_text n) xs)) (list_all-implied is_ascii_hexdigit (λ c. not (c == 32)) hex_no_space (hex_text n x) (hex_is_hex n x)) (words_spaceless n xs)
+words_graphic : (n : ℕ) (xs : List ℕ) → list_all graphic (map (hex_text n) xs) ≡ true
+words_graphic n [] = refl
+words_graphic n (x ∷ xs) =
+    and_from (graphic (hex_text n x)) (list_all graphic (map (hex_text n) xs)) (list_all-implied is_ascii_hexdigit is_graphic hex_graphic (hex_text n x) (hex_is_hex n x)) (words_graphic n xs)
 
-kind_spaceless : (kind : Kind) → spaceless (kind_text kind) ≡ true
-kind_spaceless Privileged = refl
-kind_spaceless Control = refl
-kind_spaceless ModeDep = refl
-kind_spaceless Location = refl
-kind_spaceless Bound = refl
-kind_spaceless UControl = refl
-kind_spaceless ULocation = refl
-kind_spaceless UBound = refl
+kind_graphic : (kind : Kind) → graphic (kind_text kind) ≡ true
+kind_graphic Privileged = refl
+kind_graphic Control = refl
+kind_graphic ModeDep = refl
+kind_graphic Location = refl
+kind_graphic Bound = refl
+kind_graphic UControl = refl
+kind_graphic ULocation = refl
+kind_graphic UBound = refl
 
-mode_spaceless : (mode : Mode) → spaceless (mode_text mode) ≡ true
-mode_spaceless S = refl
-mode_spaceless U = refl
+mode_graphic : (mode : Mode) → graphic (mode_text mode) ≡ true
+mode_graphic S = refl
+mode_graphic U = refl
 
-found_spaceless : (found : Found) → is_found found ≡ true → list_all spaceless (found_parts found) ≡ true
-found_spaceless Refuted h = refl
-found_spaceless Shown h = refl
-found_spaceless (Spent k) h =
+found_graphic : (found : Found) → is_found found ≡ true → list_all graphic (found_parts found) ≡ true
+found_graphic Refuted h = refl
+found_graphic Shown h = refl
+found_graphic (Spent k) h =
     let most : k ≤ most_budget = leb-true k most_budget (and_parts (nat_le 1 k) (nat_le k most_budget) h).1 in
-    and_from (spaceless (decimal k)) true (decimal_spaceless k (omega arith)) refl
+    and_from (graphic (decimal k)) true (decimal_graphic k (omega arith)) refl
 
 -- one part more
-and_more : (part : List ℕ) (parts : List (List ℕ)) → spaceless part ≡ true → list_all spaceless parts ≡ true → list_all spaceless (part ∷ parts) ≡ true
-and_more part parts h rest = and_from (spaceless part) (list_all spaceless parts) h rest
+and_more : (part : List ℕ) (parts : List (List ℕ)) → graphic part ≡ true → list_all graphic parts ≡ true → list_all graphic (part ∷ parts) ≡ true
+and_more part parts h rest = and_from (graphic part) (list_all graphic parts) h rest
 
 module _ (shape : Shape) (numbers : IsShape shape) where
-  field_spaceless : (n : ℕ) → nat_lt n (2 ^ shape.a) ≡ true → spaceless (decimal n) ≡ true
-  field_spaceless n h =
+  field_graphic : (n : ℕ) → nat_lt n (2 ^ shape.a) ≡ true → graphic (decimal n) ≡ true
+  field_graphic n h =
       let most = address_most shape numbers in
       let below : n < 2 ^ shape.a = ltb-true n (2 ^ shape.a) h in
-      decimal_spaceless n (omega arith)
+      decimal_graphic n (omega arith)
 
-  pub line_spaceless : (line : Line) → IsLine shape line → list_all spaceless (line_parts shape.w line) ≡ true
+  pub line_graphic : (line : Line) → IsLine shape line → list_all graphic (line_parts shape.w line) ≡ true
   unfolding line_parts is_line
-  line_spaceless (First PlainOne) h = refl
-  line_spaceless (First PlainTwo) h = refl
-  line_spaceless (First HybridOne) h = refl
-  line_spaceless (Header name kind found) h =
+  line_graphic (First PlainOne) h = refl
+  line_graphic (First PlainTwo) h = refl
+  line_graphic (First HybridOne) h = refl
+  line_graphic (Header name kind found) h =
       let both = and_parts (is_word name) (is_found found) h in
-      and_more name (kind_text kind ∷ found_parts found) (name_spaceless name both.0) (and_more (kind_text kind) (found_parts found) (kind_spaceless kind) (found_spaceless found both.1))
-  line_spaceless (Step step) h =
+      and_more name (kind_text kind ∷ found_parts found) (name_graphic name both.0) (and_more (kind_text kind) (found_parts found) (kind_graphic kind) (found_graphic found both.1))
+  line_graphic (Step step) h =
       let both = and_parts (are_lits step.lits) (are_hints step.hints) h in
       let lits : List (List ℕ) = map signed_decimal step.lits in
       let hints : List (List ℕ) = (48 ∷ []) ∷ map decimal step.hints in
-      list_all-append spaceless (lits ++ hints) ((48 ∷ []) ∷ [])
-      (list_all-append spaceless lits hints (lits_spaceless 0 step.lits both.0) (numbers_spaceless step.hints both.1)) refl
-  line_spaceless (Remove removed) h =
+      list_all-append graphic (lits ++ hints) ((48 ∷ []) ∷ [])
+      (list_all-append graphic lits hints (lits_graphic 0 step.lits both.0) (numbers_graphic step.hints both.1)) refl
+  line_graphic (Remove removed) h =
       let both = and_parts (nat_le 1 (length removed)) (ascend most_number 0 removed) h in
-      list_all-append spaceless (map decimal removed) ((48 ∷ []) ∷ []) (numbers_spaceless removed (ascend-numbers 0 removed both.1)) refl
-  line_spaceless (Size n) h =
+      list_all-append graphic (map decimal removed) ((48 ∷ []) ∷ []) (numbers_graphic removed (ascend-numbers 0 removed both.1)) refl
+  line_graphic (Size n) h =
       let most : n ≤ shape.q = leb-true n shape.q (and_parts (nat_le 2 n) (nat_le n shape.q) h).1 in
       let below = numbers.size_most in
       let bits = address_most shape numbers in
-      and_more (decimal n) [] (decimal_spaceless n (omega arith)) refl
-  line_spaceless (Psw psw) h =
+      and_more (decimal n) [] (decimal_graphic n (omega arith)) refl
+  line_graphic (Psw psw) h =
       let first = and_parts (nat_lt psw.p (2 ^ shape.a)) (nat_lt psw.l (2 ^ shape.a) && nat_lt psw.b (2 ^ shape.a)) h in
       let second = and_parts (nat_lt psw.l (2 ^ shape.a)) (nat_lt psw.b (2 ^ shape.a)) first.1 in
-      and_more (mode_text psw.mode) (decimal psw.p ∷ decimal psw.l ∷ decimal psw.b ∷ []) (mode_spaceless psw.mode)
-      (and_more (decimal psw.p) (decimal psw.l ∷ decimal psw.b ∷ []) (field_spaceless psw.p first.0)
-      (and_more (decimal psw.l) (decimal psw.b ∷ []) (field_spaceless psw.l second.0)
-      (and_more (decimal psw.b) [] (field_spaceless psw.b second.1) refl)))
-  line_spaceless (Cells first words) h =
+      and_more (mode_text psw.mode) (decimal psw.p ∷ decimal psw.l ∷ decimal psw.b ∷ []) (mode_graphic psw.mode)
+      (and_more (decimal psw.p) (decimal psw.l ∷ decimal psw.b ∷ []) (field_graphic psw.p first.0)
+      (and_more (decimal psw.l) (decimal psw.b ∷ []) (field_graphic psw.l second.0)
+      (and_more (decimal psw.b) [] (field_graphic psw.b second.1) refl)))
+  line_graphic (Cells first words) h =
       let count : Bool = nat_le 1 (length words) && nat_le (length words) line_cells in
       let rest : Bool = list_any (λ x. not (x == 0)) words && list_all (λ x. nat_lt x (2 ^ shape.w)) words in
       let place = (and_parts (nat_le first most_number && (first % line_cells == 0)) (count && rest) h).0 in
       let upper : first ≤ most_number = leb-true first most_number (and_parts (nat_le first most_number) (first % line_cells == 0) place).0 in
       and_more (decimal first ++ 58 ∷ []) (map (hex_text (shape.w / 4)) words)
-      (list_all-append (λ (c : ℕ). not (c == 32)) (decimal first) (58 ∷ []) (decimal_spaceless first (omega arith)) refl) (words_spaceless (shape.w / 4) words)
-  line_spaceless End h = refl
+      (list_all-append is_graphic (decimal first) (58 ∷ []) (decimal_graphic first (omega arith)) refl) (words_graphic (shape.w / 4) words)
+  line_graphic End h = refl
 
   -- a line has a part
   some_parts : (line : Line) → 0 < length (line_parts shape.w line)
@@ -273,18 +277,17 @@ module _ (shape : Shape) (numbers : IsShape shape) where
 
 -- ---- what stands between spaces
 
-not_true : (b : Bool) → not b ≡ true → b ≡ false
-not_true true h = sym h
-not_true false h = refl
+no_space : (c : ℕ) → is_graphic c ≡ true → (c == 32) ≡ false
+no_space c h = grind (arith, nat_tests)
 
-none_space : (part : List ℕ) → spaceless part ≡ true → All (λ (c : ℕ). (c == 32) ≡ false) part
-none_space part h = λ k d l. not_true (get_or part k d == 32) (AllPass-from_list_all (λ c. not (c == 32)) part h k d l)
+none_space : (part : List ℕ) → graphic part ≡ true → All (λ (c : ℕ). (c == 32) ≡ false) part
+none_space part h = λ k d l. no_space (get_or part k d) (AllPass-from_list_all is_graphic part h k d l)
 
-pub split_joined : (parts : List (List ℕ)) → 0 < length parts → list_all spaceless parts ≡ true → slice_split (λ c. c == 32) (join_with_byte 32 parts) ≡ parts
+pub split_joined : (parts : List (List ℕ)) → 0 < length parts → list_all graphic parts ≡ true → slice_split (λ c. c == 32) (join_with_byte 32 parts) ≡ parts
 split_joined [] l h = absurd (omega arith)
-split_joined (part ∷ []) l h = slice_split_none (λ c. c == 32) part (none_space part (and_parts (spaceless part) true h).0)
+split_joined (part ∷ []) l h = slice_split_none (λ c. c == 32) part (none_space part (and_parts (graphic part) true h).0)
 split_joined (part ∷ next ∷ parts) l h =
-    let both = and_parts (spaceless part) (list_all spaceless (next ∷ parts)) h in
+    let both = and_parts (graphic part) (list_all graphic (next ∷ parts)) h in
     slice_split_at (λ c. c == 32) part 32 (join_with_byte 32 (next ∷ parts)) (none_space part both.0) refl
     ∙ ap (λ ps. part ∷ ps) (split_joined (next ∷ parts) (omega arith) both.1)
 
@@ -301,7 +304,7 @@ pub read_text-line : (shape : Shape) → IsShape shape → (line : Line) → IsL
 unfolding line_text
 read_text-line shape numbers line h =
     ap (λ t. read_parts shape.w (slice_split (λ c. c == 32) t)) (but_last-push (join_with_byte 32 (line_parts shape.w line)) 10)
-    ∙ ap (read_parts shape.w) (split_joined (line_parts shape.w line) (some_parts shape numbers line) (line_spaceless shape numbers line h))
+    ∙ ap (read_parts shape.w) (split_joined (line_parts shape.w line) (some_parts shape numbers line) (line_graphic shape numbers line h))
     ∙ read_parts-line shape numbers line h
 
 some_injective : (x y : Line) → Some x ≡ Some y → x ≡ y

@@ -1,12 +1,13 @@
 //! What follows from the definitions alone: none of it does anything when it runs.
 
-ghost use Rattle.std.specs.Prelude.{◌≡◌, ◌==◌, Some};
-ghost use Rattle.std.specs.List.{slice_split};
+ghost use Rattle.std.specs.Prelude.{◌≡◌, ◌≢◌, ℕ, ◌==◌, List, [], ◌∷◌, ◌++◌, Some};
+ghost use Rattle.std.specs.List.{All, slice_split};
 ghost use Rattle.pg_word.specs.Shape.{IsShape};
 ghost use Rattle.pg_word.specs.declared.shape.Shape.{Shape};
 ghost use Rattle.pg_cert.specs.declared.line.Line.{Line};
 ghost use Rattle.pg_cert.specs.Lines.{line_text, IsLine};
 ghost use Rattle.pg_cert.specs.Reading.{read_parts, but_last};
+ghost use Rattle.pg_cert.specs.Parsing.{Says, said};
 
 /// What is read of the parts of a line's text, which stand between its spaces, is the line.
 pub fn lines_are_read()
@@ -17,4 +18,20 @@ pub fn lines_are_read()
 /// A text is that of one line at most.
 pub fn lines_have_one_text()
     ensures { (shape : Shape) (x y : Line) → IsShape shape → IsLine shape x → IsLine shape y → line_text shape x ≡ line_text shape y → x ≡ y }
+{}
+
+/// The text of a line in range says the line.
+pub fn lines_are_said()
+    ensures { (shape : Shape) → IsShape shape → (line : Line) → IsLine shape line → said shape (line_text shape line) ≡ Says line }
+{}
+
+/// What bytes say is a line in range, and they are its text.
+pub fn said_lines_are_spelled()
+    ensures { (shape : Shape) (bytes : List ℕ) (line : Line) → said shape bytes ≡ Says line → IsLine shape line × (bytes ≡ line_text shape line) }
+{}
+
+/// The text of a line in range has LF as its last byte, and nowhere else.
+pub fn lines_end_once()
+    ensures ends { (shape : Shape) (line : Line) → line_text shape line ≡ but_last (line_text shape line) ++ 10 ∷ [] }
+    ensures once { (shape : Shape) → IsShape shape → (line : Line) → IsLine shape line → All (λ c. c ≢ 10) (but_last (line_text shape line)) }
 {}
