@@ -1,1 +1,10 @@
 mod PushedRows
+pub mod JudgingLemmas
+pub mod RowLemmas
+pub mod Standing
+pub mod StepLemmas
+pub mod OpenLemmas
+pub mod CloseLemmas
+pub mod FormLemmas
+pub mod SpellLemmas
+pub mod TellLemmas

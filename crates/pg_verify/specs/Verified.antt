@@ -1,22 +1,37 @@
 -- *verify-exact*: a text is not refused exactly where it is the one spelling of a valid certificate.
-use Rattle.std.specs.Prelude.{◌≡◌, ℕ, ◌≤◌, List, length, map, Ok}
+use Rattle.std.specs.Prelude.{◌≡◌, ⊤, ℕ, ◌*◌, ◌≤◌, List, length, map, Some, Ok, slice_get}
+use Rattle.std.specs.List.{All}
+use Rattle.pg_word.specs.Sparse.{IsCellList}
 use Rattle.pg_ast.specs.declared.tree.Instr.{Instr}
 use Rattle.pg_ast.specs.declared.tree.Desc.{Desc}
+use Rattle.pg_meaning.specs.States.{State, shape_of}
 use Rattle.pg_valid.specs.Valid.{IsValid}
 use Rattle.pg_type.specs.declared.kind.Kind.{Kind}
+use Rattle.pg_type.specs.Kinds.{Shows}
 use Rattle.pg_ask.specs.Question.{question}
 use Rattle.pg_cert.specs.declared.cert.Family.{Family}
+use Rattle.pg_cert.specs.declared.cert.Finding.{Finding}
+use Rattle.pg_cert.specs.declared.cert.Finding.TheVariants as finding
 use Rattle.pg_cert.specs.declared.cert.Cert.{Cert}
 use Rattle.pg_cert.specs.declared.line.Heading.{Heading}
-use Rattle.pg_cert.specs.Verdicts.{mark_of}
-use Rattle.pg_cert.specs.Texts.{cert_text}
+use Rattle.pg_cert.specs.Verdicts.{kind_count, mark_of}
+use Rattle.pg_cert.specs.Lines.{IsLine}
+use Rattle.pg_cert.specs.Texts.{instr_of, kind_of, cert_lines, cert_text}
 use Rattle.pg_cert.specs.Validity.{IsValidCert}
-use Rattle.pg_verify.specs.Reader.{Progress}
+use Rattle.pg_verify.specs.Reader.{state_of, Mark, Refuted, Shown, Spent, Progress}
 use Rattle.pg_verify.specs.Feeding.{verified, kept, most_bytes}
 
--- a certificate of the description that is valid for its questions
-abbrev pub IsValidOf : Heading → Desc → Cert → Type 0
-IsValidOf heading d cert = IsValidCert (question d) heading d cert
+-- the cells of states are listed in the one way. That they are within the size is part of what a listed state is
+abbrev pub AreListed : Finding → Type 0
+AreListed (finding.Refuted acts) = ⊤
+AreListed (finding.Shown s t) = IsCellList s.cells × IsCellList t.cells
+AreListed (finding.Spent k steps) = ⊤
+
+-- a certificate of the description that is valid for its questions, each line of which is in range
+pub record IsValidOf (heading : Heading) (d : Desc) (cert : Cert) : Type 0 where
+  pub valid : IsValidCert (question d) heading d cert
+  pub in_range : All (IsLine (shape_of d)) (cert_lines d heading cert)
+  pub listed : All AreListed cert.findings
 
 -- what stands behind a text that is not refused: a valid certificate of which it is the text, and whose marks are kept
 pub record Spells (d : Desc) (family : Family) (bytes : List ℕ) (p : Progress) : Type 0 where
@@ -40,3 +55,18 @@ pub record IsTaken (d : Desc) (heading : Heading) (cert : Cert) : Type 0 where
 
 abbrev pub ValidTextsAreTaken : Type 0
 ValidTextsAreTaken = (d : Desc) (heading : Heading) (cert : Cert) → IsValid d → IsValidOf heading d cert → length (cert_text d heading cert) ≤ most_bytes → IsTaken d heading cert
+
+-- ---- what the marks of a text that is not refused tell
+
+abbrev pub Tells : Desc → Instr → Kind → Mark → Type 0
+Tells d i kind Refuted = (s t : State) → Shows d i kind s t → ⊥
+Tells d i kind (Shown s t) = Shows d i kind (state_of s) (state_of t)
+Tells d i kind (Spent budget) = ⊤
+
+-- there is one for each instruction and each kind: that no two states show the kind, or that these do
+pub record AreTold (d : Desc) (family : Family) (marks : List Mark) : Type 0 where
+  pub whole : length marks ≡ length d.instrs * kind_count family
+  pub each : (n : ℕ) (mark : Mark) (i : Instr) → slice_get marks n ≡ Some mark → slice_get d.instrs (instr_of family n) ≡ Some i → Tells d i (kind_of family n) mark
+
+abbrev pub TakenTextsTell : Type 0
+TakenTextsTell = (d : Desc) (family : Family) (bytes : List ℕ) (p : Progress) → IsValid d → verified d family bytes ≡ Ok p → AreTold d family p.marks

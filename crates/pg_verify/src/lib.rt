@@ -15,6 +15,7 @@
 
 mod drawing;
 mod fault;
+pub mod laws;
 mod opened;
 mod reading;
 mod states;

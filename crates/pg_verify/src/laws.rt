@@ -1,0 +1,19 @@
+//! What follows from the definitions alone: none of it does anything when it runs.
+
+ghost use Rattle.pg_verify.specs.Judging.{ShowsIsDecided};
+ghost use Rattle.pg_verify.specs.Verified.{TakenTextsSpell, TakenTextsTell};
+
+/// The test of two states is true exactly where they show the kind.
+pub fn shows_is_decided()
+    ensures { ShowsIsDecided }
+{}
+
+/// A text that is not refused is that of a valid certificate, whose marks are kept.
+pub fn taken_texts_spell()
+    ensures { TakenTextsSpell }
+{}
+
+/// So its marks tell of each instruction and each kind that no two states show it, that these two do, or nothing.
+pub fn taken_texts_tell()
+    ensures { TakenTextsTell }
+{}
