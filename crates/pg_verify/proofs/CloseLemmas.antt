@@ -89,6 +89,7 @@ module _ (d : Desc) (family : Family) (removes : Bool) (marks : List Mark) (befo
           subst (λ x. IsValidFinding (question d j (kind_of family n)) heading d j (kind_of family n) x) ef
           (subst (λ x. IsValidFinding (question d x (kind_of family n)) heading d x (kind_of family n) f) same
           (subst (λ k. IsValidFinding (question d i (kind_of family k)) heading d i (kind_of family k) f) (sym en) valid))
+
       by : (n : ℕ) (g : Finding) (j : Instr) → slice_get d.instrs (instr_of family n) ≡ Some j → (slice_get fs n ≡ Some g) ⊎ (IsLast fs f n g) → length marks ≡ length fs →
           IsValidFinding (question d j (kind_of family n)) heading d j (kind_of family n) g
       by n g j at (inl get) len = h.each n g j get at
@@ -113,9 +114,9 @@ closing_with p q lines o h f m e em ef eb valid listed =
     (record {
       keeps = record { desc = refl; family = refl; lines = refl; fed = refl; rest = refl };
       between =
-        subst (λ x. IsBetween p.desc p.family p.removes (p.marks ++ x ∷ []) lines) (sym em)
-        (subst (λ ls. IsBetween p.desc p.family p.removes (p.marks ++ kept (mark_of f) ∷ []) ls) (sym (finding_is p.desc p.family p.removes p.marks h.before lines o h f ef eb))
-        (front_more p.desc p.family p.removes p.marks h.before h.heading h.findings h.instr f h.front h.instr_is valid listed));
+          subst (λ x. IsBetween p.desc p.family p.removes (p.marks ++ x ∷ []) lines) (sym em)
+          (subst (λ ls. IsBetween p.desc p.family p.removes (p.marks ++ kept (mark_of f) ∷ []) ls) (sym (finding_is p.desc p.family p.removes p.marks h.before lines o h f ef eb))
+          (front_more p.desc p.family p.removes p.marks h.before h.heading h.findings h.instr f h.front h.instr_is valid listed));
     })
 
 closed_log : (clauses : List (List ℤ)) (log : Log) (r : Option Log) → r ≡ Some log → log.closed ≡ true → IsSomeAnd r (λ after. IsTrue after.closed)

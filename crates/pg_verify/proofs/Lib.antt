@@ -8,3 +8,4 @@ pub mod CloseLemmas
 pub mod FormLemmas
 pub mod SpellLemmas
 pub mod TellLemmas
+mod NameLemmas

@@ -39,7 +39,7 @@ module _ (d : Desc) (family : Family) (removes : Bool) (marks : List Mark) (line
     instr_is = h.instr_is;
     body_is = b;
     lines_are = ap (λ ls. ls ++ l ∷ []) h.lines_are
-      ∙ append_assoc h.before (line.Header (name_of d (instr_of family (length marks))) (kind_of family (length marks)) h.found ∷ h.body) (l ∷ []);
+        ∙ append_assoc h.before (line.Header (name_of d (instr_of family (length marks))) (kind_of family (length marks)) h.found ∷ h.body) (l ∷ []);
   }
 
   abbrev At : List Line → Open → Type 0
@@ -57,14 +57,14 @@ module _ (d : Desc) (family : Family) (removes : Bool) (marks : List Mark) (line
       let a = act_added log step t.value (step_added n log step t.value t.was) in
       at_same (lines ++ line.Step step ∷ []) (Refuting header t.value) p t.gives
       (more (Refuting header log) (Refuting header t.value) (line.Step step) h
-        (refuting_more h.heading (question d h.instr (kind_of family (length marks))) log t.value h.found h.body (act.Add step) a tt h.body_is))
+      (refuting_more h.heading (question d h.instr (kind_of family (length marks))) log t.value h.found h.body (act.Add step) a tt h.body_is))
   step_kept n step (Showing header pair) p e h = no_ok _ p e
   step_kept n step (Spending header budget count log) p e h =
       let t = taken (with_spent_step n budget count log step) (λ after. Ok (Spending header budget (suc count) after)) p e in
       let s = step_spent n budget count log step t.value t.was in
       at_same (lines ++ line.Step step ∷ []) (Spending header budget (suc count) t.value) p t.gives
       (more (Spending header budget count log) (Spending header budget (suc count) t.value) (line.Step step) h
-        (spending_more (question d h.instr (kind_of family (length marks))) budget count log t.value h.found h.body step s h.body_is))
+      (spending_more (question d h.instr (kind_of family (length marks))) budget count log t.value h.found h.body step s h.body_is))
   step_kept n step Ended p e h = no_ok _ p e
 
   held_is : (n : ℕ) (o : Option Log) (after : Log) → held_after n o ≡ Ok after → o ≡ Some after
@@ -83,7 +83,7 @@ module _ (d : Desc) (family : Family) (removes : Bool) (marks : List Mark) (line
           let a = held_is n (after_removal log numbers) t.value t.was in
           at_same (lines ++ line.Remove numbers ∷ []) (Refuting header t.value) p t.gives
           (more (Refuting header log) (Refuting header t.value) (line.Remove numbers) h
-            (refuting_more h.heading (question d h.instr (kind_of family (length marks))) log t.value h.found h.body (act.Remove numbers) a (sym h.front.removes_is ∙ f, r) h.body_is))
+          (refuting_more h.heading (question d h.instr (kind_of family (length marks))) log t.value h.found h.body (act.Remove numbers) a (sym h.front.removes_is ∙ f, r) h.body_is))
       by false f g = no_ok _ p g
   removal_kept n numbers (Showing header pair) p r e h = no_ok _ p e
   removal_kept n numbers (Spending header budget count log) p r e h = no_ok _ p e

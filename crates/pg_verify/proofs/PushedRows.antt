@@ -74,7 +74,7 @@ row_goes_on before cells after first words at i l e h =
     let next : suc at ≡ at + 1 = omega arith in
     let rest : List ℕ = drop (i + 1) words in
     let here : listed at (drop i words) ≡ listed at (word ∷ []) ++ listed (at + 1) rest =
-        ap (listed at) (drop_more words i 0 l) ∙ listed-cons at word rest ∙ ap (λ k. listed at (word ∷ []) ++ listed k rest) next in
+    ap (listed at) (drop_more words i 0 l) ∙ listed-cons at word rest ∙ ap (λ k. listed at (word ∷ []) ++ listed k rest) next in
     record {
       at_is = omega (arith, h.at_is);
       below = subst (All (λ (cell : ℕ × ℕ). cell.0 < at + 1)) (sym e)

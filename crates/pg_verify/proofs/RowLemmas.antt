@@ -42,10 +42,13 @@ listed_more at (w ∷ ws) cells h below = by (w == 0) refl (λ cs k b. listed_mo
   where
     wider : All (λ c. c.0 < suc at) cells
     wider = All-weaker (λ c. c.0 < at) (λ c. c.0 < suc at) (λ c l. omega arith) cells below
+
     one : w ≢ 0 → IsCellList (cells ++ (at, w) ∷ [])
     one n = pushed cells at w h (past_last cells at below) n
+
     all : All (λ c. c.0 < suc at) (cells ++ (at, w) ∷ [])
     all = All-append (λ c. c.0 < suc at) cells ((at, w) ∷ []) wider (All-cons (λ (c : ℕ × ℕ). c.0 < suc at) (at, w) [] (omega arith) (All-nil (λ (c : ℕ × ℕ). c.0 < suc at)))
+
     by : (b : Bool) → (w == 0) ≡ b → ((cs : List (ℕ × ℕ)) → IsCellList cs → All (λ c. c.0 < suc at) cs → IsCellList (cs ++ listed (suc at) ws)) → IsCellList (cells ++ (if b then listed (suc at) ws else (at, w) ∷ listed (suc at) ws))
     by true e rest = rest cells h wider
     by false e rest =
@@ -63,6 +66,7 @@ set_both xs ys i a k len e = by (cases_eq k i)
     inside : k ≡ i → (i < length xs) ⊎ (length xs ≤ i) → get_or (set xs i a) k 0 ≡ get_or (set ys i a) k 0
     inside s (inl l) = rw s (get_or-set_same xs i a 0 l ∙ sym (get_or-set_same ys i a 0 (omega arith)))
     inside s (inr l) = ap (λ zs. get_or zs k 0) (set_past xs i a l) ∙ e ∙ ap (λ zs. get_or zs k 0) (sym (set_past ys i a (omega arith)))
+
     by : (k ≡ i) ⊎ (k ≡ i → ⊥) → get_or (set xs i a) k 0 ≡ get_or (set ys i a) k 0
     by (inl s) = inside s (cases_lt i (length xs))
     by (inr n) = get_or-set_other xs i k a 0 n ∙ e ∙ sym (get_or-set_other ys i k a 0 n)
@@ -100,8 +104,10 @@ row_holds size at (w ∷ ws) zero k e l = by (w == 0) refl
   where
     same : k ≡ at
     same = omega arith
+
     gone : get_or (storage_of size (listed (suc at) ws)) k 0 ≡ 0
     gone = nothing_kept size (listed (suc at) ws) k (apart_above (suc at) k (listed (suc at) ws) (omega arith) (listed_from (suc at) ws)) ∙ zero_or_past size k
+
     by : (b : Bool) → (w == 0) ≡ b → get_or (storage_of size (if b then listed (suc at) ws else (at, w) ∷ listed (suc at) ws)) k 0 ≡ w
     by true t = gone ∙ sym (eqb-true w 0 t)
     by false t = rw same (get_or-set_same (storage_of size (listed (suc at) ws)) at w 0 (omega (arith, length-storage_of size (listed (suc at) ws))))

@@ -78,6 +78,7 @@ line_read p q lines bytes h e = by (said (shape_of p.desc) bytes) refl e
     other : {P : Type 0} (b : Bool) (f g : VerifyFault) → ◌≡◌ {A = Reader} (if b then Err f else Err g) (Ok q) → P
     other true f g e = no_ok f q e
     other false f g e = no_ok g q e
+
     by : (s : Said) → said (shape_of p.desc) bytes ≡ s → after_said (record p { lines = suc p.lines }) s ≡ Ok q → IsLineRead p q lines bytes
     by (Says l) es e =
         let spelled = said_is_spelled (shape_of p.desc) bytes l es in
@@ -125,8 +126,8 @@ module _ (d : Desc) (family : Family) where
         fed_is = k.fed ∙ ap suc h.fed_is ∙ omega arith;
         within = omega (arith, room, fed, most, len);
         text =
-          text ∙ ap (λ x. lines_text (shape_of x) (h.lines ++ r.line ∷ [])) (sym k.desc) ∙ sym (append-nil (lines_text (shape_of q.desc) (h.lines ++ r.line ∷ [])))
-          ∙ ap (λ bs. lines_text (shape_of q.desc) (h.lines ++ r.line ∷ []) ++ bs) (sym k.rest);
+            text ∙ ap (λ x. lines_text (shape_of x) (h.lines ++ r.line ∷ [])) (sym k.desc) ∙ sym (append-nil (lines_text (shape_of q.desc) (h.lines ++ r.line ∷ [])))
+            ∙ ap (λ bs. lines_text (shape_of q.desc) (h.lines ++ r.line ∷ []) ++ bs) (sym k.rest);
         in_range = subst (λ x. All (IsLine (shape_of x)) (h.lines ++ r.line ∷ [])) (sym k.desc) (All-push (IsLine (shape_of p.desc)) h.lines r.line h.in_range r.in_range);
         at = r.stands.at;
       }
@@ -151,6 +152,7 @@ module _ (d : Desc) (family : Family) where
             in_range = h.in_range;
             at = h.at;
           }
+
       by : (full ends : Bool) → (p.fed == most_bytes) ≡ full →
           (if full then Err fault.Long
           else (if ends then after_line (record p { fed = suc p.fed; rest = [] }) (p.rest ++ c ∷ []) else Ok (record p { fed = suc p.fed; rest = p.rest ++ c ∷ [] }))) ≡ Ok q → IsRead d family (bytes ++ c ∷ []) q
@@ -188,6 +190,7 @@ module _ (d : Desc) (family : Family) where
       at_ended (Showing header pair) eo er e = never _ _ p e
       at_ended (Spending header budget count log) eo er e = never _ _ p e
       at_ended Ended eo er e = record { same = same_ok q p e; rest = er; opened = eo }
+
       by : (rest : List ℕ) → q.rest ≡ rest → at_rest q rest ≡ Ok p → IsDone q p
       by [] er e = at_ended q.opened refl er e
       by (c ∷ cs) er e = never _ _ p e

@@ -187,12 +187,16 @@ row_on s first words t row e h = by (row_fits s first words) refl e
   where
     below : row_fits s first words ≡ true → All (λ c. c.0 < first) s.cells
     below f = λ k d l. ltb-true _ first (AllPass-from_list_all (λ (c : ℕ × ℕ). nat_lt c.0 first) s.cells (and_parts (list_all (λ (c : ℕ × ℕ). nat_lt c.0 first) s.cells) (length words == min line_cells (s.size - first)) f).0 k d l)
+
     size : row_fits s first words ≡ true → length words ≡ min line_cells (s.size - first)
     size f = eqb-true (length words) (min line_cells (s.size - first)) (and_parts (list_all (λ (c : ℕ × ℕ). nat_lt c.0 first) s.cells) (length words == min line_cells (s.size - first)) f).1
+
     eight : first ≡ 8 * (first / 8)
     eight = let p = row.place in omega arith
+
     new : Drawn
     new = record s { cells = s.cells ++ listed first words }
+
     on : row_fits s first words ≡ true → IsRowOn s new first words
     on f =
         let len = size f in
@@ -204,6 +208,7 @@ row_on s first words t row e h = by (row_fits s first words) refl e
           drawn = record { cells = listed_more first words s.cells h.cells (below f); within = within_more s.size first words s.cells h.within (omega arith) };
           lines_are = ap (λ (ls : List Line). line.Size s.size ∷ line.Psw s.psw ∷ ls) rows;
         }
+
     by : (b : Bool) → row_fits s first words ≡ b → (if b then Some new else None) ≡ Some t → IsRowOn s t first words
     by true f g = subst (λ x. IsRowOn s x first words) (same_Some new t g) (on f)
     by false f g = absurd (cc)

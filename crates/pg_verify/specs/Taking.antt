@@ -82,7 +82,7 @@ is_worth log step = not (is_empty step.lits) && (is_tight log.variables log.held
 abbrev pub with_spent_step : ℕ → (budget count : ℕ) → Log → Steps → Result Log VerifyFault
 with_spent_step n budget count log step =
     where_valid n (fault_of log.variables log.held step)
-        (if nat_lt count budget && is_worth log step then Ok (with_clause log step.lits) else Err (fault.BadSpent n))
+    (if nat_lt count budget && is_worth log step then Ok (with_clause log step.lits) else Err (fault.BadSpent n))
 
 unfoldable pub after_step : ℕ → Steps → Open → Result Open VerifyFault
 after_step n step Fresh = misplaced n
@@ -237,13 +237,17 @@ opening header clauses found.Refuted = Refuting header (begun clauses)
 opening header clauses found.Shown = Showing header NoState
 opening header clauses (found.Spent budget) = Spending header budget 0 (begun clauses)
 
--- a finding of an instruction and a kind, by their places, opens where it is the one that is due
+-- a finding of an instruction and a kind opens
+abbrev pub opened_with : Progress → (instr : ℕ) → Kind → Found → Reader
+opened_with p instr k f = Ok (with_open p (opening p.lines (clauses_at p.desc k (slice_get p.desc.instrs instr)) f))
+
+-- one by its places opens where it is the one that is due
 abbrev pub placed : Progress → (instr : ℕ) → Kind → (place : ℕ) → Found → Reader
 placed p instr k place f =
     let number = instr * kind_count p.family + place in
     (if nat_lt number (length p.marks) then Err (fault.Extra p.lines)
     else (if nat_lt (length p.marks) number then missing p
-    else Ok (with_open p (opening p.lines (clauses_at p.desc k (slice_get p.desc.instrs instr)) f))))
+    else opened_with p instr k f))
 
 abbrev pub named : Progress → Option ℕ → Kind → (place : ℕ) → Found → Reader
 named p None k place f = Err (fault.NoSuchInstr p.lines)

@@ -1,11 +1,11 @@
 //! Why the text of a certificate is refused.
 
+ghost use Rattle.std.specs.Prelude.{◌≡◌};
+ghost use Rattle.pg_verify.specs.declared.fault.VerifyFault.TheVariants.{Memory};
+
 use pg_type::Kind;
 use std::alloc::AllocError;
 use thiserror::Error;
-
-ghost use Rattle.std.specs.Prelude.{◌≡◌};
-ghost use Rattle.pg_verify.specs.declared.fault.VerifyFault.TheVariants.{Memory};
 
 /// Why the step of a log is not valid: the first fault in the order in which it is looked at.
 #[derive(Clone, Copy, Debug, PartialEq, Eq)]

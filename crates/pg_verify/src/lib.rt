@@ -14,6 +14,7 @@
 #![tactic(auto)]
 
 mod drawing;
+mod families;
 mod fault;
 pub mod laws;
 mod opened;

@@ -1,6 +1,10 @@
 //! The finding that is open.
 
-use crate::drawing::Drawing;
+ghost use Rattle.std.specs.Prelude.{◌≡◌};
+ghost use Rattle.pg_verify.specs.Taking.{is_fresh, may_close};
+ghost use Rattle.pg_verify.specs.Seen.{open_of};
+
+use crate::drawing::{Drawing, is_whole};
 use pg_proof::Checker;
 
 /// What is open of a text. A finding has the number of its header's line.
@@ -18,4 +22,32 @@ pub enum Opened {
     Spending(u32, u32, u32, Checker),
     /// Nothing, behind the last line.
     Ended,
+}
+
+/// Whether nothing was read.
+pub fn is_fresh(opened: &Opened) -> bool
+    ensures { result ≡ is_fresh (open_of opened.now) }
+{
+    match opened {
+        Opened::Fresh => true,
+        Opened::Between => false,
+        Opened::Refuting(_, _) => false,
+        Opened::Showing(_, _) => false,
+        Opened::Spending(_, _, _, _) => false,
+        Opened::Ended => false,
+    }
+}
+
+/// Whether a header, or the last line, may stand where this is open.
+pub fn may_close(opened: &Opened) -> bool
+    ensures { result ≡ may_close (open_of opened.now) }
+{
+    match opened {
+        Opened::Fresh => false,
+        Opened::Between => true,
+        Opened::Refuting(_, _) => true,
+        Opened::Showing(_, drawing) => is_whole(drawing),
+        Opened::Spending(_, _, _, _) => true,
+        Opened::Ended => false,
+    }
 }

@@ -3,10 +3,10 @@
 //! A line is taken by what it says: `steps` and `states` have the lines of the finding that is open; here are the first line,
 //! headers, which close one finding and open the next, and the last line.
 
-ghost use Rattle.std.specs.Prelude.{◌≡◌, ◌+◌, ◌*◌, ◌<◌, ◌≤◌, ◌^◌, ◌==◌, length, slice_get, true, map, Some, IfOk, Ok};
+ghost use Rattle.std.specs.Prelude.{◌≡◌, ◌+◌, ◌*◌, ◌<◌, ◌≤◌, ◌^◌, ◌==◌, length, slice_get, true, map, Some, IfOk, IfSome, Ok};
 ghost use Rattle.pg_cert.specs.Verdicts.{kind_count};
 ghost use Rattle.pg_proof.specs.State.{begun as log_begun};
-ghost use Rattle.pg_verify.specs.Taking.{closed, closed_pair, marked, shows_due, due_instr, due_kind, all_findings, may_close, is_whole, kind_place, instr_named, clauses_at, placed, named, after_first, after_header, after_end, after_form, is_fresh, same_family, is_first_due, ended};
+ghost use Rattle.pg_verify.specs.Taking.{closed, closed_pair, marked, opened_with, shows_due, due_instr, due_kind, all_findings, may_close, instr_named, clauses_at, placed, named, after_first, after_header, after_end, after_form, is_first_due, ended};
 ghost use Rattle.pg_verify.specs.Feeding.{begun, drawn_of, kept};
 ghost use Rattle.pg_verify.specs.Seen.{open_of, pair_of, IsTold};
 ghost use Rattle.pg_verify.specs.Reader.{BothStates};
@@ -15,9 +15,12 @@ ghost use Rattle.pg_cert.specs.Texts.{family_of};
 ghost use Rattle.pg_cert.specs.Validity.{may_remove};
 
 use crate::drawing::Drawing;
+use crate::families::{family_of, kind_place, may_remove, same_family};
 use crate::fault::VerifyFault;
-use crate::opened::Opened;
+use crate::opened::{Opened, is_fresh, may_close};
+use pg_ask::ask;
 use pg_cert::{Family, Found, Heading, Mark, MarkList};
+use pg_proof::Checker;
 use pg_replay::replay;
 use pg_type::Kind;
 use pg_valid::Machine;
@@ -45,7 +48,6 @@ impl<'m> Model for Reading<'m> {
     ghost use Rattle.pg_verify.specs.Reader.{Progress};
     ghost use Rattle.pg_verify.specs.Feeding.{kept, most_bytes};
     ghost use Rattle.pg_verify.specs.Seen.{open_of, numbered};
-
     ghost use Rattle.pg_ast.specs.contracts.tree.Stmt as s;
     ghost use Rattle.std.specs.Coded.{codes};
 
@@ -177,107 +179,110 @@ impl<'m> Reading<'m> {
     {
         is_fresh(&self.opened) && same_family(family, self.family)
     }
-}
 
-/// Whether nothing was read.
-fn is_fresh(opened: &Opened) -> bool
-    ensures { result ≡ is_fresh (open_of opened.now) }
-{
-    match opened {
-        Opened::Fresh => true,
-        Opened::Between => false,
-        Opened::Refuting(_, _) => false,
-        Opened::Showing(_, _) => false,
-        Opened::Spending(_, _, _, _) => false,
-        Opened::Ended => false,
+    /// A finding opens, of the instruction of this number and this kind. The error is want of memory.
+    fn open(&mut self, instr: usize, kind: Kind, found: Found) -> Result<(), VerifyFault>
+        requires { instr < length self.old.desc.instrs }
+        ensures { IsTold (opened_with self.old instr kind found) self.new result }
+    {
+        self.opened = match found {
+            Found::Refuted => Opened::Refuting(
+                self.lines,
+                checker_of(self.alloc, self.machine, instr, kind)?,
+            ),
+            Found::Shown => Opened::Showing(self.lines, Drawing::NoState),
+            Found::Spent(budget) => Opened::Spending(
+                self.lines,
+                budget,
+                0,
+                checker_of(self.alloc, self.machine, instr, kind)?,
+            ),
+        };
+        Ok(())
+    }
+
+    /// A finding of an instruction and a kind, by their places, opens where it is the one that is due.
+    fn place(
+        &mut self,
+        instr: usize,
+        kind: Kind,
+        place: usize,
+        found: Found,
+    ) -> Result<(), VerifyFault>
+        requires instr { instr < length self.old.desc.instrs }
+        requires place { place < kind_count self.old.family }
+        ensures { IsTold (placed self.old instr kind place found) self.new result }
+    {
+        let number = instr * self.family.kinds().len() + place;
+        if number < self.marks.len() {
+            return Err(VerifyFault::Extra(self.lines));
+        }
+        if self.marks.len() < number {
+            return Err(self.missing());
+        }
+        self.open(instr, kind, found)
+    }
+
+    /// The header of a finding.
+    #[tactic(auto, unfolding(crate::specs::Taking::after_header))]
+    fn take_header(&mut self, name: &[u8], kind: Kind, found: Found) -> Result<(), VerifyFault>
+        ensures { IsTold (after_header self.old name.now kind found) self.new result }
+    {
+        if !may_close(&self.opened) {
+            return Err(VerifyFault::Grammar(self.lines));
+        }
+        let place = match kind_place(self.family, kind) {
+            None => return Err(VerifyFault::Grammar(self.lines)),
+            Some(place) => place,
+        };
+        self.close()?;
+        match instr_named(self.machine, name) {
+            None => Err(VerifyFault::NoSuchInstr(self.lines)),
+            Some(instr) => self.place(instr, kind, place, found),
+        }
+    }
+
+    /// The last line.
+    #[tactic(auto, unfolding(crate::specs::Taking::after_end))]
+    fn take_end(&mut self) -> Result<(), VerifyFault>
+        ensures { IsTold (after_end self.old) self.new result }
+    {
+        if !may_close(&self.opened) {
+            return Err(VerifyFault::Grammar(self.lines));
+        }
+        self.close()?;
+        if self.marks.len() != self.machine.count() * self.family.kinds().len() {
+            return Err(self.missing());
+        }
+        self.opened = Opened::Ended;
+        Ok(())
     }
 }
 
-/// Whether both states are whole.
-fn is_whole(drawing: &Drawing) -> bool
-    ensures { result ≡ is_whole (pair_of drawing.now) }
+/// The number of the instruction of a name, if there is one.
+fn instr_named(machine: &Machine, name: &[u8]) -> Option<usize>
+    ensures named { result ≡ instr_named machine.now.desc name.now }
+    ensures within { IfSome result (λ instr. instr < length machine.now.desc.instrs) }
 {
-    match drawing {
-        Drawing::BothStates(_, _) => true,
-        Drawing::NoState => false,
-        Drawing::FirstSize(_) => false,
-        Drawing::FirstState(_) => false,
-        Drawing::SecondSize(_, _) => false,
+    for instr in 0..machine.count() {
+        if machine.name(instr) == name {
+            return Some(instr);
+        }
     }
+    None
 }
 
-/// Whether a header, or the last line, may stand where this is open.
-fn may_close(opened: &Opened) -> bool
-    ensures { result ≡ may_close (open_of opened.now) }
+/// A checker of the question of an instruction and a kind. The error is want of memory.
+fn checker_of(
+    alloc: Global,
+    machine: &Machine,
+    instr: usize,
+    kind: Kind,
+) -> Result<Checker, AllocError>
+    requires { instr < length machine.now.desc.instrs }
+    ensures begun { IfOk result (λ checker. checker ≡ log_begun (clauses_at machine.now.desc kind (slice_get machine.now.desc.instrs instr))) }
+    ensures few { IfOk result (λ checker. length checker.held ≤ 2 ^ 31) }
 {
-    match opened {
-        Opened::Fresh => false,
-        Opened::Between => true,
-        Opened::Refuting(_, _) => true,
-        Opened::Showing(_, drawing) => is_whole(drawing),
-        Opened::Spending(_, _, _, _) => true,
-        Opened::Ended => false,
-    }
-}
-
-/// Whether two families are one.
-fn same_family(x: Family, y: Family) -> bool
-    ensures { result ≡ same_family x y }
-{
-    match (x, y) {
-        (Family::Plain, Family::Plain) => true,
-        (Family::Plain, Family::Hybrid) => false,
-        (Family::Hybrid, Family::Plain) => false,
-        (Family::Hybrid, Family::Hybrid) => true,
-    }
-}
-
-/// The family of a certificate that begins so.
-fn family_of(heading: Heading) -> Family
-    ensures { result ≡ family_of heading }
-{
-    match heading {
-        Heading::PlainOne => Family::Plain,
-        Heading::PlainTwo => Family::Plain,
-        Heading::HybridOne => Family::Hybrid,
-    }
-}
-
-/// Whether clauses may be taken away in a certificate that begins so.
-fn may_remove(heading: Heading) -> bool
-    ensures { result ≡ may_remove heading }
-{
-    match heading {
-        Heading::PlainOne => false,
-        Heading::PlainTwo => true,
-        Heading::HybridOne => true,
-    }
-}
-
-/// The place of a kind among those of a family, if it is one of them.
-fn kind_place(family: Family, kind: Kind) -> Option<usize>
-    ensures { result ≡ kind_place family kind }
-{
-    match family {
-        Family::Plain => match kind {
-            Kind::Privileged => Some(0),
-            Kind::Control => Some(1),
-            Kind::ModeDep => Some(2),
-            Kind::Location => Some(3),
-            Kind::Bound => Some(4),
-            Kind::UControl => None,
-            Kind::ULocation => None,
-            Kind::UBound => None,
-        },
-        Family::Hybrid => match kind {
-            Kind::Privileged => Some(0),
-            Kind::Control => None,
-            Kind::ModeDep => None,
-            Kind::Location => None,
-            Kind::Bound => None,
-            Kind::UControl => Some(1),
-            Kind::ULocation => Some(2),
-            Kind::UBound => Some(3),
-        },
-    }
+    let asked = ask(alloc, machine, instr, kind)?;
+    Checker::new(alloc, asked.cnf())
 }

@@ -153,7 +153,11 @@ pub enum StatePart<'a> {
 }
 
 /// A pair with what a line says more, if it may stand there. The error is want of memory.
-fn with_part(alloc: Global, drawing: Drawing, part: StatePart<'_>) -> Result<Option<Drawing>, AllocError>
+fn with_part(
+    alloc: Global,
+    drawing: Drawing,
+    part: StatePart<'_>,
+) -> Result<Option<Drawing>, AllocError>
     requires { IsRowPart part }
     ensures { IfOk result (λ next. IsPair (with_part part.entry (pair_of drawing)) next) }
 {
@@ -165,7 +169,12 @@ fn with_part(alloc: Global, drawing: Drawing, part: StatePart<'_>) -> Result<Opt
 }
 
 /// The same of the pair that is open.
-fn draw(alloc: Global, drawing: &mut Drawing, line: u32, part: StatePart<'_>) -> Result<(), VerifyFault>
+fn draw(
+    alloc: Global,
+    drawing: &mut Drawing,
+    line: u32,
+    part: StatePart<'_>,
+) -> Result<(), VerifyFault>
     requires { IsRowPart part }
     ensures { IsTold (pair_told line (with_part part.entry (pair_of drawing.old))) (pair_of drawing.new) result }
 {
@@ -182,7 +191,12 @@ fn draw(alloc: Global, drawing: &mut Drawing, line: u32, part: StatePart<'_>) ->
 
 /// A line of a state.
 #[tactic(auto, unfolding(crate::specs::Taking::after_state_line))]
-pub fn take_part(alloc: Global, open: &mut Opened, line: u32, part: StatePart<'_>) -> Result<(), VerifyFault>
+pub fn take_part(
+    alloc: Global,
+    open: &mut Opened,
+    line: u32,
+    part: StatePart<'_>,
+) -> Result<(), VerifyFault>
     requires { IsRowPart part }
     ensures told { IsTold (after_state_line line (with_part part.entry) (open_of open.old)) (open_of open.new) result }
     ensures few { numbered (open_of open.new) ≤ numbered (open_of open.old) + 1 }

@@ -6,5 +6,5 @@ abbrev pub invariant-loop-word : goal.invariant-loop-word
 invariant-loop-word l = record {
   so_far : IsListedSoFar l.fn.state.cells l.state.cells l.first l.words l.at l.word-index;
   same_size : l.state.size ≡ l.fn.state.size;
-  same_psw : l.state.psw ≡ l.fn.state.psw
+  same_psw : l.state.psw ≡ l.fn.state.psw;
 }
