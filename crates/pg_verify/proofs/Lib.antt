@@ -7,3 +7,8 @@ pub mod CloseLemmas
 pub mod FormLemmas
 pub mod SpellLemmas
 pub mod TellLemmas
+pub mod ReachLemmas
+pub mod LogReach
+pub mod StateReach
+pub mod FindingReach
+pub mod TakeLemmas
