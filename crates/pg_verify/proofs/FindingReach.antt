@@ -1,17 +1,13 @@
 -- The lines of a finding that is due are taken, and it closes with its mark.
-use Rattle.std.proofs.Common.{◌≡◌, ◌⊎◌, inl, inr, ℕ, zero, suc, ◌+◌, ◌-◌, ◌*◌, ◌/◌, ◌%◌, ◌<◌, ◌≤◌, Bool, true, false, cond, if◌then◌else◌, List, [], ◌∷◌, ◌++◌, length, map, get_or, Option, None, Some, Result, Ok, Err, All, refl, sym, ap, subst, ◌∙◌, arith, append_assoc, append-nil, length-append, IsTrue, slice_get, ℤ}
-use Rattle.std.specs.Prelude.{◌==◌, ◌||◌, ⊤, nat_lt, bytes_eq, slice_index_or, IsSomeAnd}
+use Rattle.std.proofs.Common.{◌≡◌, ℕ, zero, suc, ◌+◌, ◌*◌, ◌%◌, ◌<◌, Bool, true, false, cond, if◌then◌else◌, List, [], ◌∷◌, ◌++◌, length, map, get_or, Option, None, Some, Ok, Err, refl, sym, ap, subst, ◌∙◌, arith, IsTrue, slice_get, ℤ}
+use Rattle.std.specs.Prelude.{nat_lt, bytes_eq, slice_index_or, IsSomeAnd}
 use Rattle.std.specs.List.{list_any, position_or_len}
 use Rattle.std.proofs.lemmas.Bool.{lt-ltb, le-ltb, eq-eqb, or_parts}
 use Rattle.std.proofs.lemmas.List.{length-map}
-use Rattle.std.proofs.lemmas.List.Elements.{All-head, All-tail}
 use Rattle.std.proofs.lemmas.List.Folds.{list_any-append}
 use Rattle.std.proofs.lemmas.List.Sums.{position_or_len_is}
-use Rattle.std.proofs.lemmas.Option.{same_Some, slice_get_cases}
 use Rattle.std.proofs.lemmas.Slice.Eq.{bytes_eq-Decides}
 use Rattle.pg_word.specs.Shape.{IsShape}
-use Rattle.pg_word.specs.declared.sparse.Sparse.{Sparse}
-use Rattle.pg_word.specs.Sparse.{IsCellList}
 use Rattle.pg_ast.specs.declared.tree.Instr.{Instr}
 use Rattle.pg_ast.specs.declared.tree.Desc.{Desc}
 use Rattle.pg_meaning.specs.States.{shape_of}
@@ -19,9 +15,7 @@ use Rattle.pg_valid.specs.Twice.{is_among, first_twice, instr_names, let_twice_a
 use Rattle.pg_valid.specs.Valid.{as_twice, IsValid}
 use Rattle.pg_type.specs.declared.kind.Kind.{Kind}
 use Rattle.pg_type.specs.declared.kind.Kind.TheVariants as kind
-use Rattle.pg_type.specs.Kinds.{Shows}
 use Rattle.pg_type.specs.Listed.{state_of as listed_state}
-use Rattle.pg_proof.specs.declared.step.Step.{Step}
 use Rattle.pg_proof.specs.declared.step.Act.{Act}
 use Rattle.pg_proof.specs.State.{State as Log, begun}
 use Rattle.pg_proof.specs.Log.{after_acts, IsClosedLog}
@@ -36,18 +30,15 @@ use Rattle.pg_cert.specs.declared.line.Found.TheVariants as found
 use Rattle.pg_cert.specs.declared.line.Line.{Line}
 use Rattle.pg_cert.specs.declared.line.Line.TheVariants as line
 use Rattle.pg_cert.specs.Verdicts.{kinds_of, kind_count, mark_of}
-use Rattle.pg_cert.specs.Lines.{line_text}
-use Rattle.pg_cert.specs.Texts.{act_line, state_lines, found_of, body_lines, instr_of, kind_of, name_of, finding_lines, findings_lines, lines_text}
-use Rattle.pg_cert.specs.Validity.{may_remove, IsActUnder, IsValidFinding}
-use Rattle.pg_verify.specs.declared.fault.VerifyFault.{VerifyFault}
+use Rattle.pg_cert.specs.Texts.{act_line, state_lines, instr_of, kind_of, name_of, finding_lines, lines_text}
+use Rattle.pg_cert.specs.Validity.{may_remove, IsValidFinding}
 use Rattle.pg_verify.specs.declared.fault.VerifyFault.TheVariants as fault
-use Rattle.pg_verify.specs.Judging.{shows}
-use Rattle.pg_verify.specs.Reader.{Drawn, Pair, NoState, FirstSize, FirstState, SecondSize, BothStates, Open, Between, Refuting, Showing, Spending, Mark, Refuted, Shown, Spent, Progress}
-use Rattle.pg_verify.specs.Taking.{then_take, misplaced, missing, with_open, may_close, marked, shows_at, closed_open, closed, clauses_at, opening, placed, named, instr_named, kind_place, with_header, after_header, after_form}
+use Rattle.pg_verify.specs.Reader.{Drawn, NoState, FirstSize, FirstState, SecondSize, BothStates, Open, Between, Refuting, Showing, Spending, Mark, Refuted, Shown, Spent, Progress}
+use Rattle.pg_verify.specs.Taking.{then_take, misplaced, missing, with_open, may_close, marked, shows_at, closed, clauses_at, opening, placed, named, instr_named, kind_place, with_header, after_header, after_form}
 use Rattle.pg_verify.specs.Feeding.{drawn_of, kept}
 use Rattle.pg_verify.specs.Verified.{AreListed}
 use Rattle.pg_verify.proofs.JudgingLemmas.{shows_decides}
-use Rattle.pg_verify.proofs.ReachLemmas.{spot, Fits, fits_front, fits_back, Reaches, reaches_none, reaches_then, reaches_cons}
+use Rattle.pg_verify.proofs.ReachLemmas.{spot, Fits, fits_front, fits_back, Reaches, reaches_then, reaches_cons}
 use Rattle.pg_verify.proofs.LogReach.{IsRefuted, reaches_acts, IsAllSpent, reaches_steps}
 use Rattle.pg_verify.proofs.StateReach.{IsShowing, from_showing, as_first_place, as_second_place, state_reaches}
 
@@ -222,23 +213,23 @@ module _ (d : Desc) (valid : IsValid d) (numbers : IsShape (shape_of d)) (family
     finding_reaches (finding.Refuted acts) h listed fits =
         let c = closed_at clauses acts h.0 in
         headed found.Refuted (map act_line acts) (IsReady d family removes (to ++ Refuted ∷ [])) fits (λ j g.
-          weaker (spot d family removes to (Refuting (suc n) (begun clauses)) (suc n) j) (map act_line acts) (IsRefuted d numbers family heading to c.final) (IsReady d family removes (to ++ Refuted ∷ []))
-          (reaches_acts d numbers family heading to (suc n) (suc n) j (begun clauses) c.final acts c.reached h.1 g)
-          (λ ms x r. refuted_ready to c.final ms x c.closed_is r))
+        weaker (spot d family removes to (Refuting (suc n) (begun clauses)) (suc n) j) (map act_line acts) (IsRefuted d numbers family heading to c.final) (IsReady d family removes (to ++ Refuted ∷ []))
+        (reaches_acts d numbers family heading to (suc n) (suc n) j (begun clauses) c.final acts c.reached h.1 g)
+        (λ ms x r. refuted_ready to c.final ms x c.closed_is r))
     finding_reaches (finding.Spent budget steps) h listed fits =
         headed (found.Spent budget) (map line.Step steps) (IsReady d family removes (to ++ Spent budget ∷ [])) fits (λ j g.
-          weaker (spot d family removes to (Spending (suc n) budget 0 (begun clauses)) (suc n) j) (map line.Step steps) (IsAllSpent d numbers family heading to budget) (IsReady d family removes (to ++ Spent budget ∷ []))
-          (reaches_steps d numbers family heading to (suc n) (suc n) j budget 0 budget (begun clauses) steps h.2 (omega arith) g)
-          (λ ms x r. spent_ready to budget ms x r))
+        weaker (spot d family removes to (Spending (suc n) budget 0 (begun clauses)) (suc n) j) (map line.Step steps) (IsAllSpent d numbers family heading to budget) (IsReady d family removes (to ++ Spent budget ∷ []))
+        (reaches_steps d numbers family heading to (suc n) (suc n) j budget 0 budget (begun clauses) steps h.2 (omega arith) g)
+        (λ ms x r. spent_ready to budget ms x r))
     finding_reaches (finding.Shown s t) h listed fits =
         let test : shows_at d (kind_of family (length to)) (Some i) (drawn_of s) (drawn_of t) ≡ true = (shows_decides d i (kind_of family (length to)) (listed_state s) (listed_state t)).1 h in
         headed found.Shown (state_lines s ++ state_lines t) (IsReady d family removes (to ++ Shown (drawn_of s) (drawn_of t) ∷ [])) fits (λ j g.
-          weaker (spot d family removes to (Showing (suc n) NoState) (suc n) j) (state_lines s ++ state_lines t) (IsShowing d numbers family removes to (suc n) (BothStates (drawn_of s) (drawn_of t))) (IsReady d family removes (to ++ Shown (drawn_of s) (drawn_of t) ∷ []))
-          (reaches_then d numbers family removes removes (spot d family removes to (Showing (suc n) NoState) (suc n) j) (state_lines s) (state_lines t)
-            (IsShowing d numbers family removes to (suc n) (FirstState (drawn_of s))) (IsShowing d numbers family removes to (suc n) (BothStates (drawn_of s) (drawn_of t)))
-            (state_reaches d numbers family removes to (suc n) FirstState as_first_place NoState (FirstSize s.size) s (suc n) j listed.0 refl refl (fits_front d j (state_lines s) (state_lines t) g))
-            (λ ms x m r. from_showing d numbers family removes to (suc n) (FirstState (drawn_of s)) ms x m (j + length (lines_text (shape_of d) (state_lines s))) (state_lines t)
-              (IsShowing d numbers family removes to (suc n) (BothStates (drawn_of s) (drawn_of t))) r
-              (state_reaches d numbers family removes to (suc n) (BothStates (drawn_of s)) (as_second_place (drawn_of s)) (FirstState (drawn_of s)) (SecondSize (drawn_of s) t.size) t m
-                (j + length (lines_text (shape_of d) (state_lines s))) listed.1 refl refl (fits_back d j (state_lines s) (state_lines t) g))))
-          (λ ms x r. shown_ready to (suc n) i (drawn_of s) (drawn_of t) ms x at test r))
+        weaker (spot d family removes to (Showing (suc n) NoState) (suc n) j) (state_lines s ++ state_lines t) (IsShowing d numbers family removes to (suc n) (BothStates (drawn_of s) (drawn_of t))) (IsReady d family removes (to ++ Shown (drawn_of s) (drawn_of t) ∷ []))
+        (reaches_then d numbers family removes removes (spot d family removes to (Showing (suc n) NoState) (suc n) j) (state_lines s) (state_lines t)
+        (IsShowing d numbers family removes to (suc n) (FirstState (drawn_of s))) (IsShowing d numbers family removes to (suc n) (BothStates (drawn_of s) (drawn_of t)))
+        (state_reaches d numbers family removes to (suc n) FirstState as_first_place NoState (FirstSize s.size) s (suc n) j listed.0 refl refl (fits_front d j (state_lines s) (state_lines t) g))
+        (λ ms x m r. from_showing d numbers family removes to (suc n) (FirstState (drawn_of s)) ms x m (j + length (lines_text (shape_of d) (state_lines s))) (state_lines t)
+        (IsShowing d numbers family removes to (suc n) (BothStates (drawn_of s) (drawn_of t))) r
+        (state_reaches d numbers family removes to (suc n) (BothStates (drawn_of s)) (as_second_place (drawn_of s)) (FirstState (drawn_of s)) (SecondSize (drawn_of s) t.size) t m
+        (j + length (lines_text (shape_of d) (state_lines s))) listed.1 refl refl (fits_back d j (state_lines s) (state_lines t) g))))
+        (λ ms x r. shown_ready to (suc n) i (drawn_of s) (drawn_of t) ms x at test r))

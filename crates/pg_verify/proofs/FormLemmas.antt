@@ -1,6 +1,6 @@
 -- Headers, the first line and the last, and every line.
-use Rattle.std.proofs.Common.{◌≡◌, ◌⊎◌, inl, inr, ℕ, zero, suc, ◌+◌, ◌*◌, ◌/◌, ◌%◌, ◌<◌, ◌≤◌, Bool, true, false, if◌then◌else◌, List, [], ◌∷◌, ◌++◌, length, map, Option, None, Some, Result, Ok, Err, refl, sym, ap, subst, ◌∙◌, arith, ℤ, append_assoc, IsTrue, slice_get, get_or}
-use Rattle.std.specs.Prelude.{◌==◌, ◌&&◌, nat_lt, nat_le, bytes_eq, slice_index_or}
+use Rattle.std.proofs.Common.{◌≡◌, ◌⊎◌, inl, inr, ℕ, ◌+◌, ◌*◌, ◌/◌, ◌%◌, ◌<◌, ◌≤◌, Bool, true, false, if◌then◌else◌, List, [], ◌∷◌, ◌++◌, length, Option, None, Some, Ok, Err, refl, sym, ap, subst, ◌∙◌, arith, ℤ, slice_get, get_or}
+use Rattle.std.specs.Prelude.{◌==◌, nat_lt, nat_le, bytes_eq, slice_index_or}
 use Rattle.std.specs.List.{position_or_len}
 use Rattle.std.proofs.lemmas.Bool.{eqb-true, ltb-true, ltb-false, leb-true, and_parts}
 use Rattle.std.proofs.lemmas.List.{length-map}
@@ -15,7 +15,6 @@ use Rattle.pg_meaning.specs.States.{shape_of}
 use Rattle.pg_valid.specs.Twice.{instr_names}
 use Rattle.pg_type.specs.declared.kind.Kind.{Kind}
 use Rattle.pg_type.specs.declared.kind.Kind.TheVariants as kind
-use Rattle.pg_proof.specs.State.{State as Log, begun}
 use Rattle.pg_ask.specs.Question.{question}
 use Rattle.pg_cert.specs.declared.cert.Family.{Family}
 use Rattle.pg_cert.specs.declared.cert.Family.TheVariants.{Plain, Hybrid}
@@ -28,13 +27,12 @@ use Rattle.pg_cert.specs.Lines.{is_line, IsLine, is_found, most_budget}
 use Rattle.pg_cert.specs.Verdicts.{kinds_of, kind_count}
 use Rattle.pg_cert.specs.Texts.{family_of, instr_of, kind_of, name_of, findings_lines}
 use Rattle.pg_cert.specs.Validity.{may_remove, IsActUnder}
-use Rattle.pg_verify.specs.declared.fault.VerifyFault.{VerifyFault}
 use Rattle.pg_verify.specs.declared.fault.VerifyFault.TheVariants as fault
 use Rattle.pg_verify.specs.Reader.{Open, Fresh, Between, Refuting, Showing, Spending, Ended, Mark, Progress}
-use Rattle.pg_verify.specs.Taking.{then_take, misplaced, with_open, reopened, after_step, after_remove, with_size, with_psw, with_cells, after_state_line, missing, all_findings, may_close, closed, clauses_at, opening, placed, named, instr_named, kind_place, with_header, after_header, ended, after_end, is_fresh, same_family, is_first_due, after_first, after_form}
+use Rattle.pg_verify.specs.Taking.{then_take, misplaced, with_open, after_step, after_remove, with_size, with_psw, with_cells, after_state_line, missing, all_findings, may_close, closed, clauses_at, opening, placed, named, instr_named, kind_place, with_header, after_header, ended, after_end, is_fresh, same_family, is_first_due, after_first, after_form}
 use Rattle.pg_verify.specs.Verified.{AreListed}
-use Rattle.pg_verify.proofs.Standing.{IsBody, IsFront, IsBetween, IsOpenAt, IsEndedAt, IsAt, Keeps, Stands}
-use Rattle.pg_verify.proofs.StepLemmas.{same_ok, no_ok, Taken, taken, if_taken, row_is, size_on, psw_on, cells_on}
+use Rattle.pg_verify.proofs.Standing.{IsBody, IsBetween, IsOpenAt, IsAt, Keeps, Stands}
+use Rattle.pg_verify.proofs.StepLemmas.{same_ok, no_ok, taken, if_taken, row_is, size_on, psw_on, cells_on}
 use Rattle.pg_verify.proofs.OpenLemmas.{step_kept, removal_kept, state_kept, reopened_stands}
 use Rattle.pg_verify.proofs.CloseLemmas.{Closed, open_closed}
 
@@ -101,6 +99,7 @@ placed_is p instr k place f q e = by (nat_lt (instr * kind_count p.family + plac
   where
     next : Progress
     next = with_open p (opening p.lines (clauses_at p.desc k (slice_get p.desc.instrs instr)) f)
+
     by : (b c : Bool) → nat_lt (instr * kind_count p.family + place) (length p.marks) ≡ b → nat_lt (length p.marks) (instr * kind_count p.family + place) ≡ c →
         (if b then Err (fault.Extra p.lines) else (if c then missing p else Ok next)) ≡ Ok q → IsPlaced p instr k place f q
     by true c eb ec e = no_ok _ q e
@@ -130,41 +129,48 @@ header_opens p q lines name instr k place f some kind_is named_as place_is h = b
   where
     n : ℕ
     n = length p.marks
+
     parts : IsSplit p.family (length p.marks) instr place
     parts = split p.family (length p.marks) instr place kind_is.small place_is.at
+
     kind_same : kind_of p.family (length p.marks) ≡ k
     kind_same = ap (λ j. slice_index_or (kinds_of p.family) j kind.Privileged) parts.place_is ∙ kind_is.is
+
     instr_same : instr_of p.family (length p.marks) ≡ instr
     instr_same = parts.instr_is
+
     clauses : List (List ℤ)
     clauses = clauses_at p.desc k (slice_get p.desc.instrs instr)
+
     lines_same : lines ++ line.Header name k f ∷ [] ≡ lines ++ line.Header (name_of p.desc (instr_of p.family (length p.marks))) (kind_of p.family (length p.marks)) f ∷ []
     lines_same =
         ap (λ nm. lines ++ line.Header nm k f ∷ []) (named_as.name_is ∙ ap (λ j. name_of p.desc j) (sym parts.instr_is))
         ∙ ap (λ kk. lines ++ line.Header (name_of p.desc (instr_of p.family (length p.marks))) kk f ∷ [])
-          (sym (ap (λ j. slice_index_or (kinds_of p.family) j kind.Privileged) parts.place_is ∙ kind_is.is))
+        (sym (ap (λ j. slice_index_or (kinds_of p.family) j kind.Privileged) parts.place_is ∙ kind_is.is))
+
     stands : (i : Instr) → slice_get p.desc.instrs instr ≡ Some i →
         Stands p (with_open p (opening p.lines (clauses_at p.desc k (slice_get p.desc.instrs instr)) f)) (lines ++ line.Header name k f ∷ [])
     stands i at = record {
       keeps = record { desc = refl; family = refl; lines = refl; fed = refl; rest = refl };
       at =
-        opened_at p.desc p.family p.removes p.marks (lines ++ line.Header name k f ∷ []) p.lines (clauses_at p.desc k (slice_get p.desc.instrs instr)) f
-        (record {
-          heading = h.heading;
-          findings = h.findings;
-          before = lines;
-          instr = i;
-          found = f;
-          body = [];
-          front = h.front;
-          instr_is = ap (λ j. slice_get p.desc.instrs j) parts.instr_is ∙ at;
-          body_is =
-            subst (λ c. IsBody h.heading c (opening p.lines (clauses_at p.desc k (slice_get p.desc.instrs instr)) f) f [])
-            (ap (λ o. clauses_at p.desc k o) at ∙ ap (λ kk. question p.desc i kk) (sym (ap (λ j. slice_index_or (kinds_of p.family) j kind.Privileged) parts.place_is ∙ kind_is.is)))
-            (opens h.heading (clauses_at p.desc k (slice_get p.desc.instrs instr)) p.lines f some);
-          lines_are = lines_same;
-        });
+          opened_at p.desc p.family p.removes p.marks (lines ++ line.Header name k f ∷ []) p.lines (clauses_at p.desc k (slice_get p.desc.instrs instr)) f
+          (record {
+            heading = h.heading;
+            findings = h.findings;
+            before = lines;
+            instr = i;
+            found = f;
+            body = [];
+            front = h.front;
+            instr_is = ap (λ j. slice_get p.desc.instrs j) parts.instr_is ∙ at;
+            body_is =
+                subst (λ c. IsBody h.heading c (opening p.lines (clauses_at p.desc k (slice_get p.desc.instrs instr)) f) f [])
+                (ap (λ o. clauses_at p.desc k o) at ∙ ap (λ kk. question p.desc i kk) (sym (ap (λ j. slice_index_or (kinds_of p.family) j kind.Privileged) parts.place_is ∙ kind_is.is)))
+                (opens h.heading (clauses_at p.desc k (slice_get p.desc.instrs instr)) p.lines f some);
+            lines_are = lines_same;
+          });
     }
+
     by : ((x : Instr) × (instr < length p.desc.instrs) × (slice_get p.desc.instrs instr ≡ Some x) × (get_or p.desc.instrs instr x ≡ x)) ⊎ ((length p.desc.instrs ≤ instr) × (slice_get p.desc.instrs instr ≡ None)) →
         Stands p q (lines ++ line.Header name k f ∷ [])
     by (inl there) = subst (λ x. Stands p x (lines ++ line.Header name k f ∷ [])) place_is.after_is (stands there.0 there.2)
@@ -183,7 +189,7 @@ module _ (p q : Progress) (lines : List Line) (h : IsAt p.desc p.family p.remove
   named_kept after name k place f (Some instr) some c at_kind at_name e =
       stands_then p after q (lines ++ line.Header name k f ∷ []) c.keeps
       (header_opens after q lines name instr k place f some
-        (kind_placed after.family k place (ap (λ x. kind_place x k) c.keeps.family ∙ at_kind)) (named_is after.desc name instr at_name) (placed_is after instr k place f q e) c.between)
+      (kind_placed after.family k place (ap (λ x. kind_place x k) c.keeps.family ∙ at_kind)) (named_is after.desc name instr at_name) (placed_is after instr k place f q e) c.between)
 
   header_kept : (name : List ℕ) (k : Kind) (f : Found) → is_found f ≡ true → after_header p name k f ≡ Ok q → Stands p q (lines ++ line.Header name k f ∷ [])
   unfolding after_header closed
@@ -209,6 +215,7 @@ module _ (p q : Progress) (lines : List Line) (h : IsAt p.desc p.family p.remove
             keeps = record { desc = refl; family = refl; lines = refl; fed = refl; rest = refl };
             at = record { heading = c.between.heading; findings = c.between.findings; before = lines; front = c.between.front; whole = eqb-true (length after.marks) (all_findings after) g.0; lines_are = refl };
           }))
+
       by : (b : Bool) → may_close p.opened ≡ b → (if b then then_take (closed p) ended else misplaced p.lines) ≡ Ok q → Stands p q (lines ++ line.End ∷ [])
       by false eb e = no_ok _ q e
       by true eb e = let t = taken (closed p) ended q e in at_end t.value (open_closed p t.value lines p.opened eb t.was h) t.gives

@@ -1,5 +1,5 @@
 -- The lines of a log are taken, one after another.
-use Rattle.std.proofs.Common.{◌≡◌, ℕ, zero, suc, ◌+◌, ◌<◌, ◌≤◌, Bool, true, false, not, if◌then◌else◌, List, [], ◌∷◌, ◌++◌, length, map, Option, None, Some, is_none, Result, Ok, Err, All, refl, sym, ap, subst, ◌∙◌, arith, ℤ}
+use Rattle.std.proofs.Common.{◌≡◌, ℕ, zero, suc, ◌+◌, ◌<◌, Bool, true, not, if◌then◌else◌, List, [], ◌∷◌, map, Option, None, Some, is_none, Ok, Err, All, refl, ap, ◌∙◌, arith}
 use Rattle.std.specs.Prelude.{◌&&◌, nat_lt}
 use Rattle.std.specs.Option.{option_and_then}
 use Rattle.std.proofs.lemmas.Bool.{lt-ltb, and_from, not_from_false}
@@ -20,11 +20,9 @@ use Rattle.pg_proof.specs.Removal.{after_removal}
 use Rattle.pg_proof.specs.Log.{after_act, after_acts_from, IsWorth, IsSpentFrom}
 use Rattle.pg_cert.specs.declared.cert.Family.{Family}
 use Rattle.pg_cert.specs.declared.line.Heading.{Heading}
-use Rattle.pg_cert.specs.declared.line.Line.{Line}
 use Rattle.pg_cert.specs.declared.line.Line.TheVariants as line
 use Rattle.pg_cert.specs.Texts.{act_line}
 use Rattle.pg_cert.specs.Validity.{may_remove, IsActUnder}
-use Rattle.pg_verify.specs.declared.fault.VerifyFault.{VerifyFault}
 use Rattle.pg_verify.specs.declared.fault.VerifyFault.TheVariants as fault
 use Rattle.pg_verify.specs.Reader.{Open, Refuting, Spending, Mark, Progress}
 use Rattle.pg_verify.specs.Taking.{then_take, misplaced, with_open, reopened, where_valid, is_worth, after_step, held_after, after_remove, after_form}

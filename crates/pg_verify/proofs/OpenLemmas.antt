@@ -1,28 +1,21 @@
 -- A line below a header keeps what stands.
-use Rattle.std.proofs.Common.{◌≡◌, ℕ, suc, ◌≤◌, Bool, true, false, if◌then◌else◌, List, [], ◌∷◌, ◌++◌, length, Option, None, Some, Result, Ok, Err, refl, sym, ap, subst, ◌∙◌, ℤ, append_assoc, IsTrue}
-use Rattle.std.specs.Prelude.{◌&&◌, nat_le}
-use Rattle.std.proofs.lemmas.Bool.{and_parts}
-use Rattle.pg_word.specs.declared.psw.Psw.{Psw}
+use Rattle.std.proofs.Common.{◌≡◌, ℕ, suc, Bool, true, false, if◌then◌else◌, List, [], ◌∷◌, ◌++◌, length, Option, None, Some, Result, Ok, refl, sym, ap, subst, ◌∙◌, append_assoc, IsTrue}
 use Rattle.pg_ast.specs.declared.tree.Desc.{Desc}
-use Rattle.pg_meaning.specs.States.{shape_of}
 use Rattle.pg_proof.specs.declared.step.Step.{Step}
 use Rattle.pg_proof.specs.declared.step.Act.TheVariants as act
 use Rattle.pg_proof.specs.State.{State as Log}
 use Rattle.pg_proof.specs.Removal.{after_removal}
 use Rattle.pg_ask.specs.Question.{question}
 use Rattle.pg_cert.specs.declared.cert.Family.{Family}
-use Rattle.pg_cert.specs.declared.line.Heading.{Heading}
-use Rattle.pg_cert.specs.declared.line.Found.{Found}
 use Rattle.pg_cert.specs.declared.line.Line.{Line}
 use Rattle.pg_cert.specs.declared.line.Line.TheVariants as line
-use Rattle.pg_cert.specs.Lines.{is_line, IsLine, are_removed}
+use Rattle.pg_cert.specs.Lines.{are_removed}
 use Rattle.pg_cert.specs.Texts.{instr_of, kind_of, name_of}
-use Rattle.pg_cert.specs.Validity.{may_remove, IsActUnder}
 use Rattle.pg_verify.specs.declared.fault.VerifyFault.{VerifyFault}
 use Rattle.pg_verify.specs.Reader.{Pair, Open, Fresh, Between, Refuting, Showing, Spending, Ended, Mark, Progress}
-use Rattle.pg_verify.specs.Taking.{then_take, with_open, reopened, with_step, with_spent_step, after_step, held_after, after_remove, with_size, with_psw, with_cells, shown_on, after_state_line, misplaced}
-use Rattle.pg_verify.proofs.Standing.{IsBody, IsFront, IsOpenAt, IsAt, IsRefuting, IsShowing, IsSpending, AreDrawn, Keeps, Stands}
-use Rattle.pg_verify.proofs.StepLemmas.{same_ok, no_ok, Taken, taken, if_taken, IsAdded, step_added, act_added, refuting_more, IsSpentOn, step_spent, spending_more, IsRow, row_is, IsPairOn, size_on, psw_on, cells_on, showing_more}
+use Rattle.pg_verify.specs.Taking.{then_take, with_open, reopened, with_step, with_spent_step, after_step, held_after, after_remove, shown_on, after_state_line, misplaced}
+use Rattle.pg_verify.proofs.Standing.{IsBody, IsOpenAt, IsAt, AreDrawn, Stands}
+use Rattle.pg_verify.proofs.StepLemmas.{same_ok, no_ok, taken, step_added, act_added, refuting_more, step_spent, spending_more, IsPairOn, showing_more}
 
 module _ (d : Desc) (family : Family) (removes : Bool) (marks : List Mark) (lines : List Line) where
   -- the body of what is open has one line more
@@ -39,7 +32,7 @@ module _ (d : Desc) (family : Family) (removes : Bool) (marks : List Mark) (line
     instr_is = h.instr_is;
     body_is = b;
     lines_are = ap (λ ls. ls ++ l ∷ []) h.lines_are
-      ∙ append_assoc h.before (line.Header (name_of d (instr_of family (length marks))) (kind_of family (length marks)) h.found ∷ h.body) (l ∷ []);
+        ∙ append_assoc h.before (line.Header (name_of d (instr_of family (length marks))) (kind_of family (length marks)) h.found ∷ h.body) (l ∷ []);
   }
 
   abbrev At : List Line → Open → Type 0
@@ -57,14 +50,14 @@ module _ (d : Desc) (family : Family) (removes : Bool) (marks : List Mark) (line
       let a = act_added log step t.value (step_added n log step t.value t.was) in
       at_same (lines ++ line.Step step ∷ []) (Refuting header t.value) p t.gives
       (more (Refuting header log) (Refuting header t.value) (line.Step step) h
-        (refuting_more h.heading (question d h.instr (kind_of family (length marks))) log t.value h.found h.body (act.Add step) a tt h.body_is))
+      (refuting_more h.heading (question d h.instr (kind_of family (length marks))) log t.value h.found h.body (act.Add step) a tt h.body_is))
   step_kept n step (Showing header pair) p e h = no_ok _ p e
   step_kept n step (Spending header budget count log) p e h =
       let t = taken (with_spent_step n budget count log step) (λ after. Ok (Spending header budget (suc count) after)) p e in
       let s = step_spent n budget count log step t.value t.was in
       at_same (lines ++ line.Step step ∷ []) (Spending header budget (suc count) t.value) p t.gives
       (more (Spending header budget count log) (Spending header budget (suc count) t.value) (line.Step step) h
-        (spending_more (question d h.instr (kind_of family (length marks))) budget count log t.value h.found h.body step s h.body_is))
+      (spending_more (question d h.instr (kind_of family (length marks))) budget count log t.value h.found h.body step s h.body_is))
   step_kept n step Ended p e h = no_ok _ p e
 
   held_is : (n : ℕ) (o : Option Log) (after : Log) → held_after n o ≡ Ok after → o ≡ Some after
@@ -83,7 +76,7 @@ module _ (d : Desc) (family : Family) (removes : Bool) (marks : List Mark) (line
           let a = held_is n (after_removal log numbers) t.value t.was in
           at_same (lines ++ line.Remove numbers ∷ []) (Refuting header t.value) p t.gives
           (more (Refuting header log) (Refuting header t.value) (line.Remove numbers) h
-            (refuting_more h.heading (question d h.instr (kind_of family (length marks))) log t.value h.found h.body (act.Remove numbers) a (sym h.front.removes_is ∙ f, r) h.body_is))
+          (refuting_more h.heading (question d h.instr (kind_of family (length marks))) log t.value h.found h.body (act.Remove numbers) a (sym h.front.removes_is ∙ f, r) h.body_is))
       by false f g = no_ok _ p g
   removal_kept n numbers (Showing header pair) p r e h = no_ok _ p e
   removal_kept n numbers (Spending header budget count log) p r e h = no_ok _ p e

@@ -1,6 +1,5 @@
 -- Lines in range that are fed: each is taken whole, and what it does is what it says.
-use Rattle.std.proofs.Common.{◌≡◌, ◌≢◌, ℕ, zero, suc, ◌+◌, ◌≤◌, Bool, true, false, if◌then◌else◌, List, [], ◌∷◌, ◌++◌, length, Option, Some, None, Result, Ok, Err, All, refl, sym, ap, subst, ◌∙◌, arith, append_assoc, append-nil, length-append, get_or}
-use Rattle.std.specs.Prelude.{◌==◌}
+use Rattle.std.proofs.Common.{◌≡◌, ◌≢◌, ℕ, suc, ◌+◌, ◌≤◌, Bool, if◌then◌else◌, List, [], ◌∷◌, ◌++◌, length, Result, Ok, Err, All, refl, sym, ap, subst, ◌∙◌, arith, append_assoc, append-nil, length-append}
 use Rattle.std.proofs.lemmas.Bool.{ne_eqb}
 use Rattle.std.proofs.lemmas.List.{get_or_append_left, get_or-append-add}
 use Rattle.std.proofs.lemmas.List.Elements.{All-head, All-tail}
@@ -12,7 +11,7 @@ use Rattle.pg_cert.specs.declared.cert.Family.{Family}
 use Rattle.pg_cert.specs.declared.line.Line.{Line}
 use Rattle.pg_cert.specs.Lines.{line_text, IsLine}
 use Rattle.pg_cert.specs.Reading.{but_last}
-use Rattle.pg_cert.specs.Parsing.{Said, Says, said}
+use Rattle.pg_cert.specs.Parsing.{said}
 use Rattle.pg_cert.specs.Texts.{lines_text}
 use Rattle.pg_cert.proofs.Said.{said-line, text_ends, ends_once}
 use Rattle.pg_verify.specs.declared.fault.VerifyFault.{VerifyFault}
@@ -151,11 +150,11 @@ module _ (d : Desc) (numbers : IsShape (shape_of d)) (family : Family) (removes 
         opened = next.opened;
         lines = next.lines;
         was =
-          ap (λ bs. fed p bs) (lines_text-append shape a b)
-          ∙ fed-append p (lines_text shape a) (lines_text shape b)
-          ∙ ap (λ r. then_take r (λ (q : Progress). fed q (lines_text shape b))) h.was
-          ∙ next.was
-          ∙ ap (λ j. Ok (spot d family removes next.marks next.opened next.lines j)) e;
+            ap (λ bs. fed p bs) (lines_text-append shape a b)
+            ∙ fed-append p (lines_text shape a) (lines_text shape b)
+            ∙ ap (λ r. then_take r (λ (q : Progress). fed q (lines_text shape b))) h.was
+            ∙ next.was
+            ∙ ap (λ j. Ok (spot d family removes next.marks next.opened next.lines j)) e;
         is = next.is;
       }
 
@@ -178,10 +177,10 @@ module _ (d : Desc) (numbers : IsShape (shape_of d)) (family : Family) (removes 
         opened = next.opened;
         lines = next.lines;
         was =
-          ap (λ bs. fed p bs) (lines_text-cons shape l ls)
-          ∙ fed-append p text (lines_text shape ls)
-          ∙ ap (λ r. then_take r (λ (q : Progress). fed q (lines_text shape ls))) (line_fed d family before m o n k l numbers (All-head (IsLine shape) l ls fits.in_range) room ∙ step (k + length text))
-          ∙ next.was
-          ∙ ap (λ j. Ok (spot d family removes next.marks next.opened next.lines j)) e;
+            ap (λ bs. fed p bs) (lines_text-cons shape l ls)
+            ∙ fed-append p text (lines_text shape ls)
+            ∙ ap (λ r. then_take r (λ (q : Progress). fed q (lines_text shape ls))) (line_fed d family before m o n k l numbers (All-head (IsLine shape) l ls fits.in_range) room ∙ step (k + length text))
+            ∙ next.was
+            ∙ ap (λ j. Ok (spot d family removes next.marks next.opened next.lines j)) e;
         is = next.is;
       }

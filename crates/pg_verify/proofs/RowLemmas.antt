@@ -1,16 +1,15 @@
 -- Rows of cells that are added to a state: its storage, and its lines.
-use Rattle.std.proofs.Common.{◌≡◌, ◌≢◌, ◌⊎◌, inl, inr, ℕ, zero, suc, ◌+◌, ◌-◌, ◌*◌, ◌/◌, ◌<◌, ◌≤◌, min, Bool, true, false, if◌then◌else◌, List, [], ◌∷◌, ◌++◌, length, get_or, set, take, drop, replicate, refl, sym, ap, subst, ◌∙◌, arith, length-append, length-drop, append_assoc, append-nil}
+use Rattle.std.proofs.Common.{◌≡◌, ◌≢◌, ◌⊎◌, inl, inr, ℕ, zero, suc, ◌+◌, ◌-◌, ◌*◌, ◌<◌, ◌≤◌, min, Bool, true, false, if◌then◌else◌, List, [], ◌∷◌, ◌++◌, length, get_or, set, drop, replicate, refl, sym, ap, subst, ◌∙◌, arith, length-drop, append_assoc, append-nil}
 use Rattle.std.specs.Prelude.{◌==◌}
 use Rattle.std.specs.List.{All, list_all}
 use Rattle.std.proofs.Math.Nat.{eq-or-lt_of_le}
 use Rattle.std.proofs.lemmas.Bool.{cases_lt, cases_eq, and_from, eq-eqb, eqb-true}
 use Rattle.std.proofs.lemmas.Grind.{same_number_lists}
-use Rattle.std.proofs.lemmas.List.{length-replicate, length-take, length-set, get_or-replicate, get_or-take, get_or-drop, get_or-set_same, get_or-set_other, get_or_past, get_or_append_left, get_or_at, set_past}
+use Rattle.std.proofs.lemmas.List.{length-replicate, length-take, get_or-replicate, get_or-take, get_or-drop, get_or-set_same, get_or-set_other, get_or_past, set_past}
 use Rattle.std.proofs.lemmas.List.Elements.{All-nil, All-cons, All-head, All-tail, All-append, All-weaker}
-use Rattle.pg_word.specs.Sparse.{address_at, IsCellList, IsPastLast, AreWithin, storage_of}
+use Rattle.pg_word.specs.Sparse.{IsCellList, IsPastLast, AreWithin, storage_of}
 use Rattle.pg_word.proofs.SparseLemmas.{length-storage_of, pushed}
-use Rattle.pg_image.specs.Lines.{line_cells, line_words, line_count}
-use Rattle.pg_cert.specs.declared.line.Line.{Line}
+use Rattle.pg_image.specs.Lines.{line_words, line_count}
 use Rattle.pg_cert.specs.declared.line.Line.TheVariants.{Cells}
 use Rattle.pg_cert.specs.Texts.{row_lines, rows_before}
 use Rattle.pg_verify.specs.Taking.{listed}
@@ -42,10 +41,13 @@ listed_more at (w ∷ ws) cells h below = by (w == 0) refl (λ cs k b. listed_mo
   where
     wider : All (λ c. c.0 < suc at) cells
     wider = All-weaker (λ c. c.0 < at) (λ c. c.0 < suc at) (λ c l. omega arith) cells below
+
     one : w ≢ 0 → IsCellList (cells ++ (at, w) ∷ [])
     one n = pushed cells at w h (past_last cells at below) n
+
     all : All (λ c. c.0 < suc at) (cells ++ (at, w) ∷ [])
     all = All-append (λ c. c.0 < suc at) cells ((at, w) ∷ []) wider (All-cons (λ (c : ℕ × ℕ). c.0 < suc at) (at, w) [] (omega arith) (All-nil (λ (c : ℕ × ℕ). c.0 < suc at)))
+
     by : (b : Bool) → (w == 0) ≡ b → ((cs : List (ℕ × ℕ)) → IsCellList cs → All (λ c. c.0 < suc at) cs → IsCellList (cs ++ listed (suc at) ws)) → IsCellList (cells ++ (if b then listed (suc at) ws else (at, w) ∷ listed (suc at) ws))
     by true e rest = rest cells h wider
     by false e rest =
@@ -63,6 +65,7 @@ set_both xs ys i a k len e = by (cases_eq k i)
     inside : k ≡ i → (i < length xs) ⊎ (length xs ≤ i) → get_or (set xs i a) k 0 ≡ get_or (set ys i a) k 0
     inside s (inl l) = rw s (get_or-set_same xs i a 0 l ∙ sym (get_or-set_same ys i a 0 (omega arith)))
     inside s (inr l) = ap (λ zs. get_or zs k 0) (set_past xs i a l) ∙ e ∙ ap (λ zs. get_or zs k 0) (sym (set_past ys i a (omega arith)))
+
     by : (k ≡ i) ⊎ (k ≡ i → ⊥) → get_or (set xs i a) k 0 ≡ get_or (set ys i a) k 0
     by (inl s) = inside s (cases_lt i (length xs))
     by (inr n) = get_or-set_other xs i k a 0 n ∙ e ∙ sym (get_or-set_other ys i k a 0 n)
@@ -100,8 +103,10 @@ row_holds size at (w ∷ ws) zero k e l = by (w == 0) refl
   where
     same : k ≡ at
     same = omega arith
+
     gone : get_or (storage_of size (listed (suc at) ws)) k 0 ≡ 0
     gone = nothing_kept size (listed (suc at) ws) k (apart_above (suc at) k (listed (suc at) ws) (omega arith) (listed_from (suc at) ws)) ∙ zero_or_past size k
+
     by : (b : Bool) → (w == 0) ≡ b → get_or (storage_of size (if b then listed (suc at) ws else (at, w) ∷ listed (suc at) ws)) k 0 ≡ w
     by true t = gone ∙ sym (eqb-true w 0 t)
     by false t = rw same (get_or-set_same (storage_of size (listed (suc at) ws)) at w 0 (omega (arith, length-storage_of size (listed (suc at) ws))))

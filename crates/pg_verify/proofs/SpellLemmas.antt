@@ -1,6 +1,6 @@
 -- Bytes that are not refused are the lines of a valid certificate.
-use Rattle.std.proofs.Common.{◌≡◌, ◌≢◌, ℕ, zero, suc, ◌+◌, ◌*◌, ◌≤◌, Bool, true, false, if◌then◌else◌, List, [], ◌∷◌, ◌++◌, length, map, Option, None, Some, Result, Ok, Err, All, refl, sym, ap, subst, ◌∙◌, arith, append_assoc, append-nil, length-append, IsTrue, slice_get}
-use Rattle.std.specs.Prelude.{◌==◌, ◌&&◌, bytes_eq, nat_le}
+use Rattle.std.proofs.Common.{◌≡◌, ◌≢◌, ℕ, suc, ◌≤◌, Bool, true, false, if◌then◌else◌, List, [], ◌∷◌, ◌++◌, length, Option, None, Some, Ok, Err, All, refl, sym, ap, subst, ◌∙◌, arith, append_assoc, append-nil, length-append}
+use Rattle.std.specs.Prelude.{◌==◌, ◌&&◌, bytes_eq}
 use Rattle.std.specs.List.{list_any}
 use Rattle.std.proofs.lemmas.Bool.{and_parts, eqb-false}
 use Rattle.std.proofs.lemmas.List.Elements.{All-nil, All-push, All-same}
@@ -8,25 +8,22 @@ use Rattle.std.proofs.lemmas.Slice.Eq.{bytes_eq-Decides}
 use Rattle.pg_word.specs.declared.shape.Shape.{Shape}
 use Rattle.pg_ast.specs.declared.tree.Desc.{Desc}
 use Rattle.pg_meaning.specs.States.{shape_of}
-use Rattle.pg_ask.specs.Question.{question}
 use Rattle.pg_cert.specs.declared.cert.Family.{Family}
 use Rattle.pg_cert.specs.declared.cert.Family.TheVariants.{Plain, Hybrid}
-use Rattle.pg_cert.specs.declared.cert.Cert.{Cert}
 use Rattle.pg_cert.specs.declared.line.Line.{Line}
 use Rattle.pg_cert.specs.declared.line.Line.TheVariants as line
 use Rattle.pg_cert.specs.Lines.{line_text, is_line, IsLine}
 use Rattle.pg_cert.specs.Reading.{read_parts}
 use Rattle.pg_cert.specs.Parsing.{Said, Says, NoToken, NoForm, OtherVersion, is_foreign, before_end, parts_of, is_first, said_of_no_line, said_of_read, said}
-use Rattle.pg_cert.specs.Verdicts.{mark_of, kind_count}
-use Rattle.pg_cert.specs.Texts.{findings_lines, cert_lines, lines_text, cert_text}
+use Rattle.pg_cert.specs.Texts.{findings_lines, cert_lines, lines_text}
 use Rattle.pg_verify.specs.declared.fault.VerifyFault.{VerifyFault}
 use Rattle.pg_verify.specs.declared.fault.VerifyFault.TheVariants as fault
-use Rattle.pg_verify.specs.Reader.{Open, Fresh, Between, Refuting, Showing, Spending, Ended, Mark, Progress, Reader}
-use Rattle.pg_verify.specs.Taking.{then_take, misplaced, is_first_due, after_form, after_said, after_line}
-use Rattle.pg_verify.specs.Feeding.{most_bytes, begun, taken_byte, fed_byte, fed, or_misplaced, without_end, at_end, at_rest, finished, verified, kept}
-use Rattle.pg_verify.specs.Verified.{AreListed, IsValidOf, Spells}
-use Rattle.pg_verify.proofs.Standing.{IsFront, IsEndedAt, IsAt, Keeps, Stands}
-use Rattle.pg_verify.proofs.StepLemmas.{same_ok, no_ok, Taken, taken}
+use Rattle.pg_verify.specs.Reader.{Open, Fresh, Between, Refuting, Showing, Spending, Ended, Progress, Reader}
+use Rattle.pg_verify.specs.Taking.{is_first_due, after_said, after_line}
+use Rattle.pg_verify.specs.Feeding.{most_bytes, begun, fed_byte, fed, or_misplaced, at_end, at_rest, finished, verified}
+use Rattle.pg_verify.specs.Verified.{Spells}
+use Rattle.pg_verify.proofs.Standing.{IsEndedAt, IsAt, Stands}
+use Rattle.pg_verify.proofs.StepLemmas.{same_ok, no_ok, taken}
 use Rattle.pg_verify.proofs.FormLemmas.{form_kept}
 use Rattle.pg_verify.proofs.CloseLemmas.{length-marks}
 
@@ -78,6 +75,7 @@ line_read p q lines bytes h e = by (said (shape_of p.desc) bytes) refl e
     other : {P : Type 0} (b : Bool) (f g : VerifyFault) → ◌≡◌ {A = Reader} (if b then Err f else Err g) (Ok q) → P
     other true f g e = no_ok f q e
     other false f g e = no_ok g q e
+
     by : (s : Said) → said (shape_of p.desc) bytes ≡ s → after_said (record p { lines = suc p.lines }) s ≡ Ok q → IsLineRead p q lines bytes
     by (Says l) es e =
         let spelled = said_is_spelled (shape_of p.desc) bytes l es in
@@ -125,8 +123,8 @@ module _ (d : Desc) (family : Family) where
         fed_is = k.fed ∙ ap suc h.fed_is ∙ omega arith;
         within = omega (arith, room, fed, most, len);
         text =
-          text ∙ ap (λ x. lines_text (shape_of x) (h.lines ++ r.line ∷ [])) (sym k.desc) ∙ sym (append-nil (lines_text (shape_of q.desc) (h.lines ++ r.line ∷ [])))
-          ∙ ap (λ bs. lines_text (shape_of q.desc) (h.lines ++ r.line ∷ []) ++ bs) (sym k.rest);
+            text ∙ ap (λ x. lines_text (shape_of x) (h.lines ++ r.line ∷ [])) (sym k.desc) ∙ sym (append-nil (lines_text (shape_of q.desc) (h.lines ++ r.line ∷ [])))
+            ∙ ap (λ bs. lines_text (shape_of q.desc) (h.lines ++ r.line ∷ []) ++ bs) (sym k.rest);
         in_range = subst (λ x. All (IsLine (shape_of x)) (h.lines ++ r.line ∷ [])) (sym k.desc) (All-push (IsLine (shape_of p.desc)) h.lines r.line h.in_range r.in_range);
         at = r.stands.at;
       }
@@ -151,6 +149,7 @@ module _ (d : Desc) (family : Family) where
             in_range = h.in_range;
             at = h.at;
           }
+
       by : (full ends : Bool) → (p.fed == most_bytes) ≡ full →
           (if full then Err fault.Long
           else (if ends then after_line (record p { fed = suc p.fed; rest = [] }) (p.rest ++ c ∷ []) else Ok (record p { fed = suc p.fed; rest = p.rest ++ c ∷ [] }))) ≡ Ok q → IsRead d family (bytes ++ c ∷ []) q
@@ -188,6 +187,7 @@ module _ (d : Desc) (family : Family) where
       at_ended (Showing header pair) eo er e = never _ _ p e
       at_ended (Spending header budget count log) eo er e = never _ _ p e
       at_ended Ended eo er e = record { same = same_ok q p e; rest = er; opened = eo }
+
       by : (rest : List ℕ) → q.rest ≡ rest → at_rest q rest ≡ Ok p → IsDone q p
       by [] er e = at_ended q.opened refl er e
       by (c ∷ cs) er e = never _ _ p e

@@ -1,10 +1,9 @@
 -- The lines of a state are taken, row by row, and give it back.
-use Rattle.std.proofs.Common.{◌≡◌, ◌≢◌, ◌⊎◌, inl, inr, ℕ, zero, suc, ◌+◌, ◌-◌, ◌*◌, ◌/◌, ◌<◌, ◌≤◌, min, Bool, true, false, if◌then◌else◌, List, [], ◌∷◌, ◌++◌, length, get_or, Option, None, Some, Result, Ok, All, refl, sym, ap, subst, ◌∙◌, arith, append-nil}
-use Rattle.std.specs.Prelude.{◌==◌, ◌&&◌, nat_lt}
+use Rattle.std.proofs.Common.{◌≡◌, ◌≢◌, ◌⊎◌, inl, inr, ℕ, zero, suc, ◌+◌, ◌-◌, ◌*◌, ◌<◌, ◌≤◌, min, Bool, true, false, if◌then◌else◌, List, [], ◌∷◌, ◌++◌, length, get_or, Option, None, Some, Ok, All, refl, sym, ap, subst, ◌∙◌, arith, append-nil}
+use Rattle.std.specs.Prelude.{◌==◌, nat_lt}
 use Rattle.std.specs.List.{list_all}
-use Rattle.std.proofs.lemmas.Bool.{cases_lt, and_from, and_parts, eq-eqb, eqb-true, lt-ltb}
+use Rattle.std.proofs.lemmas.Bool.{cases_lt, and_from, and_parts, eq-eqb, lt-ltb}
 use Rattle.std.proofs.lemmas.Grind.{same_number_lists}
-use Rattle.std.proofs.lemmas.List.{get_or_past}
 use Rattle.std.proofs.lemmas.List.Elements.{All-nil, All-append, All-weaker}
 use Rattle.std.proofs.lemmas.List.Sums.{list_all-from_AllPass}
 use Rattle.pg_word.specs.Shape.{IsShape}
@@ -20,10 +19,10 @@ use Rattle.pg_cert.specs.declared.line.Line.{Line}
 use Rattle.pg_cert.specs.declared.line.Line.TheVariants as line
 use Rattle.pg_cert.specs.Lines.{line_text}
 use Rattle.pg_cert.specs.Texts.{row_lines, rows_before, state_lines, lines_text}
-use Rattle.pg_verify.specs.Reader.{Drawn, Pair, NoState, FirstSize, FirstState, SecondSize, BothStates, Open, Showing, Mark, Progress}
+use Rattle.pg_verify.specs.Reader.{Drawn, Pair, FirstState, BothStates, Open, Showing, Mark}
 use Rattle.pg_verify.specs.Taking.{reopened, with_size, with_psw, drawn, listed, row_fits, with_row, as_first, as_second, with_cells, shown_on, after_state_line, after_form}
 use Rattle.pg_verify.specs.Feeding.{drawn_of}
-use Rattle.pg_verify.proofs.RowLemmas.{listed_from, listed_until, listed_more, within_more, other_kept, more_kept, apart_above, apart_below, row_holds, zero_or_past, words_at, length-words}
+use Rattle.pg_verify.proofs.RowLemmas.{listed_from, listed_until, listed_more, within_more, other_kept, more_kept, apart_above, apart_below, row_holds, words_at, length-words}
 use Rattle.pg_verify.proofs.ReachLemmas.{spot, Fits, fits_front, fits_back, Reaches, reaches_none, reaches_then, reaches_cons}
 
 -- ---- the cells of the first rows
@@ -60,6 +59,7 @@ module _ (size : ℕ) (storage : List ℕ) (len : length storage ≡ size) where
     where
       none : size ≤ 8 * k → line_words k storage ≡ []
       none l = let n = length-words storage k in same_number_lists (line_words k storage) [] (omega arith) (λ i m. absurd (omega arith))
+
       by : (8 * k < size) ⊎ (size ≤ 8 * k) → AreWithin size (cells_before k storage) → AreWithin size (cells_before k storage ++ listed (8 * k) (line_words k storage))
       by (inl l) h = let n = length-words storage k in within_more size (8 * k) (line_words k storage) (cells_before k storage) h (omega arith)
       by (inr l) h = subst (λ ws. AreWithin size (cells_before k storage ++ listed (8 * k) ws)) (sym (none l)) (subst (λ cs. AreWithin size cs) (sym (append-nil (cells_before k storage))) h)
@@ -152,6 +152,7 @@ module _ (d : Desc) (numbers : IsShape (shape_of d)) (family : Family) (removes 
       where
         same : list_all (λ w. w == 0) (line_words k storage) ≡ true → cells_before k storage ≡ cells_before (suc k) storage
         same z = sym (ap (λ cs. cells_before k storage ++ cs) (zeros_listed (8 * k) (line_words k storage) z) ∙ append-nil (cells_before k storage))
+
         by : (b : Bool) → list_all (λ w. w == 0) (line_words k storage) ≡ b → Fits d j (if b then [] else line.Cells (8 * k) (line_words k storage) ∷ []) →
             Reaches d family removes (spot d family removes marks (Showing header (inject (rows_drawn k))) n j) (if b then [] else line.Cells (8 * k) (line_words k storage) ∷ []) (IsShowing (inject (rows_drawn (suc k))))
         by true z fits =
@@ -174,8 +175,8 @@ module _ (d : Desc) (numbers : IsShape (shape_of d)) (family : Family) (removes 
         reaches_then d numbers family removes removes (spot d family removes marks (Showing header (inject (drawn size psw))) n j) (rows_before k storage) (row_lines (8 * k) (line_words k storage)) (IsShowing (inject (rows_drawn k))) (IsShowing (inject (rows_drawn (suc k))))
         (rows_reach k n j (fits_front d j (rows_before k storage) (row_lines (8 * k) (line_words k storage)) fits))
         (λ ms o m h.
-          from_showing (inject (rows_drawn k)) ms o m (j + length (lines_text (shape_of d) (rows_before k storage))) (row_lines (8 * k) (line_words k storage)) (IsShowing (inject (rows_drawn (suc k)))) h
-          (row_reaches k m (j + length (lines_text (shape_of d) (rows_before k storage))) (fits_back d j (rows_before k storage) (row_lines (8 * k) (line_words k storage)) fits)))
+        from_showing (inject (rows_drawn k)) ms o m (j + length (lines_text (shape_of d) (rows_before k storage))) (row_lines (8 * k) (line_words k storage)) (IsShowing (inject (rows_drawn (suc k)))) h
+        (row_reaches k m (j + length (lines_text (shape_of d) (rows_before k storage))) (fits_back d j (rows_before k storage) (row_lines (8 * k) (line_words k storage)) fits)))
 
   -- a state, from the pair that waits for its size on
   pub state_reaches : (inject : Drawn → Pair) (place : IsPlace inject) (p q : Pair) (s : Sparse) (n j : ℕ) → IsCellList s.cells → with_size s.size p ≡ Some q → with_psw s.psw q ≡ Some (inject (drawn s.size s.psw)) → Fits d j (state_lines s) →
@@ -187,6 +188,6 @@ module _ (d : Desc) (numbers : IsShape (shape_of d)) (family : Family) (removes 
       reaches_cons d numbers family removes removes removes marks marks (Showing header p) (Showing header q) n j (line.Size s.size) (line.Psw s.psw ∷ rows) (IsShowing (inject (drawn_of s))) fits
       (λ i. size_taken (suc n) i s.size p q es)
       (λ f. reaches_cons d numbers family removes removes removes marks marks (Showing header q) (Showing header (inject (drawn s.size s.psw))) (suc n) _ (line.Psw s.psw) rows (IsShowing (inject (drawn_of s))) f
-        (λ i. psw_taken (suc (suc n)) i s.psw q (inject (drawn s.size s.psw)) ep)
-        (λ g. subst (λ x. Reaches d family removes (spot d family removes marks (Showing header (inject (drawn s.size s.psw))) (suc (suc n)) (j + length (line_text (shape_of d) (line.Size s.size)) + length (line_text (shape_of d) (line.Psw s.psw)))) rows (IsShowing x)) all
-          (rows_reach inject place s.size s.psw (storage_of s.size s.cells) (length-storage_of s.size s.cells) (line_count s.size) (suc (suc n)) (j + length (line_text (shape_of d) (line.Size s.size)) + length (line_text (shape_of d) (line.Psw s.psw))) g)))
+      (λ i. psw_taken (suc (suc n)) i s.psw q (inject (drawn s.size s.psw)) ep)
+      (λ g. subst (λ x. Reaches d family removes (spot d family removes marks (Showing header (inject (drawn s.size s.psw))) (suc (suc n)) (j + length (line_text (shape_of d) (line.Size s.size)) + length (line_text (shape_of d) (line.Psw s.psw)))) rows (IsShowing x)) all
+      (rows_reach inject place s.size s.psw (storage_of s.size s.cells) (length-storage_of s.size s.cells) (line_count s.size) (suc (suc n)) (j + length (line_text (shape_of d) (line.Size s.size)) + length (line_text (shape_of d) (line.Psw s.psw))) g)))

@@ -1,9 +1,8 @@
 -- The text of a valid certificate is taken.
-use Rattle.std.proofs.Common.{◌≡◌, ◌⊎◌, inl, inr, ℕ, zero, suc, ◌+◌, ◌*◌, ◌<◌, ◌≤◌, Bool, true, false, if◌then◌else◌, List, [], ◌∷◌, ◌++◌, length, map, get_or, Option, None, Some, Result, Ok, Err, All, refl, sym, ap, subst, ◌∙◌, arith, append_assoc, append-nil, length-append, slice_get}
-use Rattle.std.specs.Prelude.{◌==◌, ◌&&◌}
+use Rattle.std.proofs.Common.{◌≡◌, ◌⊎◌, inl, inr, ℕ, suc, ◌+◌, ◌*◌, ◌<◌, ◌≤◌, Bool, true, false, if◌then◌else◌, List, [], ◌∷◌, ◌++◌, length, map, get_or, None, Some, Ok, All, refl, sym, ap, subst, ◌∙◌, arith, append_assoc, append-nil, length-append, slice_get}
 use Rattle.std.proofs.lemmas.Bool.{eq-eqb}
 use Rattle.std.proofs.lemmas.List.{length-map}
-use Rattle.std.proofs.lemmas.List.Elements.{All-head, All-tail, All-same}
+use Rattle.std.proofs.lemmas.List.Elements.{All-head, All-tail}
 use Rattle.std.proofs.lemmas.Option.{slice_get_cases}
 use Rattle.pg_word.specs.Shape.{IsShape}
 use Rattle.pg_ast.specs.declared.tree.Instr.{Instr}
@@ -17,16 +16,13 @@ use Rattle.pg_cert.specs.declared.cert.Family.TheVariants.{Plain, Hybrid}
 use Rattle.pg_cert.specs.declared.cert.Finding.{Finding}
 use Rattle.pg_cert.specs.declared.cert.Cert.{Cert}
 use Rattle.pg_cert.specs.declared.line.Heading.{Heading}
-use Rattle.pg_cert.specs.declared.line.Heading.TheVariants.{PlainOne, PlainTwo, HybridOne}
-use Rattle.pg_cert.specs.declared.line.Line.{Line}
 use Rattle.pg_cert.specs.declared.line.Line.TheVariants as line
 use Rattle.pg_cert.specs.Verdicts.{kind_count, mark_of}
-use Rattle.pg_cert.specs.Lines.{IsLine, line_text}
+use Rattle.pg_cert.specs.Lines.{line_text}
 use Rattle.pg_cert.specs.Texts.{family_of, instr_of, kind_of, finding_lines, findings_lines, cert_lines, lines_text, cert_text}
 use Rattle.pg_cert.specs.Validity.{may_remove, IsValidFinding}
-use Rattle.pg_verify.specs.declared.fault.VerifyFault.{VerifyFault}
 use Rattle.pg_verify.specs.Reader.{Open, Fresh, Between, Ended, Mark, Progress}
-use Rattle.pg_verify.specs.Taking.{then_take, misplaced, missing, with_open, may_close, closed, all_findings, ended, after_end, is_first_due, same_family, after_first, after_form}
+use Rattle.pg_verify.specs.Taking.{then_take, misplaced, missing, with_open, closed, ended, after_end, same_family, after_first, after_form}
 use Rattle.pg_verify.specs.Feeding.{most_bytes, begun, fed, finished, verified, kept}
 use Rattle.pg_verify.specs.Verified.{AreListed, IsValidOf, IsTaken}
 use Rattle.pg_verify.proofs.ReachLemmas.{spot, Fits, fits_front, fits_back, Reaches, reaches_none, reaches_then, reaches_cons}
@@ -73,25 +69,28 @@ module _ (d : Desc) (valid : IsValid d) (numbers : IsShape (shape_of d)) (family
     where
       below : length to < length d.instrs * kind_count family
       below = omega arith
+
       split : Fits d k (finding_lines d family m f ++ findings_lines d family (suc m) fs)
       split = subst (λ ls. Fits d k ls) (findings_lines-cons d family m f fs) fits
+
       later : IsReady d family removes ((to ++ kept (mark_of f) ∷ []) ++ marks_of fs) ≡ IsReady d family removes (to ++ marks_of (f ∷ fs))
       later = ap (λ ms. IsReady d family removes ms) (append_assoc to (kept (mark_of f) ∷ []) (marks_of fs))
+
       by : ((x : Instr) × (instr_of family (length to) < length d.instrs) × (slice_get d.instrs (instr_of family (length to)) ≡ Some x) × (get_or d.instrs (instr_of family (length to)) x ≡ x))
           ⊎ ((length d.instrs ≤ instr_of family (length to)) × (slice_get d.instrs (instr_of family (length to)) ≡ None)) →
           ((ms : List Mark) (x : Open) (j i : ℕ) → IsReady d family removes (to ++ kept (mark_of f) ∷ []) ms x → Fits d i (findings_lines d family (suc m) fs) →
-            Reaches d family removes (spot d family removes ms x j i) (findings_lines d family (suc m) fs) (IsReady d family removes ((to ++ kept (mark_of f) ∷ []) ++ marks_of fs))) →
+          Reaches d family removes (spot d family removes ms x j i) (findings_lines d family (suc m) fs) (IsReady d family removes ((to ++ kept (mark_of f) ∷ []) ++ marks_of fs))) →
           Reaches d family removes (spot d family removes from o n k) (findings_lines d family m (f ∷ fs)) (IsReady d family removes (to ++ marks_of (f ∷ fs)))
       by (inl there) rest =
           subst (λ ls. Reaches d family removes (spot d family removes from o n k) ls (IsReady d family removes (to ++ marks_of (f ∷ fs)))) (sym (findings_lines-cons d family m f fs))
           (reaches_then d numbers family removes removes (spot d family removes from o n k) (finding_lines d family m f) (findings_lines d family (suc m) fs)
-            (IsReady d family removes (to ++ kept (mark_of f) ∷ [])) (IsReady d family removes (to ++ marks_of (f ∷ fs)))
-            (subst (λ j. Reaches d family removes (spot d family removes from o n k) (finding_lines d family j f) (IsReady d family removes (to ++ kept (mark_of f) ∷ []))) len
-              (finding_reaches d valid numbers family heading to from o n k there.0 ready there.1 there.2 f
-                (due_first (length to) f fs there.0 (subst (λ j. AreDue j (f ∷ fs)) (sym len) due) there.2) (All-head AreListed f fs listed)
-                (subst (λ j. Fits d k (finding_lines d family j f)) (sym len) (fits_front d k (finding_lines d family m f) (findings_lines d family (suc m) fs) split))))
-            (λ ms x j r. subst (λ P. Reaches d family removes (spot d family removes ms x j (k + length (lines_text (shape_of d) (finding_lines d family m f)))) (findings_lines d family (suc m) fs) P) later
-              (rest ms x j (k + length (lines_text (shape_of d) (finding_lines d family m f))) r (fits_back d k (finding_lines d family m f) (findings_lines d family (suc m) fs) split))))
+          (IsReady d family removes (to ++ kept (mark_of f) ∷ [])) (IsReady d family removes (to ++ marks_of (f ∷ fs)))
+          (subst (λ j. Reaches d family removes (spot d family removes from o n k) (finding_lines d family j f) (IsReady d family removes (to ++ kept (mark_of f) ∷ []))) len
+          (finding_reaches d valid numbers family heading to from o n k there.0 ready there.1 there.2 f
+          (due_first (length to) f fs there.0 (subst (λ j. AreDue j (f ∷ fs)) (sym len) due) there.2) (All-head AreListed f fs listed)
+          (subst (λ j. Fits d k (finding_lines d family j f)) (sym len) (fits_front d k (finding_lines d family m f) (findings_lines d family (suc m) fs) split))))
+          (λ ms x j r. subst (λ P. Reaches d family removes (spot d family removes ms x j (k + length (lines_text (shape_of d) (finding_lines d family m f)))) (findings_lines d family (suc m) fs) P) later
+          (rest ms x j (k + length (lines_text (shape_of d) (finding_lines d family m f))) r (fits_back d k (finding_lines d family m f) (findings_lines d family (suc m) fs) split))))
       by (inr past) rest = absurd (let s = instr_small family (length to) (length d.instrs) below in omega (arith, s, past.0))
 
   -- ---- the first line and the last
@@ -140,10 +139,10 @@ module _ (d : Desc) (valid : IsValid d) (numbers : IsShape (shape_of d)) (family
       reaches_cons d numbers family removes false removes [] [] Fresh Between 0 0 (line.First heading) (findings_lines d family 0 fs ++ line.End ∷ []) (IsWhole (marks_of fs)) fits
       (λ j. first_taken 1 j e)
       (λ g. reaches_then d numbers family removes removes (spot d family removes [] Between 1 (0 + length (line_text (shape_of d) (line.First heading)))) (findings_lines d family 0 fs) (line.End ∷ [])
-        (IsReady d family removes (marks_of fs)) (IsWhole (marks_of fs))
-        (findings_reach fs 0 [] [] Between 1 (0 + length (line_text (shape_of d) (line.First heading))) refl (between_ready []) due listed (omega arith)
-          (fits_front d (0 + length (line_text (shape_of d) (line.First heading))) (findings_lines d family 0 fs) (line.End ∷ []) g))
-        (λ ms o n r. end_reaches (marks_of fs) ms o n _ r many (fits_back d (0 + length (line_text (shape_of d) (line.First heading))) (findings_lines d family 0 fs) (line.End ∷ []) g)))
+      (IsReady d family removes (marks_of fs)) (IsWhole (marks_of fs))
+      (findings_reach fs 0 [] [] Between 1 (0 + length (line_text (shape_of d) (line.First heading))) refl (between_ready []) due listed (omega arith)
+      (fits_front d (0 + length (line_text (shape_of d) (line.First heading))) (findings_lines d family 0 fs) (line.End ∷ []) g))
+      (λ ms o n r. end_reaches (marks_of fs) ms o n _ r many (fits_back d (0 + length (line_text (shape_of d) (line.First heading))) (findings_lines d family 0 fs) (line.End ∷ []) g)))
 
 ended_finished : (d : Desc) (family : Family) (removes : Bool) (marks : List Mark) (n k : ℕ) → finished (spot d family removes marks Ended n k) ≡ Ok (spot d family removes marks Ended n k)
 unfolding finished
@@ -158,18 +157,18 @@ valid_texts_are_taken d heading cert valid h room =
     let numbers : IsShape (shape_of d) = IsShape-of_valid d valid in
     let bytes : ℕ = 0 + length (cert_text d heading cert) in
     let due : (j : ℕ) (f : Finding) (i : Instr) → slice_get cert.findings j ≡ Some f → slice_get d.instrs (instr_of cert.family (0 + j)) ≡ Some i →
-        IsValidFinding (question d i (kind_of cert.family (0 + j))) heading d i (kind_of cert.family (0 + j)) f =
+    IsValidFinding (question d i (kind_of cert.family (0 + j))) heading d i (kind_of cert.family (0 + j)) f =
     (λ j f i get at.
-      let e : j ≡ 0 + j = omega arith in
-      subst (λ m. IsValidFinding (question d i (kind_of cert.family m)) heading d i (kind_of cert.family m) f) e (h.valid.each j f i get (ap (λ m. slice_get d.instrs (instr_of cert.family m)) e ∙ at))) in
+    let e : j ≡ 0 + j = omega arith in
+    subst (λ m. IsValidFinding (question d i (kind_of cert.family m)) heading d i (kind_of cert.family m) f) e (h.valid.each j f i get (ap (λ m. slice_get d.instrs (instr_of cert.family m)) e ∙ at))) in
     let fits : Fits d 0 (cert_lines d heading cert) = record { within = omega arith; in_range = h.in_range } in
     let reach = cert_reaches d valid numbers cert.family heading cert.findings h.valid.family due h.listed h.valid.whole fits in
     let removes : Bool = may_remove heading in
     record {
       progress = spot d cert.family removes reach.marks Ended reach.lines bytes;
       taken =
-        verified_is d cert.family (cert_text d heading cert) (spot d cert.family removes reach.marks reach.opened reach.lines bytes) (spot d cert.family removes reach.marks Ended reach.lines bytes) reach.was
-        (ap (λ o. spot d cert.family removes reach.marks o reach.lines bytes) reach.is.is) (ended_finished d cert.family removes reach.marks reach.lines bytes);
+          verified_is d cert.family (cert_text d heading cert) (spot d cert.family removes reach.marks reach.opened reach.lines bytes) (spot d cert.family removes reach.marks Ended reach.lines bytes) reach.was
+          (ap (λ o. spot d cert.family removes reach.marks o reach.lines bytes) reach.is.is) (ended_finished d cert.family removes reach.marks reach.lines bytes);
       family = refl;
       marks = reach.is.marks_are;
     }
