@@ -5,3 +5,6 @@ pub mod Walks
 pub mod Spacing
 pub mod LineLemmas
 pub mod Said
+pub mod RowLemmas
+pub mod TextLemmas
+pub mod StateText

@@ -1,5 +1,5 @@
 -- What follows of a line that is in range.
-use Rattle.std.proofs.Common.{◌≡◌, ℕ, ◌^◌, ◌<◌, ◌%◌, Bool, List, length, get_or}
+use Rattle.std.proofs.Common.{◌^◌, ◌%◌, Bool, length, get_or}
 use Rattle.std.specs.Prelude.{◌==◌, ◌&&◌, not, nat_lt, nat_le}
 use Rattle.std.specs.List.{list_any, list_all}
 use Rattle.std.proofs.lemmas.Bool.{and_parts, ltb-true}

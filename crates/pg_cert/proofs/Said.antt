@@ -1,5 +1,5 @@
 -- The text of a line in range is what its bytes say, and nothing else says the line. LF is its last byte, and no other.
-use Rattle.std.proofs.Common.{◌≡◌, ◌≢◌, ℕ, ◌-◌, Bool, true, false, cond, not, List, [], ◌∷◌, ◌++◌, length, get_or, All, Some, None, Option, refl, sym, ap, ◌∙◌, arith, length-append, eq-eqb}
+use Rattle.std.proofs.Common.{◌≡◌, ◌≢◌, ℕ, ◌-◌, Bool, true, false, cond, List, [], ◌∷◌, ◌++◌, length, get_or, All, Some, None, Option, refl, sym, ap, ◌∙◌, arith, length-append, eq-eqb}
 use Rattle.std.specs.Prelude.{◌==◌, ◌&&◌, bytes_eq}
 use Rattle.std.specs.List.{list_any, list_all, join_with_byte}
 use Rattle.std.proofs.lemmas.Bool.{and_from, and_parts, or_from}
@@ -13,7 +13,7 @@ use Rattle.pg_cert.specs.declared.cert.Family.TheVariants.{Plain, Hybrid}
 use Rattle.pg_cert.specs.declared.line.Line.{Line}
 use Rattle.pg_cert.specs.Lines.{line_parts, line_text, is_line, IsLine}
 use Rattle.pg_cert.specs.Reading.{read_parts, but_last, last_byte}
-use Rattle.pg_cert.specs.Parsing.{Said, Says, NoToken, NoForm, OtherVersion, is_foreign, before_end, parts_of, is_first, said_of_no_line, said_of_read, said}
+use Rattle.pg_cert.specs.Parsing.{Says, NoToken, NoForm, OtherVersion, is_foreign, before_end, parts_of, is_first, said_of_no_line, said_of_read, said}
 use Rattle.pg_cert.proofs.OneText.{is_graphic, graphic, line_graphic, but_last-push, read_text-line}
 
 -- ---- the bytes of a text

@@ -1,5 +1,5 @@
 -- The text of a certificate: its lines in order.
-use Rattle.std.specs.Prelude.{⊤, ℕ, zero, suc, ◌*◌, ◌^◌, ◌<◌, ◌/◌, ◌%◌, ◌==◌, if◌then◌else◌, List, [], ◌∷◌, ◌++◌, map, slice_index_or}
+use Rattle.std.specs.Prelude.{◌+◌, ◌≤◌, ⊤, ℕ, zero, suc, ◌*◌, ◌^◌, ◌<◌, ◌/◌, ◌%◌, ◌==◌, if◌then◌else◌, List, [], ◌∷◌, ◌++◌, map, slice_index_or}
 use Rattle.std.specs.List.{All, list_all}
 use Rattle.pg_word.specs.declared.shape.Shape.{Shape}
 use Rattle.pg_word.specs.declared.sparse.Sparse.{Sparse}
@@ -41,6 +41,10 @@ rows_before (suc k) cells = rows_before k cells ++ row_lines (line_cells * k) (l
 abbrev pub rows_of : ℕ → List (ℕ × ℕ) → List Line
 rows_of size cells = rows_before (line_count size) (storage_of size cells)
 
+-- cells of a storage of so many that stand in the row from cell `first` on
+abbrev pub AreInRow : ℕ → ℕ → List (ℕ × ℕ) → Type 0
+AreInRow size first cells = All (λ cell. (first ≤ cell.0) × (cell.0 < first + line_cells) × (cell.0 < size)) cells
+
 -- a state: its size, its program status word, and its cells that are not zero
 abbrev pub state_lines : Sparse → List Line
 state_lines s = Size s.size ∷ Psw s.psw ∷ rows_of s.size s.cells
@@ -72,8 +76,12 @@ kind_of family n = slice_index_or (kinds_of family) (n % kind_count family) Priv
 abbrev pub name_of : Desc → ℕ → List ℕ
 name_of d instr = slice_index_or (instr_names d.instrs) instr []
 
+-- the lines of a finding of an instruction of this name
+abbrev pub named_lines : List ℕ → Kind → Finding → List Line
+named_lines name kind f = Header name kind (found_of f) ∷ body_lines f
+
 abbrev pub finding_lines : Desc → Family → ℕ → Finding → List Line
-finding_lines d family n f = Header (name_of d (instr_of family n)) (kind_of family n) (found_of f) ∷ body_lines f
+finding_lines d family n f = named_lines (name_of d (instr_of family n)) (kind_of family n) f
 
 -- findings from number n on
 unfoldable pub findings_lines : Desc → Family → ℕ → List Finding → List Line

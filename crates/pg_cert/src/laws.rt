@@ -4,10 +4,14 @@ ghost use Rattle.std.specs.Prelude.{◌≡◌, ◌≢◌, ℕ, ◌==◌, List, [
 ghost use Rattle.std.specs.List.{All, slice_split};
 ghost use Rattle.pg_word.specs.Shape.{IsShape};
 ghost use Rattle.pg_word.specs.declared.shape.Shape.{Shape};
+ghost use Rattle.pg_word.specs.declared.sparse.Sparse.{Sparse};
+ghost use Rattle.pg_word.specs.Sparse.{storage_of};
+ghost use Rattle.pg_image.specs.Lines.{state_text};
 ghost use Rattle.pg_cert.specs.declared.line.Line.{Line};
 ghost use Rattle.pg_cert.specs.Lines.{line_text, IsLine};
 ghost use Rattle.pg_cert.specs.Reading.{read_parts, but_last};
 ghost use Rattle.pg_cert.specs.Parsing.{Says, said};
+ghost use Rattle.pg_cert.specs.Texts.{state_lines, lines_text};
 
 /// What is read of the parts of a line's text, which stand between its spaces, is the line.
 pub fn lines_are_read()
@@ -34,4 +38,9 @@ pub fn said_lines_are_spelled()
 pub fn lines_end_once()
     ensures ends { (shape : Shape) (line : Line) → line_text shape line ≡ but_last (line_text shape line) ++ 10 ∷ [] }
     ensures once { (shape : Shape) → IsShape shape → (line : Line) → IsLine shape line → All (λ c. c ≢ 10) (but_last (line_text shape line)) }
+{}
+
+/// The lines of a state are the text by which states are shown.
+pub fn states_are_shown()
+    ensures { (shape : Shape) (s : Sparse) → lines_text shape (state_lines s) ≡ state_text shape.w (storage_of s.size s.cells) s.psw }
 {}

@@ -9,6 +9,7 @@
 //! - `cert`: findings. `report`: their marks, and the verdict.
 //! - `line`: what a line of a certificate's text says. `parts`: its parts. `reading`: what they are read as. `ranges`:
 //!   whether its numbers are in range. `put`: its text. `parse`: the line that bytes say.
+//! - `rows`: the cells of a state, row by row. `text`: the text of a certificate.
 //! - `laws`: what follows from the definitions alone.
 //!
 //! What a finding means is `pg_proof`'s and `pg_type`'s to say. Nothing here tests one.
@@ -23,8 +24,11 @@ pub mod put;
 pub mod ranges;
 pub mod reading;
 mod report;
+pub mod rows;
+mod text;
 
 pub use cert::{Cert, Family, Finding, FindingList, StepList};
 pub use line::{Found, Heading, Line};
 pub use parse::{LineFault, parse_line};
 pub use report::{Mark, MarkList, Report, Verdict, report_of};
+pub use text::{put_finding, put_state, write};

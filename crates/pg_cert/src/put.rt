@@ -1,7 +1,7 @@
 //! Lines as text, put at the end of bytes.
 //!
 //! Each function takes the parts of one line by reference, so that nothing is copied to be written. The only memory is that
-//! of the bytes, and each error is want of it: what stands at their end then is a front of the text, and no line.
+//! of the bytes, and each error is want of it, after which nothing is said of what was put.
 
 ghost use Rattle.std.specs.Prelude.{◌≡◌, ◌+◌, ◌/◌, ◌%◌, ◌^◌, ◌<◌, ◌≤◌, ◌++◌, ◌∷◌, [], All, map, pos, OnOk};
 ghost use Rattle.std.specs.Fmt.{decimal, signed_decimal};
@@ -18,7 +18,7 @@ use pg_word::{Mode, Psw, Shape};
 use std::alloc::AllocError;
 
 /// Puts bytes.
-fn put(into: &mut Vec<u8>, bytes: &[u8]) -> Result<(), AllocError>
+fn put(bytes: &[u8], into: &mut Vec<u8>) -> Result<(), AllocError>
     ensures { OnOk result (into.new.items ≡ into.old.items ++ bytes.now) }
 {
     into.extend_from_slice(bytes)
@@ -28,11 +28,11 @@ fn put(into: &mut Vec<u8>, bytes: &[u8]) -> Result<(), AllocError>
 fn put_line_end(into: &mut Vec<u8>) -> Result<(), AllocError>
     ensures { OnOk result (into.new.items ≡ into.old.items ++ 10 ∷ []) }
 {
-    put(into, b"\n")
+    put(b"\n", into)
 }
 
 /// Puts a space and bytes.
-fn put_part(into: &mut Vec<u8>, part: &[u8]) -> Result<(), AllocError>
+fn put_part(part: &[u8], into: &mut Vec<u8>) -> Result<(), AllocError>
     ensures { OnOk result (into.new.items ≡ into.old.items ++ 32 ∷ part.now) }
 {
     into.push(b' ')?;
@@ -40,48 +40,48 @@ fn put_part(into: &mut Vec<u8>, part: &[u8]) -> Result<(), AllocError>
 }
 
 /// Puts a space and a number, as decimal digits.
-fn put_number(into: &mut Vec<u8>, number: u32) -> Result<(), AllocError>
+fn put_number(number: u32, into: &mut Vec<u8>) -> Result<(), AllocError>
     ensures { OnOk result (into.new.items ≡ into.old.items ++ 32 ∷ decimal number) }
 {
-    put_part(into, dec(u64::from(number)).as_slice())
+    put_part(dec(u64::from(number)).as_slice(), into)
 }
 
 /// Puts a space and numbers, one space before each.
 #[tactic(auto, unfolding(crate::specs::Lines::spaced))]
-fn put_numbers(into: &mut Vec<u8>, numbers: &[u32]) -> Result<(), AllocError>
+fn put_numbers(numbers: &[u32], into: &mut Vec<u8>) -> Result<(), AllocError>
     ensures { OnOk result (into.new.items ≡ into.old.items ++ spaced (map decimal numbers.now)) }
 {
     for number in numbers {
-        put_number(into, *number)?;
+        put_number(*number, into)?;
     }
     Ok(())
 }
 
 /// Puts a space, the sign of a literal where it is a negation, and its variable.
-fn put_lit(into: &mut Vec<u8>, lit: i32) -> Result<(), AllocError>
+fn put_lit(lit: i32, into: &mut Vec<u8>) -> Result<(), AllocError>
     ensures { OnOk result (into.new.items ≡ into.old.items ++ 32 ∷ signed_decimal lit) }
 {
     if lit < 0 {
-        put(into, b" -")?;
-        return put(into, dec(u64::from(lit.unsigned_abs())).as_slice());
+        put(b" -", into)?;
+        return put(dec(u64::from(lit.unsigned_abs())).as_slice(), into);
     }
-    put_number(into, lit.unsigned_abs())
+    put_number(lit.unsigned_abs(), into)
 }
 
 /// Puts literals, one space before each.
 #[tactic(auto, unfolding(crate::specs::Lines::spaced))]
-fn put_lits(into: &mut Vec<u8>, lits: &[i32]) -> Result<(), AllocError>
+fn put_lits(lits: &[i32], into: &mut Vec<u8>) -> Result<(), AllocError>
     ensures { OnOk result (into.new.items ≡ into.old.items ++ spaced (map signed_decimal lits.now)) }
 {
     for lit in lits {
-        put_lit(into, *lit)?;
+        put_lit(*lit, into)?;
     }
     Ok(())
 }
 
 /// Puts words of `w` bits, one space before each.
 #[tactic(auto, unfolding(crate::specs::Lines::spaced))]
-fn put_words(into: &mut Vec<u8>, w: u32, words: &[u64]) -> Result<(), AllocError>
+fn put_words(w: u32, words: &[u64], into: &mut Vec<u8>) -> Result<(), AllocError>
     requires bytes { w % 8 ≡ 0 }
     requires least { 16 ≤ w }
     requires most { w ≤ 64 }
@@ -89,7 +89,7 @@ fn put_words(into: &mut Vec<u8>, w: u32, words: &[u64]) -> Result<(), AllocError
     ensures { OnOk result (into.new.items ≡ into.old.items ++ spaced (map (hex_text (w / 4)) words.now)) }
 {
     for word in words {
-        put_part(into, hex_word(w, *word).as_slice())?;
+        put_part(hex_word(w, *word).as_slice(), into)?;
     }
     Ok(())
 }
@@ -98,7 +98,7 @@ fn put_words(into: &mut Vec<u8>, w: u32, words: &[u64]) -> Result<(), AllocError
 fn put_zero(into: &mut Vec<u8>) -> Result<(), AllocError>
     ensures { OnOk result (into.new.items ≡ into.old.items ++ 32 ∷ 48 ∷ []) }
 {
-    put_part(into, b"0")
+    put_part(b"0", into)
 }
 
 /// The text of a first line.
@@ -113,10 +113,10 @@ fn heading_bytes(heading: Heading) -> &'static [u8]
 }
 
 /// Puts the first line of a certificate. The error is want of memory.
-pub fn put_first(into: &mut Vec<u8>, heading: Heading) -> Result<(), AllocError>
+pub fn put_first(heading: Heading, into: &mut Vec<u8>) -> Result<(), AllocError>
     ensures { OnOk result (into.new.items ≡ into.old.items ++ parts_text (heading_parts heading)) }
 {
-    put(into, heading_bytes(heading))
+    put(heading_bytes(heading), into)
 }
 
 /// The name of a kind.
@@ -137,63 +137,63 @@ pub fn kind_name(kind: Kind) -> &'static [u8]
 
 /// Puts what was found.
 #[tactic(auto, unfolding(crate::specs::Lines::spaced))]
-fn put_found(into: &mut Vec<u8>, found: Found) -> Result<(), AllocError>
+fn put_found(found: Found, into: &mut Vec<u8>) -> Result<(), AllocError>
     ensures { OnOk result (into.new.items ≡ into.old.items ++ spaced (found_parts found)) }
 {
     match found {
-        Found::Refuted => put(into, b" refuted"),
-        Found::Shown => put(into, b" shown"),
+        Found::Refuted => put(b" refuted", into),
+        Found::Shown => put(b" shown", into),
         Found::Spent(steps) => {
-            put(into, b" spent")?;
-            put_number(into, steps)
+            put(b" spent", into)?;
+            put_number(steps, into)
         }
     }
 }
 
 /// Puts the header of a finding: of the instruction of this name, and this kind. The error is want of memory.
 pub fn put_header(
-    into: &mut Vec<u8>,
     name: &[u8],
     kind: Kind,
     found: Found,
+    into: &mut Vec<u8>,
 ) -> Result<(), AllocError>
     ensures { OnOk result (into.new.items ≡ into.old.items ++ parts_text (header_parts name.now kind found)) }
 {
-    put(into, b"finding")?;
-    put_part(into, name)?;
-    put_part(into, kind_name(kind))?;
-    put_found(into, found)?;
+    put(b"finding", into)?;
+    put_part(name, into)?;
+    put_part(kind_name(kind), into)?;
+    put_found(found, into)?;
     put_line_end(into)
 }
 
 /// Puts the line of a step. The error is want of memory.
-pub fn put_step(into: &mut Vec<u8>, step: &Step) -> Result<(), AllocError>
+pub fn put_step(step: &Step, into: &mut Vec<u8>) -> Result<(), AllocError>
     ensures { OnOk result (into.new.items ≡ into.old.items ++ parts_text (step_parts step.now.lits step.now.hints)) }
 {
-    put(into, b"s")?;
-    put_lits(into, step.lits.as_slice())?;
+    put(b"s", into)?;
+    put_lits(step.lits.as_slice(), into)?;
     put_zero(into)?;
-    put_numbers(into, step.hints.as_slice())?;
+    put_numbers(step.hints.as_slice(), into)?;
     put_zero(into)?;
     put_line_end(into)
 }
 
 /// Puts the line that takes clauses away. The error is want of memory.
-pub fn put_removal(into: &mut Vec<u8>, numbers: &[u32]) -> Result<(), AllocError>
+pub fn put_removal(numbers: &[u32], into: &mut Vec<u8>) -> Result<(), AllocError>
     ensures { OnOk result (into.new.items ≡ into.old.items ++ parts_text (removal_parts numbers.now)) }
 {
-    put(into, b"d")?;
-    put_numbers(into, numbers)?;
+    put(b"d", into)?;
+    put_numbers(numbers, into)?;
     put_zero(into)?;
     put_line_end(into)
 }
 
 /// Puts the line of a size. The error is want of memory.
-pub fn put_size(into: &mut Vec<u8>, size: u32) -> Result<(), AllocError>
+pub fn put_size(size: u32, into: &mut Vec<u8>) -> Result<(), AllocError>
     ensures { OnOk result (into.new.items ≡ into.old.items ++ parts_text (size_parts size)) }
 {
-    put(into, b"size")?;
-    put_number(into, size)?;
+    put(b"size", into)?;
+    put_number(size, into)?;
     put_line_end(into)
 }
 
@@ -208,28 +208,28 @@ fn mode_letter(mode: Mode) -> &'static [u8; 1]
 }
 
 /// Puts the line of a program status word. The error is want of memory.
-pub fn put_psw(into: &mut Vec<u8>, psw: &Psw) -> Result<(), AllocError>
+pub fn put_psw(psw: &Psw, into: &mut Vec<u8>) -> Result<(), AllocError>
     ensures { OnOk result (into.new.items ≡ into.old.items ++ parts_text (psw_parts psw.now)) }
 {
-    put(into, b"psw")?;
-    put_part(into, mode_letter(psw.mode))?;
-    put_number(into, psw.p)?;
-    put_number(into, psw.l)?;
-    put_number(into, psw.b)?;
+    put(b"psw", into)?;
+    put_part(mode_letter(psw.mode), into)?;
+    put_number(psw.p, into)?;
+    put_number(psw.l, into)?;
+    put_number(psw.b, into)?;
     put_line_end(into)
 }
 
 /// Puts the line of cells: these words of `w` bits from the cell `first` on. The error is want of memory.
-pub fn put_cells(into: &mut Vec<u8>, w: u32, first: u32, words: &[u64]) -> Result<(), AllocError>
+pub fn put_cells(w: u32, first: u32, words: &[u64], into: &mut Vec<u8>) -> Result<(), AllocError>
     requires bytes { w % 8 ≡ 0 }
     requires least { 16 ≤ w }
     requires most { w ≤ 64 }
     requires fit { All (λ word. word < 2 ^ w) words.now }
     ensures { OnOk result (into.new.items ≡ into.old.items ++ parts_text (cells_parts w first words.now)) }
 {
-    put(into, dec(u64::from(first)).as_slice())?;
-    put(into, b":")?;
-    put_words(into, w, words)?;
+    put(dec(u64::from(first)).as_slice(), into)?;
+    put(b":", into)?;
+    put_words(w, words, into)?;
     put_line_end(into)
 }
 
@@ -237,7 +237,7 @@ pub fn put_cells(into: &mut Vec<u8>, w: u32, first: u32, words: &[u64]) -> Resul
 pub fn put_end(into: &mut Vec<u8>) -> Result<(), AllocError>
     ensures { OnOk result (into.new.items ≡ into.old.items ++ parts_text end_parts) }
 {
-    put(into, b"end\n")
+    put(b"end\n", into)
 }
 
 /// Puts a line of a machine of this shape, whose words of cells have as many bits as the shape says. The error is want of
@@ -249,13 +249,13 @@ pub fn put_line(shape: &Shape, line: &Line, into: &mut Vec<u8>) -> Result<(), Al
     ensures { OnOk result (into.new.items ≡ into.old.items ++ line_text shape.now line.now) }
 {
     match line {
-        Line::First(heading) => put_first(into, *heading),
-        Line::Header(name, kind, found) => put_header(into, name.as_slice(), *kind, *found),
-        Line::Step(step) => put_step(into, step),
-        Line::Remove(numbers) => put_removal(into, numbers.as_slice()),
-        Line::Size(size) => put_size(into, *size),
-        Line::Psw(psw) => put_psw(into, psw),
-        Line::Cells(first, words) => put_cells(into, shape.w, *first, words.as_slice()),
+        Line::First(heading) => put_first(*heading, into),
+        Line::Header(name, kind, found) => put_header(name.as_slice(), *kind, *found, into),
+        Line::Step(step) => put_step(step, into),
+        Line::Remove(numbers) => put_removal(numbers.as_slice(), into),
+        Line::Size(size) => put_size(*size, into),
+        Line::Psw(psw) => put_psw(psw, into),
+        Line::Cells(first, words) => put_cells(shape.w, *first, words.as_slice(), into),
         Line::End => put_end(into),
     }
 }

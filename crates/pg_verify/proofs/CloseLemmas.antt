@@ -1,39 +1,33 @@
 -- A finding that is open is closed.
-use Rattle.std.proofs.Common.{◌≡◌, ◌⊎◌, inl, inr, ℕ, zero, suc, ◌+◌, ◌≤◌, Bool, true, false, if◌then◌else◌, List, [], ◌∷◌, ◌++◌, length, map, Option, None, Some, Result, Ok, Err, refl, sym, ap, subst, ◌∙◌, arith, ℤ, append_assoc, append-nil, IsTrue, slice_get, All}
-use Rattle.std.specs.Prelude.{◌==◌, IsSomeAnd, ⊤}
+use Rattle.std.proofs.Common.{◌≡◌, ◌⊎◌, inl, inr, ℕ, zero, suc, ◌+◌, Bool, true, false, List, [], ◌∷◌, ◌++◌, length, map, Option, Some, Ok, refl, sym, ap, subst, ◌∙◌, arith, ℤ, append_assoc, append-nil, IsTrue, slice_get}
+use Rattle.std.specs.Prelude.{◌==◌, IsSomeAnd}
 use Rattle.std.proofs.lemmas.Bool.{eqb-true}
 use Rattle.std.proofs.lemmas.List.{map-append, length-map}
 use Rattle.std.proofs.lemmas.List.Elements.{All-push}
 use Rattle.std.proofs.lemmas.Option.{same_Some}
-use Rattle.pg_word.specs.Sparse.{IsCellList}
 use Rattle.pg_ast.specs.declared.tree.Instr.{Instr}
 use Rattle.pg_ast.specs.declared.tree.Desc.{Desc}
-use Rattle.pg_type.specs.declared.kind.Kind.{Kind}
-use Rattle.pg_type.specs.Kinds.{Shows}
 use Rattle.pg_type.specs.Listed.{state_of as listed_state}
 use Rattle.pg_proof.specs.declared.step.Act.TheVariants as act
 use Rattle.pg_proof.specs.State.{State as Log, begun}
-use Rattle.pg_proof.specs.Log.{after_acts, IsClosedLog, IsSpentFrom}
+use Rattle.pg_proof.specs.Log.{after_acts, IsSpentFrom}
 use Rattle.pg_ask.specs.Question.{question}
 use Rattle.pg_cert.specs.declared.cert.Family.{Family}
 use Rattle.pg_cert.specs.declared.cert.Finding.{Finding}
 use Rattle.pg_cert.specs.declared.cert.Finding.TheVariants as finding
 use Rattle.pg_cert.specs.declared.line.Heading.{Heading}
-use Rattle.pg_cert.specs.declared.line.Found.{Found}
 use Rattle.pg_cert.specs.declared.line.Line.{Line}
 use Rattle.pg_cert.specs.declared.line.Line.TheVariants as line
 use Rattle.pg_cert.specs.Verdicts.{mark_of}
-use Rattle.pg_cert.specs.Texts.{act_line, found_of, body_lines, instr_of, kind_of, name_of, finding_lines, findings_lines}
+use Rattle.pg_cert.specs.Texts.{found_of, body_lines, instr_of, kind_of, name_of, finding_lines, findings_lines}
 use Rattle.pg_cert.specs.Validity.{IsValidFinding}
-use Rattle.pg_verify.specs.declared.fault.VerifyFault.{VerifyFault}
-use Rattle.pg_verify.specs.Judging.{shows}
 use Rattle.pg_verify.specs.Reader.{Drawn, Pair, NoState, FirstSize, FirstState, SecondSize, BothStates, Open, Fresh, Between, Refuting, Showing, Spending, Ended, Mark, Refuted, Shown, Spent, Progress}
-use Rattle.pg_verify.specs.Taking.{is_whole, may_close, marked, due_instr, due_kind, shows_at, shows_due, closed_pair, closed_open, closed}
+use Rattle.pg_verify.specs.Taking.{is_whole, may_close, marked, due_kind, shows_at, shows_due, closed_pair, closed_open}
 use Rattle.pg_verify.specs.Feeding.{kept}
 use Rattle.pg_verify.specs.Verified.{AreListed}
 use Rattle.pg_verify.proofs.JudgingLemmas.{shows_decides}
-use Rattle.pg_verify.proofs.Standing.{sparse_of, drawn_lines, AreDrawn, IsRefuting, IsShowing, IsSpending, IsBody, AreValid, IsFront, IsBetween, IsOpenAt, IsAt, Keeps}
-use Rattle.pg_verify.proofs.StepLemmas.{same_ok, no_ok, if_taken}
+use Rattle.pg_verify.proofs.Standing.{sparse_of, IsFront, IsBetween, IsOpenAt, IsAt, Keeps}
+use Rattle.pg_verify.proofs.StepLemmas.{same_ok, if_taken}
 
 -- ---- lists
 

@@ -1,6 +1,6 @@
 -- Headers, the first line and the last, and every line.
-use Rattle.std.proofs.Common.{◌≡◌, ◌⊎◌, inl, inr, ℕ, zero, suc, ◌+◌, ◌*◌, ◌/◌, ◌%◌, ◌<◌, ◌≤◌, Bool, true, false, if◌then◌else◌, List, [], ◌∷◌, ◌++◌, length, map, Option, None, Some, Result, Ok, Err, refl, sym, ap, subst, ◌∙◌, arith, ℤ, append_assoc, IsTrue, slice_get, get_or}
-use Rattle.std.specs.Prelude.{◌==◌, ◌&&◌, nat_lt, nat_le, bytes_eq, slice_index_or}
+use Rattle.std.proofs.Common.{◌≡◌, ◌⊎◌, inl, inr, ℕ, ◌+◌, ◌*◌, ◌/◌, ◌%◌, ◌<◌, ◌≤◌, Bool, true, false, if◌then◌else◌, List, [], ◌∷◌, ◌++◌, length, Option, None, Some, Ok, Err, refl, sym, ap, subst, ◌∙◌, arith, ℤ, slice_get, get_or}
+use Rattle.std.specs.Prelude.{◌==◌, nat_lt, nat_le, bytes_eq, slice_index_or}
 use Rattle.std.specs.List.{position_or_len}
 use Rattle.std.proofs.lemmas.Bool.{eqb-true, ltb-true, ltb-false, leb-true, and_parts}
 use Rattle.std.proofs.lemmas.List.{length-map}
@@ -15,7 +15,6 @@ use Rattle.pg_meaning.specs.States.{shape_of}
 use Rattle.pg_valid.specs.Twice.{instr_names}
 use Rattle.pg_type.specs.declared.kind.Kind.{Kind}
 use Rattle.pg_type.specs.declared.kind.Kind.TheVariants as kind
-use Rattle.pg_proof.specs.State.{State as Log, begun}
 use Rattle.pg_ask.specs.Question.{question}
 use Rattle.pg_cert.specs.declared.cert.Family.{Family}
 use Rattle.pg_cert.specs.declared.cert.Family.TheVariants.{Plain, Hybrid}
@@ -28,13 +27,12 @@ use Rattle.pg_cert.specs.Lines.{is_line, IsLine, is_found, most_budget}
 use Rattle.pg_cert.specs.Verdicts.{kinds_of, kind_count}
 use Rattle.pg_cert.specs.Texts.{family_of, instr_of, kind_of, name_of, findings_lines}
 use Rattle.pg_cert.specs.Validity.{may_remove, IsActUnder}
-use Rattle.pg_verify.specs.declared.fault.VerifyFault.{VerifyFault}
 use Rattle.pg_verify.specs.declared.fault.VerifyFault.TheVariants as fault
 use Rattle.pg_verify.specs.Reader.{Open, Fresh, Between, Refuting, Showing, Spending, Ended, Mark, Progress}
-use Rattle.pg_verify.specs.Taking.{then_take, misplaced, with_open, reopened, after_step, after_remove, with_size, with_psw, with_cells, after_state_line, missing, all_findings, may_close, closed, clauses_at, opening, placed, named, instr_named, kind_place, with_header, after_header, ended, after_end, is_fresh, same_family, is_first_due, after_first, after_form}
+use Rattle.pg_verify.specs.Taking.{then_take, misplaced, with_open, after_step, after_remove, with_size, with_psw, with_cells, after_state_line, missing, all_findings, may_close, closed, clauses_at, opening, placed, named, instr_named, kind_place, with_header, after_header, ended, after_end, is_fresh, same_family, is_first_due, after_first, after_form}
 use Rattle.pg_verify.specs.Verified.{AreListed}
-use Rattle.pg_verify.proofs.Standing.{IsBody, IsFront, IsBetween, IsOpenAt, IsEndedAt, IsAt, Keeps, Stands}
-use Rattle.pg_verify.proofs.StepLemmas.{same_ok, no_ok, Taken, taken, if_taken, row_is, size_on, psw_on, cells_on}
+use Rattle.pg_verify.proofs.Standing.{IsBody, IsBetween, IsOpenAt, IsAt, Keeps, Stands}
+use Rattle.pg_verify.proofs.StepLemmas.{same_ok, no_ok, taken, if_taken, row_is, size_on, psw_on, cells_on}
 use Rattle.pg_verify.proofs.OpenLemmas.{step_kept, removal_kept, state_kept, reopened_stands}
 use Rattle.pg_verify.proofs.CloseLemmas.{Closed, open_closed}
 

@@ -1,5 +1,5 @@
 -- The test of two states, part by part: each decides what it says.
-use Rattle.std.proofs.Common.{◌≡◌, ◌≢◌, ◌⊎◌, inl, inr, ℕ, ◌^◌, ◌<◌, ◌≤◌, Bool, true, false, not, List, [], ◌∷◌, length, Option, None, Some, All, slice_get, refl, sym, ap, ◌∙◌}
+use Rattle.std.proofs.Common.{◌≡◌, ◌≢◌, ◌⊎◌, ℕ, ◌^◌, ◌<◌, ◌≤◌, true, false, not, List, length, Option, None, Some, All, slice_get, refl, ap}
 use Rattle.std.specs.Prelude.{◌&&◌, ◌||◌, ◌==◌, nat_le, nat_lt, bytes_eq, IsSomeAnd, IsTrue}
 use Rattle.std.specs.Bool.{Decides}
 use Rattle.std.specs.List.{list_all}
@@ -9,7 +9,6 @@ use Rattle.std.proofs.lemmas.Slice.Eq.{bytes_eq-Decides}
 use Rattle.pg_word.specs.declared.psw.Psw.{Psw}
 use Rattle.pg_word.specs.declared.psw.Mode.{Mode}
 use Rattle.pg_word.specs.declared.psw.Mode.TheVariants.{S, U}
-use Rattle.pg_word.specs.Psw.{IsPsw}
 use Rattle.pg_ast.specs.declared.tree.Instr.{Instr}
 use Rattle.pg_ast.specs.declared.tree.Desc.{Desc}
 use Rattle.pg_meaning.specs.Patterns.{matches}
@@ -17,7 +16,7 @@ use Rattle.pg_meaning.specs.Bodies.{Course, MemTrapped, Trapped, Going, After}
 use Rattle.pg_meaning.specs.States.{State, IsState, window, in_user}
 use Rattle.pg_type.specs.declared.kind.Kind.{Kind}
 use Rattle.pg_type.specs.declared.kind.Kind.TheVariants.{Privileged, Control, ModeDep, Location, Bound, UControl, ULocation, UBound}
-use Rattle.pg_type.specs.Kinds.{IsAt, course_at, Observation, SeenMemTrap, SeenTrap, SeenDone, observed, observation, IsDone, IsTrap, IsNoMemTrap, ChangesControl, IsModePair, BreaksPrivilege, ShowsControl, ShowsMode, ShowsLocation, ShowsBound, Shows}
+use Rattle.pg_type.specs.Kinds.{IsAt, course_at, SeenDone, observed, observation, IsDone, IsTrap, IsNoMemTrap, ChangesControl, IsModePair, BreaksPrivilege, ShowsControl, ShowsMode, ShowsLocation, ShowsBound, Shows}
 use Rattle.pg_verify.specs.Judging.{is_state, same_mode, same_psw, same_state, word_matches, is_at, is_done, is_trap, is_no_mem_trap, changes_control, same_observed, mode_pair, breaks_privilege, shows_control, shows_mode, seen_apart, shows_location, shows_bound, shows}
 
 -- ---- what holds, what does not

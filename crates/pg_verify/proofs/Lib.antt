@@ -9,3 +9,8 @@ pub mod FormLemmas
 pub mod SpellLemmas
 pub mod TellLemmas
 mod NameLemmas
+pub mod ReachLemmas
+pub mod LogReach
+pub mod StateReach
+pub mod FindingReach
+pub mod TakeLemmas

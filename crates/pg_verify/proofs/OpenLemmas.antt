@@ -1,28 +1,21 @@
 -- A line below a header keeps what stands.
-use Rattle.std.proofs.Common.{◌≡◌, ℕ, suc, ◌≤◌, Bool, true, false, if◌then◌else◌, List, [], ◌∷◌, ◌++◌, length, Option, None, Some, Result, Ok, Err, refl, sym, ap, subst, ◌∙◌, ℤ, append_assoc, IsTrue}
-use Rattle.std.specs.Prelude.{◌&&◌, nat_le}
-use Rattle.std.proofs.lemmas.Bool.{and_parts}
-use Rattle.pg_word.specs.declared.psw.Psw.{Psw}
+use Rattle.std.proofs.Common.{◌≡◌, ℕ, suc, Bool, true, false, if◌then◌else◌, List, [], ◌∷◌, ◌++◌, length, Option, None, Some, Result, Ok, refl, sym, ap, subst, ◌∙◌, append_assoc, IsTrue}
 use Rattle.pg_ast.specs.declared.tree.Desc.{Desc}
-use Rattle.pg_meaning.specs.States.{shape_of}
 use Rattle.pg_proof.specs.declared.step.Step.{Step}
 use Rattle.pg_proof.specs.declared.step.Act.TheVariants as act
 use Rattle.pg_proof.specs.State.{State as Log}
 use Rattle.pg_proof.specs.Removal.{after_removal}
 use Rattle.pg_ask.specs.Question.{question}
 use Rattle.pg_cert.specs.declared.cert.Family.{Family}
-use Rattle.pg_cert.specs.declared.line.Heading.{Heading}
-use Rattle.pg_cert.specs.declared.line.Found.{Found}
 use Rattle.pg_cert.specs.declared.line.Line.{Line}
 use Rattle.pg_cert.specs.declared.line.Line.TheVariants as line
-use Rattle.pg_cert.specs.Lines.{is_line, IsLine, are_removed}
+use Rattle.pg_cert.specs.Lines.{are_removed}
 use Rattle.pg_cert.specs.Texts.{instr_of, kind_of, name_of}
-use Rattle.pg_cert.specs.Validity.{may_remove, IsActUnder}
 use Rattle.pg_verify.specs.declared.fault.VerifyFault.{VerifyFault}
 use Rattle.pg_verify.specs.Reader.{Pair, Open, Fresh, Between, Refuting, Showing, Spending, Ended, Mark, Progress}
-use Rattle.pg_verify.specs.Taking.{then_take, with_open, reopened, with_step, with_spent_step, after_step, held_after, after_remove, with_size, with_psw, with_cells, shown_on, after_state_line, misplaced}
-use Rattle.pg_verify.proofs.Standing.{IsBody, IsFront, IsOpenAt, IsAt, IsRefuting, IsShowing, IsSpending, AreDrawn, Keeps, Stands}
-use Rattle.pg_verify.proofs.StepLemmas.{same_ok, no_ok, Taken, taken, if_taken, IsAdded, step_added, act_added, refuting_more, IsSpentOn, step_spent, spending_more, IsRow, row_is, IsPairOn, size_on, psw_on, cells_on, showing_more}
+use Rattle.pg_verify.specs.Taking.{then_take, with_open, reopened, with_step, with_spent_step, after_step, held_after, after_remove, shown_on, after_state_line, misplaced}
+use Rattle.pg_verify.proofs.Standing.{IsBody, IsOpenAt, IsAt, AreDrawn, Stands}
+use Rattle.pg_verify.proofs.StepLemmas.{same_ok, no_ok, taken, step_added, act_added, refuting_more, step_spent, spending_more, IsPairOn, showing_more}
 
 module _ (d : Desc) (family : Family) (removes : Bool) (marks : List Mark) (lines : List Line) where
   -- the body of what is open has one line more

@@ -1,23 +1,22 @@
 -- Rows of cells that are added to a state: its storage, and its lines.
-use Rattle.std.proofs.Common.{◌≡◌, ◌≢◌, ◌⊎◌, inl, inr, ℕ, zero, suc, ◌+◌, ◌-◌, ◌*◌, ◌/◌, ◌<◌, ◌≤◌, min, Bool, true, false, if◌then◌else◌, List, [], ◌∷◌, ◌++◌, length, get_or, set, take, drop, replicate, refl, sym, ap, subst, ◌∙◌, arith, length-append, length-drop, append_assoc, append-nil}
+use Rattle.std.proofs.Common.{◌≡◌, ◌≢◌, ◌⊎◌, inl, inr, ℕ, zero, suc, ◌+◌, ◌-◌, ◌*◌, ◌<◌, ◌≤◌, min, Bool, true, false, if◌then◌else◌, List, [], ◌∷◌, ◌++◌, length, get_or, set, drop, replicate, refl, sym, ap, subst, ◌∙◌, arith, length-drop, append_assoc, append-nil}
 use Rattle.std.specs.Prelude.{◌==◌}
 use Rattle.std.specs.List.{All, list_all}
 use Rattle.std.proofs.Math.Nat.{eq-or-lt_of_le}
 use Rattle.std.proofs.lemmas.Bool.{cases_lt, cases_eq, and_from, eq-eqb, eqb-true}
 use Rattle.std.proofs.lemmas.Grind.{same_number_lists}
-use Rattle.std.proofs.lemmas.List.{length-replicate, length-take, length-set, get_or-replicate, get_or-take, get_or-drop, get_or-set_same, get_or-set_other, get_or_past, get_or_append_left, get_or_at, set_past}
+use Rattle.std.proofs.lemmas.List.{length-replicate, length-take, get_or-replicate, get_or-take, get_or-drop, get_or-set_same, get_or-set_other, get_or_past, set_past}
 use Rattle.std.proofs.lemmas.List.Elements.{All-nil, All-cons, All-head, All-tail, All-append, All-weaker}
-use Rattle.pg_word.specs.Sparse.{address_at, IsCellList, IsPastLast, AreWithin, storage_of}
+use Rattle.pg_word.specs.Sparse.{IsCellList, IsPastLast, AreWithin, storage_of}
 use Rattle.pg_word.proofs.SparseLemmas.{length-storage_of, pushed}
-use Rattle.pg_image.specs.Lines.{line_cells, line_words, line_count}
-use Rattle.pg_cert.specs.declared.line.Line.{Line}
+use Rattle.pg_image.specs.Lines.{line_words, line_count}
 use Rattle.pg_cert.specs.declared.line.Line.TheVariants.{Cells}
 use Rattle.pg_cert.specs.Texts.{row_lines, rows_before}
 use Rattle.pg_verify.specs.Taking.{listed}
 
 -- ---- what a row lists
 
-listed_from : (at : ℕ) (words : List ℕ) → All (λ c. at ≤ c.0) (listed at words)
+pub listed_from : (at : ℕ) (words : List ℕ) → All (λ c. at ≤ c.0) (listed at words)
 listed_from at [] = All-nil (λ (c : ℕ × ℕ). at ≤ c.0)
 listed_from at (w ∷ ws) = by (w == 0) (All-weaker (λ c. suc at ≤ c.0) (λ c. at ≤ c.0) (λ c l. omega arith) (listed (suc at) ws) (listed_from (suc at) ws))
   where
@@ -25,7 +24,7 @@ listed_from at (w ∷ ws) = by (w == 0) (All-weaker (λ c. suc at ≤ c.0) (λ c
     by true later = later
     by false later = All-cons (λ (c : ℕ × ℕ). at ≤ c.0) (at, w) (listed (suc at) ws) (omega arith) later
 
-listed_until : (at end : ℕ) (words : List ℕ) → at + length words ≤ end → All (λ c. c.0 < end) (listed at words)
+pub listed_until : (at end : ℕ) (words : List ℕ) → at + length words ≤ end → All (λ c. c.0 < end) (listed at words)
 listed_until at end [] h = All-nil (λ (c : ℕ × ℕ). c.0 < end)
 listed_until at end (w ∷ ws) h = by (w == 0) (listed_until (suc at) end ws (omega arith))
   where
@@ -71,7 +70,7 @@ set_both xs ys i a k len e = by (cases_eq k i)
     by (inl s) = inside s (cases_lt i (length xs))
     by (inr n) = get_or-set_other xs i k a 0 n ∙ e ∙ sym (get_or-set_other ys i k a 0 n)
 
-other_kept : (size : ℕ) (cells more : List (ℕ × ℕ)) (k : ℕ) → All (λ c. c.0 ≢ k) cells → get_or (storage_of size (cells ++ more)) k 0 ≡ get_or (storage_of size more) k 0
+pub other_kept : (size : ℕ) (cells more : List (ℕ × ℕ)) (k : ℕ) → All (λ c. c.0 ≢ k) cells → get_or (storage_of size (cells ++ more)) k 0 ≡ get_or (storage_of size more) k 0
 other_kept size [] more k h = refl
 other_kept size (c ∷ cells) more k h =
     get_or-set_other (storage_of size (cells ++ more)) c.0 k c.1 0 (λ e. All-head (λ d. d.0 ≢ k) c cells h (sym e))
@@ -80,25 +79,25 @@ other_kept size (c ∷ cells) more k h =
 nothing_kept : (size : ℕ) (more : List (ℕ × ℕ)) (k : ℕ) → All (λ c. c.0 ≢ k) more → get_or (storage_of size more) k 0 ≡ get_or (replicate {A = ℕ} size 0) k 0
 nothing_kept size more k h = ap (λ cs. get_or (storage_of size cs) k 0) (sym (append-nil more)) ∙ other_kept size more [] k h
 
-more_kept : (size : ℕ) (cells more : List (ℕ × ℕ)) (k : ℕ) → All (λ c. c.0 ≢ k) more → get_or (storage_of size (cells ++ more)) k 0 ≡ get_or (storage_of size cells) k 0
+pub more_kept : (size : ℕ) (cells more : List (ℕ × ℕ)) (k : ℕ) → All (λ c. c.0 ≢ k) more → get_or (storage_of size (cells ++ more)) k 0 ≡ get_or (storage_of size cells) k 0
 more_kept size [] more k h = nothing_kept size more k h
 more_kept size (c ∷ cells) more k h =
     set_both (storage_of size (cells ++ more)) (storage_of size cells) c.0 c.1 k (length-storage_of size (cells ++ more) ∙ sym (length-storage_of size cells)) (more_kept size cells more k h)
 
-zero_or_past : (n k : ℕ) → get_or (replicate {A = ℕ} n 0) k 0 ≡ 0
+pub zero_or_past : (n k : ℕ) → get_or (replicate {A = ℕ} n 0) k 0 ≡ 0
 zero_or_past n k = by (cases_lt k n)
   where
     by : (k < n) ⊎ (n ≤ k) → get_or (replicate {A = ℕ} n 0) k 0 ≡ 0
     by (inl l) = get_or-replicate n k 0 0 l
     by (inr l) = get_or_past (replicate n 0) k 0 (omega (arith, length-replicate {A = ℕ} n 0))
 
-apart_above : (at k : ℕ) (cells : List (ℕ × ℕ)) → k < at → All (λ c. at ≤ c.0) cells → All (λ c. c.0 ≢ k) cells
+pub apart_above : (at k : ℕ) (cells : List (ℕ × ℕ)) → k < at → All (λ c. at ≤ c.0) cells → All (λ c. c.0 ≢ k) cells
 apart_above at k cells l h = All-weaker (λ c. at ≤ c.0) (λ c. c.0 ≢ k) (λ c le e. omega arith) cells h
 
-apart_below : (at k : ℕ) (cells : List (ℕ × ℕ)) → at ≤ k → All (λ c. c.0 < at) cells → All (λ c. c.0 ≢ k) cells
+pub apart_below : (at k : ℕ) (cells : List (ℕ × ℕ)) → at ≤ k → All (λ c. c.0 < at) cells → All (λ c. c.0 ≢ k) cells
 apart_below at k cells l h = All-weaker (λ c. c.0 < at) (λ c. c.0 ≢ k) (λ c le e. omega arith) cells h
 
-row_holds : (size at : ℕ) (words : List ℕ) (j k : ℕ) → k ≡ at + j → k < size → get_or (storage_of size (listed at words)) k 0 ≡ get_or words j 0
+pub row_holds : (size at : ℕ) (words : List ℕ) (j k : ℕ) → k ≡ at + j → k < size → get_or (storage_of size (listed at words)) k 0 ≡ get_or words j 0
 row_holds size at [] j k e l = get_or-replicate size k 0 0 l
 row_holds size at (w ∷ ws) zero k e l = by (w == 0) refl
   where
@@ -119,10 +118,10 @@ row_holds size at (w ∷ ws) (suc j) k e l = by (w == 0) (row_holds size (suc at
 
 -- ---- rows
 
-words_at : (cells : List ℕ) (k i : ℕ) → i < 8 → get_or (line_words k cells) i 0 ≡ get_or cells (8 * k + i) 0
+pub words_at : (cells : List ℕ) (k i : ℕ) → i < 8 → get_or (line_words k cells) i 0 ≡ get_or cells (8 * k + i) 0
 words_at cells k i l = get_or-take 8 (drop (8 * k) cells) i 0 l ∙ get_or-drop (8 * k) cells i 0
 
-length-words : (cells : List ℕ) (k : ℕ) → length (line_words k cells) ≡ min 8 (length cells - 8 * k)
+pub length-words : (cells : List ℕ) (k : ℕ) → length (line_words k cells) ≡ min 8 (length cells - 8 * k)
 length-words cells k = length-take 8 (drop (8 * k) cells) ∙ ap (λ n. min 8 n) (length-drop (8 * k) cells)
 
 same_words : (xs ys : List ℕ) (k : ℕ) → length xs ≡ length ys → ((i : ℕ) → i < 8 → get_or xs (8 * k + i) 0 ≡ get_or ys (8 * k + i) 0) → line_words k xs ≡ line_words k ys

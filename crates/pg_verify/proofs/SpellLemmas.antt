@@ -1,6 +1,6 @@
 -- Bytes that are not refused are the lines of a valid certificate.
-use Rattle.std.proofs.Common.{◌≡◌, ◌≢◌, ℕ, zero, suc, ◌+◌, ◌*◌, ◌≤◌, Bool, true, false, if◌then◌else◌, List, [], ◌∷◌, ◌++◌, length, map, Option, None, Some, Result, Ok, Err, All, refl, sym, ap, subst, ◌∙◌, arith, append_assoc, append-nil, length-append, IsTrue, slice_get}
-use Rattle.std.specs.Prelude.{◌==◌, ◌&&◌, bytes_eq, nat_le}
+use Rattle.std.proofs.Common.{◌≡◌, ◌≢◌, ℕ, suc, ◌≤◌, Bool, true, false, if◌then◌else◌, List, [], ◌∷◌, ◌++◌, length, Option, None, Some, Ok, Err, All, refl, sym, ap, subst, ◌∙◌, arith, append_assoc, append-nil, length-append}
+use Rattle.std.specs.Prelude.{◌==◌, ◌&&◌, bytes_eq}
 use Rattle.std.specs.List.{list_any}
 use Rattle.std.proofs.lemmas.Bool.{and_parts, eqb-false}
 use Rattle.std.proofs.lemmas.List.Elements.{All-nil, All-push, All-same}
@@ -8,25 +8,22 @@ use Rattle.std.proofs.lemmas.Slice.Eq.{bytes_eq-Decides}
 use Rattle.pg_word.specs.declared.shape.Shape.{Shape}
 use Rattle.pg_ast.specs.declared.tree.Desc.{Desc}
 use Rattle.pg_meaning.specs.States.{shape_of}
-use Rattle.pg_ask.specs.Question.{question}
 use Rattle.pg_cert.specs.declared.cert.Family.{Family}
 use Rattle.pg_cert.specs.declared.cert.Family.TheVariants.{Plain, Hybrid}
-use Rattle.pg_cert.specs.declared.cert.Cert.{Cert}
 use Rattle.pg_cert.specs.declared.line.Line.{Line}
 use Rattle.pg_cert.specs.declared.line.Line.TheVariants as line
 use Rattle.pg_cert.specs.Lines.{line_text, is_line, IsLine}
 use Rattle.pg_cert.specs.Reading.{read_parts}
 use Rattle.pg_cert.specs.Parsing.{Said, Says, NoToken, NoForm, OtherVersion, is_foreign, before_end, parts_of, is_first, said_of_no_line, said_of_read, said}
-use Rattle.pg_cert.specs.Verdicts.{mark_of, kind_count}
-use Rattle.pg_cert.specs.Texts.{findings_lines, cert_lines, lines_text, cert_text}
+use Rattle.pg_cert.specs.Texts.{findings_lines, cert_lines, lines_text}
 use Rattle.pg_verify.specs.declared.fault.VerifyFault.{VerifyFault}
 use Rattle.pg_verify.specs.declared.fault.VerifyFault.TheVariants as fault
-use Rattle.pg_verify.specs.Reader.{Open, Fresh, Between, Refuting, Showing, Spending, Ended, Mark, Progress, Reader}
-use Rattle.pg_verify.specs.Taking.{then_take, misplaced, is_first_due, after_form, after_said, after_line}
-use Rattle.pg_verify.specs.Feeding.{most_bytes, begun, taken_byte, fed_byte, fed, or_misplaced, without_end, at_end, at_rest, finished, verified, kept}
-use Rattle.pg_verify.specs.Verified.{AreListed, IsValidOf, Spells}
-use Rattle.pg_verify.proofs.Standing.{IsFront, IsEndedAt, IsAt, Keeps, Stands}
-use Rattle.pg_verify.proofs.StepLemmas.{same_ok, no_ok, Taken, taken}
+use Rattle.pg_verify.specs.Reader.{Open, Fresh, Between, Refuting, Showing, Spending, Ended, Progress, Reader}
+use Rattle.pg_verify.specs.Taking.{is_first_due, after_said, after_line}
+use Rattle.pg_verify.specs.Feeding.{most_bytes, begun, fed_byte, fed, or_misplaced, at_end, at_rest, finished, verified}
+use Rattle.pg_verify.specs.Verified.{Spells}
+use Rattle.pg_verify.proofs.Standing.{IsEndedAt, IsAt, Stands}
+use Rattle.pg_verify.proofs.StepLemmas.{same_ok, no_ok, taken}
 use Rattle.pg_verify.proofs.FormLemmas.{form_kept}
 use Rattle.pg_verify.proofs.CloseLemmas.{length-marks}
 

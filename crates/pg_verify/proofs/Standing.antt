@@ -1,5 +1,5 @@
 -- What a progress without fault has read: the lines of the findings that are closed, and of the one that is open.
-use Rattle.std.proofs.Common.{◌≡◌, ℕ, zero, suc, ◌≤◌, Bool, List, [], ◌∷◌, ◌++◌, length, map, Some, slice_get}
+use Rattle.std.proofs.Common.{◌≡◌, ℕ, ◌≤◌, Bool, List, [], ◌∷◌, ◌++◌, length, map, Some, slice_get}
 use Rattle.std.specs.Prelude.{⊤, ◌*◌, ℤ}
 use Rattle.std.specs.List.{All}
 use Rattle.pg_word.specs.declared.sparse.Sparse.{Sparse}
@@ -7,7 +7,6 @@ use Rattle.pg_word.specs.Sparse.{IsCellList, AreWithin, storage_of}
 use Rattle.pg_image.specs.Lines.{line_count}
 use Rattle.pg_ast.specs.declared.tree.Instr.{Instr}
 use Rattle.pg_ast.specs.declared.tree.Desc.{Desc}
-use Rattle.pg_type.specs.declared.kind.Kind.{Kind}
 use Rattle.pg_proof.specs.declared.step.Step.{Step}
 use Rattle.pg_proof.specs.declared.step.Act.{Act}
 use Rattle.pg_proof.specs.declared.step.Act.TheVariants as act

@@ -1,5 +1,5 @@
 -- One line more below the header of a finding that is open.
-use Rattle.std.proofs.Common.{◌≡◌, ◌≢◌, ℕ, zero, suc, ◌+◌, ◌-◌, ◌*◌, ◌/◌, ◌%◌, ◌<◌, ◌≤◌, min, Bool, true, false, not, if◌then◌else◌, List, [], ◌∷◌, ◌++◌, length, map, Option, None, Some, Result, Ok, Err, is_none, All, refl, sym, ap, subst, ◌∙◌, arith, ℤ, append_assoc, IsTrue}
+use Rattle.std.proofs.Common.{◌≡◌, ◌≢◌, ℕ, zero, suc, ◌-◌, ◌*◌, ◌/◌, ◌%◌, ◌<◌, ◌≤◌, min, Bool, true, false, not, if◌then◌else◌, List, [], ◌∷◌, ◌++◌, length, map, Option, None, Some, Result, Ok, Err, is_none, All, refl, sym, ap, subst, ◌∙◌, arith, ℤ, append_assoc}
 use Rattle.std.specs.Prelude.{◌&&◌, ◌||◌, ◌==◌, ◌^◌, nat_lt, nat_le}
 use Rattle.std.specs.List.{list_all, list_any}
 use Rattle.std.specs.Option.{option_and_then}
@@ -9,7 +9,7 @@ use Rattle.std.proofs.lemmas.List.Elements.{All-nil, All-push}
 use Rattle.std.proofs.lemmas.List.Sums.{AllPass-from_list_all}
 use Rattle.std.proofs.lemmas.Option.{same_Some}
 use Rattle.pg_word.specs.declared.psw.Psw.{Psw}
-use Rattle.pg_word.specs.Sparse.{IsCellList, AreWithin, storage_of}
+use Rattle.pg_word.specs.Sparse.{storage_of}
 use Rattle.pg_ast.specs.declared.tree.Desc.{Desc}
 use Rattle.pg_meaning.specs.States.{shape_of}
 use Rattle.pg_image.specs.Lines.{line_cells, line_count}
@@ -21,21 +21,19 @@ use Rattle.pg_proof.specs.State.{State as Log, begun, is_empty, with_clause}
 use Rattle.pg_proof.specs.Refutation.{fault_of}
 use Rattle.pg_proof.specs.Tight.{is_tight}
 use Rattle.pg_proof.specs.Covered.{is_covered}
-use Rattle.pg_proof.specs.Removal.{after_removal}
-use Rattle.pg_proof.specs.Log.{after_act, after_acts_from, after_acts, IsWorth, IsSpentFrom}
-use Rattle.pg_cert.specs.declared.cert.Family.{Family}
+use Rattle.pg_proof.specs.Log.{after_act, after_acts_from, IsWorth, IsSpentFrom}
 use Rattle.pg_cert.specs.declared.line.Heading.{Heading}
 use Rattle.pg_cert.specs.declared.line.Found.{Found}
 use Rattle.pg_cert.specs.declared.line.Line.{Line}
 use Rattle.pg_cert.specs.declared.line.Line.TheVariants as line
-use Rattle.pg_cert.specs.Lines.{is_line, IsLine, are_cells, are_removed, most_number}
+use Rattle.pg_cert.specs.Lines.{is_line, IsLine, most_number}
 use Rattle.pg_cert.specs.Texts.{act_line, rows_before}
-use Rattle.pg_cert.specs.Validity.{may_remove, IsActUnder}
+use Rattle.pg_cert.specs.Validity.{IsActUnder}
 use Rattle.pg_verify.specs.declared.fault.VerifyFault.{VerifyFault}
-use Rattle.pg_verify.specs.Reader.{Drawn, Pair, NoState, FirstSize, FirstState, SecondSize, BothStates, Open, Fresh, Between, Refuting, Showing, Spending, Ended, Mark, Progress}
-use Rattle.pg_verify.specs.Taking.{then_take, where_valid, with_step, with_spent_step, is_worth, after_step, held_after, after_remove, with_size, with_psw, drawn, listed, row_fits, with_row, as_first, as_second, with_cells, shown_on, after_state_line}
+use Rattle.pg_verify.specs.Reader.{Drawn, Pair, NoState, FirstSize, FirstState, SecondSize, BothStates}
+use Rattle.pg_verify.specs.Taking.{then_take, where_valid, with_step, with_spent_step, is_worth, with_size, with_psw, drawn, listed, row_fits, with_row, as_first, as_second, with_cells}
 use Rattle.pg_verify.proofs.RowLemmas.{listed_more, within_more, row_added, no_rows}
-use Rattle.pg_verify.proofs.Standing.{drawn_lines, pair_lines, IsDrawn, AreDrawn, IsRefuting, IsShowing, log_after, IsSpending, IsBody, IsFront, IsOpenAt, IsAt}
+use Rattle.pg_verify.proofs.Standing.{drawn_lines, pair_lines, IsDrawn, AreDrawn, IsRefuting, IsShowing, log_after, IsSpending}
 
 -- ---- results
 

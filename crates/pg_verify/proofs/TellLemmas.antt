@@ -1,22 +1,20 @@
 -- What the marks of a text that is not refused tell: its logs are sound, and questions are exact.
-use Rattle.std.proofs.Common.{◌≡◌, ℕ, ◌*◌, Bool, true, List, [], ◌∷◌, length, map, Option, None, Some, Ok, is_none, refl, sym, ap, subst, ◌∙◌, ℤ, IsTrue, slice_get}
-use Rattle.std.specs.Prelude.{⊤, IsSomeAnd}
+use Rattle.std.proofs.Common.{◌≡◌, ℕ, Bool, true, List, [], ◌∷◌, length, Option, None, Some, Ok, is_none, refl, sym, ap, subst, ◌∙◌, ℤ, IsTrue, slice_get}
+use Rattle.std.specs.Prelude.{IsSomeAnd}
 use Rattle.std.specs.Option.{option_and_then, option_map}
 use Rattle.std.proofs.lemmas.List.{length-map}
 use Rattle.std.proofs.lemmas.Option.{same_Some, cond_some, slice_get-map}
 use Rattle.pg_ast.specs.declared.tree.Instr.{Instr}
 use Rattle.pg_ast.specs.declared.tree.Desc.{Desc}
-use Rattle.pg_meaning.specs.States.{State}
 use Rattle.pg_valid.specs.Valid.{IsValid}
 use Rattle.pg_type.specs.declared.kind.Kind.{Kind}
-use Rattle.pg_type.specs.Kinds.{Shows}
 use Rattle.pg_cnf.specs.Truth.{clauses_true}
 use Rattle.pg_proof.specs.declared.step.ProofFault.{ProofFault}
 use Rattle.pg_proof.specs.declared.step.Act.{Act}
 use Rattle.pg_proof.specs.declared.step.Act.TheVariants as act
 use Rattle.pg_proof.specs.State.{State as Log, begun, with_clause}
 use Rattle.pg_proof.specs.Refutation.{fault_of}
-use Rattle.pg_proof.specs.Removal.{without, after_removal}
+use Rattle.pg_proof.specs.Removal.{without}
 use Rattle.pg_proof.specs.Sound.{IsSound}
 use Rattle.pg_proof.specs.Log.{after_act, after_acts_from, after_acts, IsClosedLog}
 use Rattle.pg_proof.proofs.SoundLemmas.{IsSound-begun, IsSound-added}

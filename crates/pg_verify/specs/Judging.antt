@@ -1,5 +1,5 @@
 -- Whether two states show a kind, as a test: *Shows* is decided.
-use Rattle.std.specs.Prelude.{◌≡◌, ◌↔◌, ℕ, Bool, true, false, not, ◌&&◌, ◌||◌, ◌==◌, nat_le, nat_lt, IsTrue, ◌^◌, List, [], ◌∷◌, length, bytes_eq, Option, None, Some, slice_get}
+use Rattle.std.specs.Prelude.{◌↔◌, ℕ, Bool, true, false, not, ◌&&◌, ◌||◌, ◌==◌, nat_le, nat_lt, IsTrue, ◌^◌, length, bytes_eq, Option, None, Some, slice_get}
 use Rattle.std.specs.List.{list_all}
 use Rattle.pg_word.specs.declared.psw.Psw.{Psw}
 use Rattle.pg_word.specs.declared.psw.Mode.{Mode}

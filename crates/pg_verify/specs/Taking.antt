@@ -1,5 +1,5 @@
 -- What a line does to what was read before it, by what it says.
-use Rattle.std.specs.Prelude.{ℕ, zero, suc, ◌+◌, ◌-◌, ◌*◌, Bool, true, false, not, ◌&&◌, ◌==◌, nat_lt, min, if◌then◌else◌, ℤ, List, [], ◌∷◌, ◌++◌, length, position, bytes_eq, Option, None, Some, slice_get, Result, Ok, Err}
+use Rattle.std.specs.Prelude.{ℕ, suc, ◌+◌, ◌-◌, ◌*◌, Bool, true, false, not, ◌&&◌, ◌==◌, nat_lt, min, if◌then◌else◌, ℤ, List, [], ◌∷◌, ◌++◌, length, position, bytes_eq, Option, None, Some, slice_get, Result, Ok, Err}
 use Rattle.std.specs.List.{list_all}
 use Rattle.pg_word.specs.declared.psw.Psw.{Psw as Psws}
 use Rattle.pg_ast.specs.declared.tree.Instr.{Instr}
@@ -31,7 +31,6 @@ use Rattle.pg_cert.specs.Texts.{family_of, instr_of, kind_of}
 use Rattle.pg_cert.specs.Validity.{may_remove}
 use Rattle.pg_verify.specs.declared.fault.VerifyFault.{VerifyFault}
 use Rattle.pg_verify.specs.declared.fault.VerifyFault.TheVariants as fault
-use Rattle.pg_verify.specs.declared.fault.StepCause.{StepCause}
 use Rattle.pg_verify.specs.declared.fault.StepCause.TheVariants.{UnknownLit, UnknownHint, NotUnit, NoConflict}
 use Rattle.pg_verify.specs.Reader.{Drawn, state_of, Pair, NoState, FirstSize, FirstState, SecondSize, BothStates, Open, Fresh, Between, Refuting, Showing, Spending, Ended, Mark, Refuted, Shown, Spent, Progress, Reader}
 use Rattle.pg_verify.specs.Judging.{shows}

@@ -1,7 +1,7 @@
 //! What follows from the definitions alone: none of it does anything when it runs.
 
 ghost use Rattle.pg_verify.specs.Judging.{ShowsIsDecided};
-ghost use Rattle.pg_verify.specs.Verified.{TakenTextsSpell, TakenTextsTell};
+ghost use Rattle.pg_verify.specs.Verified.{TakenTextsSpell, TakenTextsTell, ValidTextsAreTaken};
 
 /// The test of two states is true exactly where they show the kind.
 pub fn shows_is_decided()
@@ -16,4 +16,9 @@ pub fn taken_texts_spell()
 /// So its marks tell of each instruction and each kind that no two states show it, that these two do, or nothing.
 pub fn taken_texts_tell()
     ensures { TakenTextsTell }
+{}
+
+/// The text of a valid certificate is not refused, where it is not too long, and the marks of its findings are kept.
+pub fn valid_texts_are_taken()
+    ensures { ValidTextsAreTaken }
 {}
