@@ -8,3 +8,4 @@ pub mod Said
 pub mod RowLemmas
 pub mod TextLemmas
 pub mod StateText
+pub mod Fits

@@ -5,13 +5,18 @@ ghost use Rattle.std.specs.List.{All, slice_split};
 ghost use Rattle.pg_word.specs.Shape.{IsShape};
 ghost use Rattle.pg_word.specs.declared.shape.Shape.{Shape};
 ghost use Rattle.pg_word.specs.declared.sparse.Sparse.{Sparse};
-ghost use Rattle.pg_word.specs.Sparse.{storage_of};
+ghost use Rattle.pg_word.specs.Sparse.{IsCellList, storage_of};
+ghost use Rattle.pg_ast.specs.declared.tree.Desc.{Desc};
+ghost use Rattle.pg_ast.specs.declared.tree.Instr.{Instr};
+ghost use Rattle.pg_type.specs.declared.kind.Kind.{Kind};
+ghost use Rattle.pg_type.specs.Kinds.{Shows};
+ghost use Rattle.pg_type.specs.Listed.{state_of};
 ghost use Rattle.pg_image.specs.Lines.{state_text};
 ghost use Rattle.pg_cert.specs.declared.line.Line.{Line};
 ghost use Rattle.pg_cert.specs.Lines.{line_text, IsLine};
 ghost use Rattle.pg_cert.specs.Reading.{read_parts, but_last};
 ghost use Rattle.pg_cert.specs.Parsing.{Says, said};
-ghost use Rattle.pg_cert.specs.Texts.{state_lines, lines_text};
+ghost use Rattle.pg_cert.specs.Texts.{state_lines, lines_text, DoStateWordsFit};
 
 /// What is read of the parts of a line's text, which stand between its spaces, is the line.
 pub fn lines_are_read()
@@ -43,4 +48,10 @@ pub fn lines_end_once()
 /// The lines of a state are the text by which states are shown.
 pub fn states_are_shown()
     ensures { (shape : Shape) (s : Sparse) → lines_text shape (state_lines s) ≡ state_text shape.w (storage_of s.size s.cells) s.psw }
+{}
+
+/// The listed words of two states that show a kind have as many bits as a word of the machine, so that they can be written.
+pub fn shown_states_fit()
+    ensures { (d : Desc) (i : Instr) (kind : Kind) (s t : Sparse) → IsCellList s.cells → IsCellList t.cells →
+        Shows d i kind (state_of s) (state_of t) → DoStateWordsFit d.word s × DoStateWordsFit d.word t }
 {}
