@@ -12,6 +12,7 @@ use Rattle.pg_command.specs.declared.ask.Request.{Request}
 use Rattle.pg_command.specs.declared.ask.Request.TheVariants as request
 use Rattle.pg_command.proofs.PrintLaws.{print_asks, print_holds}
 use Rattle.pg_command.proofs.RunningLaws.{run_asks, running_holds}
+use Rattle.pg_command.proofs.VerifyLaws.{verify_asks, verify_holds}
 
 -- each of the commands holds what it wants where a level of the parse has no fault
 abbrev pub EachHolds : List Shape → Type 0
@@ -35,10 +36,13 @@ pub all_hold : EachHolds (built line).subs
 all_hold = (
   running_holds (codes "bare"),
   (
-    running_holds (codes "run"),
+    verify_holds,
     (
-      print_holds,
-      tt,
+      running_holds (codes "run"),
+      (
+        print_holds,
+        tt,
+      ),
     ),
   ),
 )
@@ -47,10 +51,13 @@ pub all_ask : AllAsk commands
 all_ask = (
   (λ rows h. made request.Bare _ (run_asks rows h)),
   (
-    (λ rows h. made request.Run _ (run_asks rows h)),
+    (λ rows h. made request.Verify _ (verify_asks rows h)),
     (
-      (λ rows h. made request.Print _ (print_asks rows h)),
-      tt,
+      (λ rows h. made request.Run _ (run_asks rows h)),
+      (
+        (λ rows h. made request.Print _ (print_asks rows h)),
+        tt,
+      ),
     ),
   ),
 )

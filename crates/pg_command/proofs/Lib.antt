@@ -5,5 +5,6 @@ mod NumberLaws
 mod PrintLaws
 mod RowLaws
 mod RunningLaws
+mod VerifyLaws
 mod WalkLaws
 mod CommandLaws

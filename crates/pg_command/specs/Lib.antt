@@ -7,3 +7,4 @@ pub mod Print
 pub mod Reads
 pub mod Run
 pub mod Running
+pub mod Verify

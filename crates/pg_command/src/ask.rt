@@ -3,12 +3,15 @@
 //! Contracts see a request as plain data: the names in it as their bytes, and the numbers as what they are.
 use crate::print::PrintWords;
 use crate::running::RunWords;
+use crate::verify::VerifyWords;
 
 /// What the words ask for.
 #[derive(Drop)]
 pub enum Request {
     /// `bare`: run an image on a bare machine.
     Bare(RunWords),
+    /// `verify`: check a certificate against a description.
+    Verify(VerifyWords),
     /// `run`: run an image as a guest under a monitor.
     Run(RunWords),
     /// `print`: print a description.

@@ -31,6 +31,7 @@ mod print;
 mod run;
 mod running;
 mod values;
+mod verify;
 
 pub use ask::{Fault, Request};
 use clap::error::ErrorKind;
@@ -39,6 +40,7 @@ pub use print::PrintWords;
 pub use running::RunWords;
 use std::alloc::Global;
 pub use values::{FileName, Grant, Steps};
+pub use verify::VerifyWords;
 
 /// What the words ask for, of which the first is the program's name.
 ///

@@ -1,3 +1,4 @@
 pub mod Texts
 pub mod Spans
 pub mod Runs
+pub mod Verdicts

@@ -4,12 +4,15 @@ use Rattle.std.specs.Fmt.{decimal}
 use Rattle.pg_token.specs.Words.{most_name_bytes}
 use Rattle.pg_valid.specs.declared.fault.Limit.{Limit as Limits}
 use Rattle.pg_valid.specs.declared.fault.Limit.TheVariants.{Instructions, Accesses, Lets, Statements, Expressions}
+use Rattle.pg_cert.specs.Lines.{kind_text}
 use Rattle.pg_report.specs.declared.line.RefusalLine.{RefusalLine}
-use Rattle.pg_report.specs.declared.line.RefusalLine.TheVariants.{Description, Image, Room, Open}
+use Rattle.pg_report.specs.declared.line.RefusalLine.TheVariants.{Description, Image, Certificate, Room, Open}
 use Rattle.pg_report.specs.declared.line.DescriptionLine.{DescriptionLine}
 use Rattle.pg_report.specs.declared.line.DescriptionLine.TheVariants.{Long, Token, Grammar as Misplaced, Deep, Shape, Limit, Twice, Pattern, Overlap, Name, Width}
 use Rattle.pg_report.specs.declared.line.ImageLine.{ImageLine}
 use Rattle.pg_report.specs.declared.line.ImageLine.TheVariants.{Long as LongImage, Token as Foreign, Grammar, Address, Overlap as Again}
+use Rattle.pg_report.specs.declared.line.CertificateLine.{CertificateLine}
+use Rattle.pg_report.specs.declared.line.CertificateLine.TheVariants as cert
 
 -- limits by number
 abbrev pub limit_number : Limits → ℕ
@@ -49,16 +52,35 @@ image_text (Grammar line) = codes "grammar " ++ decimal line
 image_text (Address line) = codes "address " ++ decimal line
 image_text (Again line) = codes "overlap " ++ decimal line
 
+-- why a certificate is refused
+unfoldable pub certificate_text : CertificateLine → List ℕ
+certificate_text cert.Long = codes "long"
+certificate_text (cert.Token line) = codes "token " ++ decimal line
+certificate_text (cert.Grammar line) = codes "grammar " ++ decimal line
+certificate_text cert.Version = codes "version 1"
+certificate_text (cert.Instr line) = codes "instr " ++ decimal line
+certificate_text (cert.Step line cause) = codes "step " ++ two_numbers line cause
+certificate_text (cert.Closed line) = codes "closed " ++ decimal line
+certificate_text (cert.Pair line) = codes "pair " ++ decimal line
+certificate_text (cert.Spent line) = codes "spent " ++ decimal line
+certificate_text (cert.Missing name kind) = codes "missing " ++ name_text name ++ codes " " ++ kind_text kind
+certificate_text (cert.Extra line) = codes "extra " ++ decimal line
+certificate_text (cert.Delete line) = codes "delete " ++ decimal line
+
 -- the line of a refusal
 unfoldable pub refusal_text : RefusalLine → List ℕ
 refusal_text (Description line) = codes "description: " ++ description_text line ++ 10 ∷ []
 refusal_text (Image number line) = codes "image " ++ decimal number ++ codes ": " ++ image_text line ++ 10 ∷ []
+refusal_text (Certificate line) = codes "certificate: " ++ certificate_text line ++ 10 ∷ []
 refusal_text (Room wanted free) = codes "room " ++ two_numbers wanted free ++ 10 ∷ []
 refusal_text (Open name) = codes "open " ++ name_text name ++ codes " rule" ++ 10 ∷ []
 
 -- how each command is called
 abbrev pub usage_bare : List ℕ
 usage_bare = codes "pgv bare DESC IMAGE --grant G --steps N" ++ 10 ∷ []
+
+abbrev pub usage_verify : List ℕ
+usage_verify = codes "pgv verify DESC CERT" ++ 10 ∷ []
 
 abbrev pub usage_run : List ℕ
 usage_run = codes "pgv run DESC IMAGE --grant G --steps N" ++ 10 ∷ []
@@ -68,4 +90,4 @@ usage_print = codes "pgv print DESC" ++ 10 ∷ []
 
 -- one line for each command
 unfoldable pub usage_text : List ℕ
-usage_text = usage_bare ++ usage_run ++ usage_print
+usage_text = usage_bare ++ usage_verify ++ usage_run ++ usage_print

@@ -4,6 +4,7 @@
 //! says; how it is written is in `refusal` and in `specs/Texts.antt`. Want of memory has no line, and is no variant here. A
 //! name is owned, since the description that it comes from is gone when the line is put: the one part that takes memory.
 
+use pg_type::Kind;
 use pg_valid::Limit;
 use sqlite_items::Items;
 
@@ -14,6 +15,8 @@ pub enum RefusalLine {
     Description(DescriptionLine),
     /// The image of this number, counted from 0, is refused, for this reason.
     Image(usize, ImageLine),
+    /// The certificate is refused, for this reason.
+    Certificate(CertificateLine),
     /// So many cells are wanted, and so many, which are fewer, are free.
     Room(u64, u64),
     /// The instruction of this name is the first that breaks the plain rule, so that it stays open whether a monitor may run
@@ -62,4 +65,35 @@ pub enum ImageLine {
     Address(usize),
     /// This line gives a cell that an earlier line gave.
     Overlap(usize),
+}
+
+/// Why a certificate is refused. Lines of its text are numbered from 1.
+#[derive(Debug, Drop)]
+pub enum CertificateLine {
+    /// It has more bytes than the limit.
+    Long,
+    /// This line has a byte that may not stand in a certificate.
+    Token(u32),
+    /// This line is none of a certificate, or may not stand there.
+    Grammar(u32),
+    /// The first line is that of another version.
+    Version,
+    /// This header names no instruction.
+    Instr(u32),
+    /// The step on this line is not valid, and the number of the cause: 1 for a literal of no variable of the question, 2 for
+    /// a hint that names no clause, 3 for a hint whose clause sets no literal, or is false before the last hint, 4 where no
+    /// clause is false after the last hint.
+    Step(u32, u32),
+    /// The log below this header has no empty clause.
+    Closed(u32),
+    /// The two states below this header do not show the kind.
+    Pair(u32),
+    /// On this line, or below this header, a budget is not spent as is said.
+    Spent(u32),
+    /// The finding of the instruction of this name and of this kind is missing.
+    Missing(Items<u8>, Kind),
+    /// This header is of a finding that was given before.
+    Extra(u32),
+    /// This line takes a clause away that is not held.
+    Delete(u32),
 }

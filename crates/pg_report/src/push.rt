@@ -8,11 +8,14 @@ ghost use Rattle.std.specs.Fmt.{decimal};
 ghost use Rattle.arrayvec.specs.ArrayVec.{array_vec_len};
 ghost use Rattle.pg_token.specs.Words.{most_name_bytes};
 ghost use Rattle.pg_image.specs.Lines.{most_line_bytes};
+ghost use Rattle.pg_cert.specs.Lines.{kind_text};
 ghost use Rattle.pg_report.specs.Texts.{name_text, two_numbers};
 
+use pg_cert::put::kind_name;
 use pg_image::{Line, push};
 use pg_text::dec;
 use pg_token::NAME_BYTES;
+use pg_type::Kind;
 
 /// Pushes a number, as decimal digits.
 pub(crate) fn push_number(line: &mut Line, number: u64)
@@ -52,4 +55,14 @@ pub(crate) fn push_name(line: &mut Line, name: &[u8])
     ensures len { array_vec_len line.new ≤ array_vec_len line.old + most_name_bytes }
 {
     push(line, &name[..name.len().min(NAME_BYTES)]);
+}
+
+/// Pushes the word of a kind.
+#[tactic(auto, using(crate::proofs::Names::kind_is_short))]
+pub(crate) fn push_kind(line: &mut Line, kind: Kind)
+    requires { array_vec_len line.old + 10 ≤ most_line_bytes }
+    ensures items { line.new.items ≡ line.old.items ++ kind_text kind }
+    ensures len { array_vec_len line.new ≤ array_vec_len line.old + 10 }
+{
+    push(line, kind_name(kind));
 }

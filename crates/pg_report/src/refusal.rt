@@ -8,10 +8,10 @@ ghost use Rattle.std.specs.Prelude.{◌≡◌, ◌+◌, ◌≤◌, ◌++◌};
 ghost use Rattle.arrayvec.specs.ArrayVec.{array_vec_len};
 ghost use Rattle.pg_edge.specs.Sink.{Puts};
 ghost use Rattle.pg_image.specs.Lines.{most_line_bytes};
-ghost use Rattle.pg_report.specs.Texts.{limit_number, description_text, image_text, refusal_text, usage_text};
+ghost use Rattle.pg_report.specs.Texts.{limit_number, description_text, image_text, certificate_text, refusal_text, usage_text};
 
-use crate::line::{DescriptionLine, ImageLine, RefusalLine};
-use crate::push::{push_at, push_name, push_pair};
+use crate::line::{CertificateLine, DescriptionLine, ImageLine, RefusalLine};
+use crate::push::{push_at, push_kind, push_name, push_pair};
 use crate::text::put_text;
 use pg_edge::{Failed, Sink};
 use pg_image::{Line, push};
@@ -39,7 +39,7 @@ pub fn put_usage<S: Sink>(out: &mut S) -> Result<(), Failed>
 {
     put_text(
         out,
-        b"pgv bare DESC IMAGE --grant G --steps N\npgv run DESC IMAGE --grant G --steps N\npgv print DESC\n",
+        b"pgv bare DESC IMAGE --grant G --steps N\npgv verify DESC CERT\npgv run DESC IMAGE --grant G --steps N\npgv print DESC\n",
     )
 }
 
@@ -68,6 +68,11 @@ fn push_refusal(text: &mut Line, line: &RefusalLine)
             push_at(text, b"image ", *number);
             push(text, b": ");
             push_image(text, image);
+            text.push(b'\n');
+        }
+        RefusalLine::Certificate(certificate) => {
+            push(text, b"certificate: ");
+            push_certificate(text, certificate);
             text.push(b'\n');
         }
         RefusalLine::Room(wanted, free) => {
@@ -147,5 +152,38 @@ fn push_image(text: &mut Line, why: &ImageLine)
         ImageLine::Grammar(line) => push_at(text, b"grammar ", *line),
         ImageLine::Address(line) => push_at(text, b"address ", *line),
         ImageLine::Overlap(line) => push_at(text, b"overlap ", *line),
+    }
+}
+
+/// Pushes why a certificate is refused.
+#[tactic(auto, unfolding(crate::specs::Texts::certificate_text))]
+fn push_certificate(text: &mut Line, why: &CertificateLine)
+    requires { array_vec_len text.old + 58 ≤ most_line_bytes }
+    ensures items { text.new.items ≡ text.old.items ++ certificate_text why.now }
+    ensures len { array_vec_len text.new ≤ array_vec_len text.old + 58 }
+{
+    match why {
+        CertificateLine::Long => push(text, b"long"),
+        CertificateLine::Token(line) => push_at(text, b"token ", *line as usize),
+        CertificateLine::Grammar(line) => push_at(text, b"grammar ", *line as usize),
+        CertificateLine::Version => push(text, b"version 1"),
+        CertificateLine::Instr(line) => push_at(text, b"instr ", *line as usize),
+        CertificateLine::Step(line, cause) => push_pair(
+            text,
+            b"step ",
+            u64::from(*line),
+            u64::from(*cause),
+        ),
+        CertificateLine::Closed(line) => push_at(text, b"closed ", *line as usize),
+        CertificateLine::Pair(line) => push_at(text, b"pair ", *line as usize),
+        CertificateLine::Spent(line) => push_at(text, b"spent ", *line as usize),
+        CertificateLine::Missing(name, kind) => {
+            push(text, b"missing ");
+            push_name(text, name.as_slice());
+            push(text, b" ");
+            push_kind(text, *kind);
+        }
+        CertificateLine::Extra(line) => push_at(text, b"extra ", *line as usize),
+        CertificateLine::Delete(line) => push_at(text, b"delete ", *line as usize),
     }
 }

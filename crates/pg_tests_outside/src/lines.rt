@@ -17,8 +17,8 @@ fn asked(alloc: Global, line: &str) -> Result<Result<Request, Fault>, AllocError
 }
 
 /// Lines that are taken, with the command, the grant and the steps that they ask for. The description is `d`, and the
-/// image, where the command has one, `i`.
-const TAKEN: [(&str, &str, u32, u64); 9] = [
+/// image or the certificate, where the command has one, `i` or `c`.
+const TAKEN: [(&str, &str, u32, u64); 11] = [
     ("pgv|bare|d|i|--grant|8|--steps|0", "bare", 8, 0),
     (
         "pgv|bare|--steps=1000000|d|--grant=8|i",
@@ -34,6 +34,8 @@ const TAKEN: [(&str, &str, u32, u64); 9] = [
         7,
     ),
     ("pgv|bare|d|i|--grant|+008|--steps|00", "bare", 8, 0),
+    ("pgv|verify|d|c", "verify", 0, 0),
+    ("x|verify|d|--|c", "verify", 0, 0),
     ("pgv|run|d|i|--grant|8|--steps|3", "run", 8, 3),
     (
         "pgv|run|--steps=1000000|d|i|--grant=1048575",
@@ -51,6 +53,11 @@ fn lines_that_are_taken(rt: HostRuntime) -> Result<(), Fail> {
         let (name, words) = match asked(rt.alloc(), line)? {
             Ok(Request::Bare(words)) => ("bare", Some(words)),
             Ok(Request::Run(words)) => ("run", Some(words)),
+            Ok(Request::Verify(words)) => {
+                assert!(rt; words.desc.as_str() == "d", "{line}");
+                assert!(rt; words.cert.as_str() == "c", "{line}");
+                ("verify", None)
+            }
             Ok(Request::Print(words)) => {
                 assert!(rt; words.desc.as_str() == "d", "{line}");
                 ("print", None)
@@ -71,7 +78,7 @@ fn lines_that_are_taken(rt: HostRuntime) -> Result<(), Fail> {
 }
 
 /// Lines that are refused.
-const REFUSED: [&str; 41] = [
+const REFUSED: [&str; 44] = [
     "pgv",
     "pgv|verify",
     "pgv|--help",
@@ -107,6 +114,9 @@ const REFUSED: [&str; 41] = [
     "pgv|run|d|i|--steps=3",
     "pgv|run|d|i|e|--grant=8|--steps=3",
     "pgv|run|d|--grant=8|--steps=3",
+    "pgv|verify|d",
+    "pgv|verify|d|c|e",
+    "pgv|verify|d|c|--steps=0",
     "pgv|print",
     "pgv|print|d|e",
     "pgv|print|d|--grant=8",
