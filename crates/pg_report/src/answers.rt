@@ -35,7 +35,8 @@ fn push_answers(line: &mut Line, kinds: &[Kind], marks: &[Mark])
     ensures len { array_vec_len line.new ≤ array_vec_len line.old + 16 * length kinds.now }
 {
     for (place, mark) in marks.iter().enumerate() {
-        push_answer(line, kinds[place], mark);
+        let kind = kinds[place];
+        push_answer(line, kind, mark);
     }
 }
 
