@@ -1,8 +1,8 @@
 //! The text of a verdict.
 //!
-//! For each instruction in order there is a line of what is known of it, and behind them what follows for the machine: that
-//! it is accepted; or the first instruction that is open, and its kind; or the first that breaks the rule, with the two states
-//! that show that it is not privileged, and those of its first sensitive kind that is shown.
+//! For each instruction in order there is a line of what is known of it, and behind them what follows for the machine:
+//! that it is accepted; or the first instruction that is open, and its kind; or the first that breaks the rule, with the
+//! two states that show that it is not privileged, and those of its first sensitive kind that is shown.
 
 ghost use Rattle.std.specs.Prelude.{◌≡◌, ◌*◌, ◌<◌, ◌≤◌, length, position, All, IfSome};
 ghost use Rattle.pg_edge.specs.Sink.{Puts};
@@ -24,7 +24,7 @@ use pg_type::{Kind, Machine};
 use pg_word::{Shape, Sparse};
 
 /// Puts the text of the verdict of a report, which has one mark for each instruction of the machine and each kind of its
-/// family. Each word of a state that is kept fits a word of the machine. The cost is linear in the marks and their states.
+/// family. Each word of a state that is kept fits a word of the machine. The cost is linear in the marks and states.
 ///
 /// # Errors
 /// `Failed` where not all of the text went through. A front of it may have.
