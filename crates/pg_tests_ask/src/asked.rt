@@ -72,7 +72,7 @@ fn are_equal(x: &Cnf, y: &Cnf) -> bool {
 // who owns a question makes one call with it, to which it is lent.
 
 /// The question of the machine's first instruction.
-fn question<'m>(alloc: Global, m: &'m Machine, kind: Kind) -> Result<Asked<'m>, AllocError>
+pub fn question<'m>(alloc: Global, m: &'m Machine, kind: Kind) -> Result<Asked<'m>, AllocError>
     requires { 0 < length m.now.desc.instrs }
 {
     ask(alloc, m, 0, kind)

@@ -5,10 +5,13 @@
 //! that the definition of the kinds means what it should, and that the solver finds both answers.
 //!
 //! - `asked`: a description, asked all kinds.
+//! - `known`: known pairs, added to the clauses.
 //! - `rows`: instructions, with the kinds that two states show.
 #![tactic(auto)]
 
 #[cfg(test)]
 mod asked;
+#[cfg(test)]
+mod known;
 #[cfg(test)]
 mod rows;
