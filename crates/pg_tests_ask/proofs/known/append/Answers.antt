@@ -1,4 +1,4 @@
-use Rattle.std.proofs.Common.{◌<◌, ◌+◌, ℤ, List, length, arith, sym, ap, subst, ◌∙◌}
+use Rattle.std.proofs.Common.{◌<◌, ◌+◌, length, arith, sym, ap, subst, ◌∙◌}
 use Rattle.pg_cnf.specs.Literals.{IsClause, AreClauses}
 use Rattle.pg_tests_ask.proofs.Appended.{room_for_one, clause_at}
 use Rattle.pg_tests_ask.proofs.known.append.Goals as goal
