@@ -1,8 +1,6 @@
-use Rattle.std.proofs.Common.{length, sym, ap, ◌∙◌, subst, ◌<◌, arith, false}
-use Rattle.pg_circuit.specs.Values.{IsThere}
-use Rattle.pg_circuit.specs.Made.{constant_gate}
+use Rattle.std.proofs.Common.{length, sym, ap, ◌∙◌, subst}
 use Rattle.pg_vec.specs.There.{AreThere}
-use Rattle.pg_vec.proofs.Kept.{front_then, there_later, all_there_later}
+use Rattle.pg_vec.proofs.Kept.{front_then, all_there_later}
 use Rattle.pg_ask.proofs.CodeSteps.{apart_step, leaves_gate}
 use Rattle.pg_ask.proofs.EndsLaws.{apart-is}
 use Rattle.pg_ask.proofs.ends.seen_apart.Goals as goal
@@ -43,27 +41,6 @@ lt-requires-clause-right c =
 
 pub lt-requires-clause-same_width : goal.lt-requires-clause-same_width
 lt-requires-clause-same_width c = c.requires.unknowns.compared.wide
-
-pub and-requires-clause-left : goal.and-requires-clause-left
-and-requires-clause-left c =
-    let worth = c.in_ok-inside.ensures.worth in
-    let one : 0 < length c.in_ok-inside.inside = omega (arith, worth.wide) in
-    subst (IsThere (length c.lt.new.circuit.nodes)) (sym c.bit_0.ensures) (worth.there 0 (constant_gate false) one)
-
-pub and-requires-clause-right : goal.and-requires-clause-right
-and-requires-clause-right c =
-    subst (IsThere (length c.lt.new.circuit.nodes)) (sym c.not.ensures)
-    (there_later c.same-2.new.circuit.nodes c.lt.new.circuit.nodes c.in_ok-same_word.same_word c.lt.ensures.kept.front c.in_ok-same_word.ensures.there)
-
-pub or-requires-clause-left : goal.or-requires-clause-left
-or-requires-clause-left c =
-    let to_lt = front_then c.same.new.circuit.nodes c.same-2.new.circuit.nodes c.lt.new.circuit.nodes c.same-2.ensures.kept.front c.lt.ensures.kept.front in
-    let front = front_then c.same.new.circuit.nodes c.lt.new.circuit.nodes c.and.new.circuit.nodes to_lt c.and.ensures.kept.front in
-    subst (IsThere (length c.and.new.circuit.nodes)) (sym c.not-2.ensures)
-    (there_later c.same.new.circuit.nodes c.and.new.circuit.nodes c.in_ok-same_p.same_p front c.in_ok-same_p.ensures.there)
-
-pub or-requires-clause-right : goal.or-requires-clause-right
-or-requires-clause-right c = c.in_ok-odd.ensures.there
 
 pub returns-clause-made : goal.returns-clause-made
 returns-clause-made c =
