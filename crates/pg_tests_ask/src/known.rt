@@ -25,9 +25,18 @@ use std::test::Fail;
 /// A state: how many cells its storage has, and mode, P, l and b. All cells are zero but that at P.
 type Side = (u32, Mode, u32, u32, u32);
 
-/// An instruction, a kind, the word at P in both states, the states, and an address at which their windows tell them apart,
-/// where they show the kind; none where they do not. For a kind that looks at no window it may be any.
-type Known = (&'static str, Kind, u32, Side, Side, Option<u32>);
+/// A pair of states, with a word at P in both, and whether it shows a kind of an instruction.
+#[derive(Clone, Copy)]
+struct Known {
+    instr: &'static str,
+    kind: Kind,
+    word: u32,
+    first: Side,
+    second: Side,
+    /// Where the pair shows the kind, an address at which the windows tell them apart after the runs, or any, if the kind
+    /// looks at no window; none where it does not show the kind.
+    apart_at: Option<u32>,
+}
 
 const RTU: &str = "instr rtu \"00000101_................_aaaaaaaa\" { mode = 1:1; pc = a; }";
 
@@ -47,134 +56,134 @@ const STORE_BOUND: &str =
 
 /// For each kind a pair that shows it, and a near one that does not.
 const KNOWN: [Known; 16] = [
-    (
-        RTU,
-        Kind::Privileged,
-        0x0500_0000,
-        (4, Mode::S, 2, 0, 4),
-        (4, Mode::U, 2, 0, 4),
-        Some(0),
-    ),
-    (
-        LR,
-        Kind::Privileged,
-        0x0400_0004,
-        (4, Mode::S, 2, 0, 4),
-        (4, Mode::U, 2, 0, 4),
-        None,
-    ),
-    (
-        RTU,
-        Kind::Control,
-        0x0500_0000,
-        (4, Mode::S, 2, 0, 4),
-        (4, Mode::S, 2, 0, 4),
-        Some(0),
-    ),
-    (
-        RTU,
-        Kind::Control,
-        0x0500_0000,
-        (4, Mode::U, 2, 0, 4),
-        (4, Mode::U, 2, 0, 4),
-        None,
-    ),
-    (
-        STORE_MODE,
-        Kind::ModeDep,
-        0x0600_0000,
-        (4, Mode::S, 2, 0, 4),
-        (4, Mode::U, 2, 0, 4),
-        Some(0),
-    ),
-    (
-        STORE_MODE,
-        Kind::ModeDep,
-        0x0600_00ff,
-        (4, Mode::S, 2, 0, 4),
-        (4, Mode::U, 2, 0, 4),
-        None,
-    ),
-    (
-        STORE_REL,
-        Kind::Location,
-        0x0600_0000,
-        (4, Mode::S, 0, 0, 3),
-        (4, Mode::S, 0, 1, 3),
-        Some(0),
-    ),
-    (
-        STORE_REL,
-        Kind::Location,
-        0x0600_00ff,
-        (4, Mode::S, 0, 0, 3),
-        (4, Mode::S, 0, 1, 3),
-        None,
-    ),
-    (
-        STORE_BOUND,
-        Kind::Bound,
-        0x0600_0000,
-        (4, Mode::S, 2, 0, 5),
-        (5, Mode::S, 2, 0, 4),
-        Some(0),
-    ),
-    (
-        STORE_BOUND,
-        Kind::Bound,
-        0x0600_00ff,
-        (4, Mode::S, 2, 0, 4),
-        (4, Mode::S, 2, 0, 5),
-        None,
-    ),
-    (
-        OPEN_LR,
-        Kind::UControl,
-        0x0400_0002,
-        (4, Mode::U, 2, 0, 4),
-        (4, Mode::U, 2, 0, 4),
-        Some(0),
-    ),
-    (
-        OPEN_LR,
-        Kind::UControl,
-        0x0400_0004,
-        (4, Mode::U, 2, 0, 4),
-        (4, Mode::U, 2, 0, 4),
-        None,
-    ),
-    (
-        STORE_REL,
-        Kind::ULocation,
-        0x0600_0000,
-        (4, Mode::U, 0, 0, 3),
-        (4, Mode::U, 0, 1, 3),
-        Some(0),
-    ),
-    (
-        STORE_REL,
-        Kind::ULocation,
-        0x0600_0000,
-        (4, Mode::S, 0, 0, 3),
-        (4, Mode::S, 0, 1, 3),
-        None,
-    ),
-    (
-        STORE_BOUND,
-        Kind::UBound,
-        0x0600_0000,
-        (4, Mode::U, 2, 0, 4),
-        (4, Mode::U, 2, 0, 5),
-        Some(0),
-    ),
-    (
-        STORE_BOUND,
-        Kind::UBound,
-        0x0600_0000,
-        (4, Mode::S, 2, 0, 4),
-        (4, Mode::S, 2, 0, 5),
-        None,
-    ),
+    Known {
+        instr: RTU,
+        kind: Kind::Privileged,
+        word: 0x0500_0000,
+        first: (4, Mode::S, 2, 0, 4),
+        second: (4, Mode::U, 2, 0, 4),
+        apart_at: Some(0),
+    },
+    Known {
+        instr: LR,
+        kind: Kind::Privileged,
+        word: 0x0400_0004,
+        first: (4, Mode::S, 2, 0, 4),
+        second: (4, Mode::U, 2, 0, 4),
+        apart_at: None,
+    },
+    Known {
+        instr: RTU,
+        kind: Kind::Control,
+        word: 0x0500_0000,
+        first: (4, Mode::S, 2, 0, 4),
+        second: (4, Mode::S, 2, 0, 4),
+        apart_at: Some(0),
+    },
+    Known {
+        instr: RTU,
+        kind: Kind::Control,
+        word: 0x0500_0000,
+        first: (4, Mode::U, 2, 0, 4),
+        second: (4, Mode::U, 2, 0, 4),
+        apart_at: None,
+    },
+    Known {
+        instr: STORE_MODE,
+        kind: Kind::ModeDep,
+        word: 0x0600_0000,
+        first: (4, Mode::S, 2, 0, 4),
+        second: (4, Mode::U, 2, 0, 4),
+        apart_at: Some(0),
+    },
+    Known {
+        instr: STORE_MODE,
+        kind: Kind::ModeDep,
+        word: 0x0600_00ff,
+        first: (4, Mode::S, 2, 0, 4),
+        second: (4, Mode::U, 2, 0, 4),
+        apart_at: None,
+    },
+    Known {
+        instr: STORE_REL,
+        kind: Kind::Location,
+        word: 0x0600_0000,
+        first: (4, Mode::S, 0, 0, 3),
+        second: (4, Mode::S, 0, 1, 3),
+        apart_at: Some(0),
+    },
+    Known {
+        instr: STORE_REL,
+        kind: Kind::Location,
+        word: 0x0600_00ff,
+        first: (4, Mode::S, 0, 0, 3),
+        second: (4, Mode::S, 0, 1, 3),
+        apart_at: None,
+    },
+    Known {
+        instr: STORE_BOUND,
+        kind: Kind::Bound,
+        word: 0x0600_0000,
+        first: (4, Mode::S, 2, 0, 5),
+        second: (5, Mode::S, 2, 0, 4),
+        apart_at: Some(0),
+    },
+    Known {
+        instr: STORE_BOUND,
+        kind: Kind::Bound,
+        word: 0x0600_00ff,
+        first: (4, Mode::S, 2, 0, 4),
+        second: (4, Mode::S, 2, 0, 5),
+        apart_at: None,
+    },
+    Known {
+        instr: OPEN_LR,
+        kind: Kind::UControl,
+        word: 0x0400_0002,
+        first: (4, Mode::U, 2, 0, 4),
+        second: (4, Mode::U, 2, 0, 4),
+        apart_at: Some(0),
+    },
+    Known {
+        instr: OPEN_LR,
+        kind: Kind::UControl,
+        word: 0x0400_0004,
+        first: (4, Mode::U, 2, 0, 4),
+        second: (4, Mode::U, 2, 0, 4),
+        apart_at: None,
+    },
+    Known {
+        instr: STORE_REL,
+        kind: Kind::ULocation,
+        word: 0x0600_0000,
+        first: (4, Mode::U, 0, 0, 3),
+        second: (4, Mode::U, 0, 1, 3),
+        apart_at: Some(0),
+    },
+    Known {
+        instr: STORE_REL,
+        kind: Kind::ULocation,
+        word: 0x0600_0000,
+        first: (4, Mode::S, 0, 0, 3),
+        second: (4, Mode::S, 0, 1, 3),
+        apart_at: None,
+    },
+    Known {
+        instr: STORE_BOUND,
+        kind: Kind::UBound,
+        word: 0x0600_0000,
+        first: (4, Mode::U, 2, 0, 4),
+        second: (4, Mode::U, 2, 0, 5),
+        apart_at: Some(0),
+    },
+    Known {
+        instr: STORE_BOUND,
+        kind: Kind::UBound,
+        word: 0x0600_0000,
+        first: (4, Mode::S, 2, 0, 4),
+        second: (4, Mode::S, 2, 0, 5),
+        apart_at: None,
+    },
 ];
 
 /// Adds that a gate has a value: variable k + 1 stands for node k.
@@ -294,7 +303,12 @@ fn fix_pair(
     known: &Known,
 ) -> Result<(), AllocError> {
     let unknowns = asked.unknowns();
-    let (_, _, word, first, second, compared) = *known;
+    let Known {
+        first,
+        second,
+        word,
+        ..
+    } = *known;
     fix_registers(rt, alloc, cnf, unknowns, first, second)?;
     fix(
         rt,
@@ -304,7 +318,7 @@ fn fix_pair(
         first.4.min(first.0.saturating_sub(first.3)),
     )?;
     let mut other = None;
-    if let Some(address) = compared {
+    if let Some(address) = known.apart_at {
         fix(rt, alloc, cnf, &unknowns.compared, address)?;
         other = Some(if address == first.2 { word } else { 0 });
     }
@@ -355,7 +369,7 @@ fn found_of(
         Answer::Unsat(_) => Ok(None),
         Answer::Sat(assignment) => {
             let (s, t) = states(alloc, asked, assignment.as_slice())?;
-            Ok(Some(is_side(&s, known.3, known.2) && is_side(&t, known.4, known.2)))
+            Ok(Some(is_side(&s, known.first, known.word) && is_side(&t, known.second, known.word)))
         }
     }
 }
@@ -364,18 +378,18 @@ fn found_of(
 fn found(rt: &impl Abort, alloc: Global, m: &Machine, known: &Known) -> Result<Option<bool>, Fail>
     requires { 0 < length m.now.desc.instrs }
 {
-    let asked = question(alloc, m, known.1)?;
+    let asked = question(alloc, m, known.kind)?;
     found_of(rt, alloc, &asked, known)
 }
 
 #[test]
 fn known_pairs(rt: HostRuntime) -> Result<(), Fail> {
     for known in &KNOWN {
-        let m = machine(rt.alloc(), known.0)?;
+        let m = machine(rt.alloc(), known.instr)?;
         assert!(&rt; m.count() > 0);
         let told = found(&rt, rt.alloc(), &m, known)?;
-        let due = known.5.map(|_| true);
-        assert!(&rt; told == due, "{} {:?} {told:?}", known.0, known.1);
+        let due = known.apart_at.map(|_| true);
+        assert!(&rt; told == due, "{} {:?} {told:?}", known.instr, known.kind);
     }
     Ok(())
 }
