@@ -3,7 +3,7 @@
 //! A clause of one literal for each bit of the registers, the sizes and the touched cells says that the states are those of
 //! the pair. The solver takes these with the clauses of the question; what it finds stands for the very pair.
 
-ghost use Rattle.std.specs.Prelude.{◌≡◌, ◌+◌, ◌<◌, ◌≤◌, ◌≢◌, ◌^◌, ◌++◌, ◌∷◌, [], OnOk, IfOk, true, ℤ, List, Bool, length, nat_abs};
+ghost use Rattle.std.specs.Prelude.{◌≡◌, ◌+◌, ◌<◌, ◌^◌, ◌++◌, ◌∷◌, [], OnOk, IfOk, true, List, Bool, length};
 ghost use Rattle.pg_cnf.specs.Literals.{IsClause};
 ghost use Rattle.pg_cnf.specs.Truth.{clauses_true};
 
