@@ -1,6 +1,8 @@
-use Rattle.std.proofs.Common.{◌∙◌, length, sym, ap, subst}
+use Rattle.std.proofs.Common.{◌∙◌, List, [], ◌∷◌, length, sym, ap, subst}
 use Rattle.pg_word.specs.declared.shape.Shape.{Shape}
 use Rattle.pg_word.specs.Bits.{IsWidth}
+use Rattle.pg_circuit.specs.Values.{IsThere}
+use Rattle.pg_ast.specs.declared.tree.Instr.{Instr}
 use Rattle.pg_cells.specs.View.{View}
 use Rattle.pg_cells.proofs.OverLaws.{IsOver-later}
 use Rattle.pg_vec.proofs.Kept.{there_later}

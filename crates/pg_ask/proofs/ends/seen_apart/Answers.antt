@@ -1,46 +1,6 @@
-use Rattle.std.proofs.Common.{length, sym, ap, ◌∙◌, subst}
-use Rattle.pg_vec.specs.There.{AreThere}
-use Rattle.pg_vec.proofs.Kept.{front_then, all_there_later}
 use Rattle.pg_ask.proofs.CodeSteps.{apart_step, leaves_gate}
 use Rattle.pg_ask.proofs.EndsLaws.{apart-is}
 use Rattle.pg_ask.proofs.ends.seen_apart.Goals as goal
-
-pub same-requires-clause-left : goal.same-requires-clause-left
-same-requires-clause-left c = subst (AreThere (length c.args.circuit.now.nodes)) (sym c.as_slice.ensures.gates) c.requires.first.p.there
-
-pub same-requires-clause-right : goal.same-requires-clause-right
-same-requires-clause-right c = subst (AreThere (length c.args.circuit.now.nodes)) (sym c.as_slice-2.ensures.gates) c.requires.second.p.there
-
-pub same-requires-clause-same_width : goal.same-requires-clause-same_width
-same-requires-clause-same_width c =
-    ap length c.as_slice.ensures.gates ∙ c.requires.first.p.wide ∙ sym c.requires.second.p.wide ∙ sym (ap length c.as_slice-2.ensures.gates)
-
-pub same-requires-2-clause-left : goal.same-requires-2-clause-left
-same-requires-2-clause-left c =
-    subst (AreThere (length c.same.new.circuit.nodes)) (sym c.as_slice-3.ensures.gates)
-    (all_there_later c.args.circuit.now.nodes c.same.new.circuit.nodes c.args.first.now.word c.same.ensures.kept.front c.requires.first.word.there)
-
-pub same-requires-2-clause-right : goal.same-requires-2-clause-right
-same-requires-2-clause-right c =
-    subst (AreThere (length c.same.new.circuit.nodes)) (sym c.as_slice-4.ensures.gates)
-    (all_there_later c.args.circuit.now.nodes c.same.new.circuit.nodes c.args.second.now.word c.same.ensures.kept.front c.requires.second.word.there)
-
-pub same-requires-2-clause-same_width : goal.same-requires-2-clause-same_width
-same-requires-2-clause-same_width c =
-    ap length c.as_slice-3.ensures.gates ∙ sym c.requires.second.word.wide ∙ sym (ap length c.as_slice-4.ensures.gates)
-
-pub lt-requires-clause-left : goal.lt-requires-clause-left
-lt-requires-clause-left c =
-    let front = front_then c.args.circuit.now.nodes c.same.new.circuit.nodes c.same-2.new.circuit.nodes c.same.ensures.kept.front c.same-2.ensures.kept.front in
-    all_there_later c.args.circuit.now.nodes c.same-2.new.circuit.nodes c.args.u.now.compared front c.requires.unknowns.compared.there
-
-pub lt-requires-clause-right : goal.lt-requires-clause-right
-lt-requires-clause-right c =
-    let front = front_then c.args.circuit.now.nodes c.same.new.circuit.nodes c.same-2.new.circuit.nodes c.same.ensures.kept.front c.same-2.ensures.kept.front in
-    all_there_later c.args.circuit.now.nodes c.same-2.new.circuit.nodes c.args.v.now front c.requires.usable.there
-
-pub lt-requires-clause-same_width : goal.lt-requires-clause-same_width
-lt-requires-clause-same_width c = c.requires.unknowns.compared.wide
 
 pub returns-clause-made : goal.returns-clause-made
 returns-clause-made c =
