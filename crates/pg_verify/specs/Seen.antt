@@ -1,14 +1,13 @@
 -- The values of the code as the definitions have them.
-use Rattle.std.specs.Prelude.{ℕ, ⊤, ◌≡◌, ◌≢◌, ◌+◌, ◌<◌, ◌≤◌, ◌^◌, List, length, Option, None, Some, Result, Ok, Err}
+use Rattle.std.specs.Prelude.{Bool, true, false, ℕ, ⊤, ◌≡◌, ◌≢◌, ◌≤◌, length, Option, None, Some, Result, Ok, Err}
 use Rattle.pg_word.specs.declared.sparse.Sparse.{Sparse}
-use Rattle.pg_proof.specs.State.{State as Log}
 use Rattle.pg_verify.specs.declared.fault.VerifyFault.{VerifyFault}
 use Rattle.pg_verify.specs.declared.fault.VerifyFault.TheVariants.{Memory}
 use Rattle.pg_verify.specs.declared.drawing.Drawing.{Drawing}
 use Rattle.pg_verify.specs.declared.drawing.Drawing.TheVariants as drawing
 use Rattle.pg_verify.specs.declared.opened.Opened.{Opened}
 use Rattle.pg_verify.specs.declared.opened.Opened.TheVariants as opened
-use Rattle.pg_verify.specs.Reader.{Drawn, Pair, NoState, FirstSize, FirstState, SecondSize, BothStates, Open, Fresh, Between, Refuting, Showing, Spending, Ended}
+use Rattle.pg_verify.specs.Reader.{Drawn, Progress, Reader, Pair, NoState, FirstSize, FirstState, SecondSize, BothStates, Open, Fresh, Between, Refuting, Showing, Spending, Ended}
 use Rattle.pg_image.specs.Lines.{line_cells}
 use Rattle.pg_verify.specs.declared.states.StatePart.{StatePart}
 use Rattle.pg_verify.specs.declared.states.StatePart.TheVariants as part
@@ -70,3 +69,20 @@ IsRowPart (part.Cells first words) = length words.now ≤ line_cells
 abbrev pub pair_told : ℕ → Option Pair → Result Pair VerifyFault
 pair_told n None = misplaced n
 pair_told n (Some pair) = Ok pair
+
+-- a reader, by whether it has refused
+abbrev pub reader_of : Option VerifyFault → Progress → Reader
+reader_of None p = Ok p
+reader_of (Some f) p = Err f
+
+-- a refusal that is due. Want of memory says nothing
+abbrev pub IsFaultDue : Reader → VerifyFault → Type 0
+IsFaultDue due f = f ≢ Memory → due ≡ Err f
+
+abbrev pub is_ended : Open → Bool
+is_ended Fresh = false
+is_ended Between = false
+is_ended (Refuting header log) = false
+is_ended (Showing header pair) = false
+is_ended (Spending header budget count log) = false
+is_ended Ended = true
