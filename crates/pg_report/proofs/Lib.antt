@@ -1,3 +1,6 @@
 pub mod Names
 pub mod Runs
 pub mod Texts
+pub mod Rows
+pub mod Verdicts
+pub mod KindAnswers

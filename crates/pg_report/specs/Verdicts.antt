@@ -72,7 +72,7 @@ kind_line kind = kind_text kind ++ 10 ∷ []
 -- a kind, and the two states that show it
 unfoldable pub shown_text : ℕ → Kind → Mark → List ℕ
 shown_text w kind Refuted = []
-shown_text w kind (Shown s t) = kind_line kind ++ sparse_text w s ++ sparse_text w t
+shown_text w kind (Shown s t) = kind_line kind ++ (sparse_text w s ++ sparse_text w t)
 shown_text w kind (Spent k) = []
 
 -- the kind at this place of the family, with the mark at the place

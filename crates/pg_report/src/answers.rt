@@ -1,7 +1,7 @@
 //! The line of what is known of an instruction.
 //!
-//! It has the name of the instruction, and for each kind in order the kind and `yes`, `no` or `open`. It is made whole before it
-//! is put, of at most 113 bytes.
+//! It has the name of the instruction, and for each kind in order the kind and `yes`, `no` or `open`. The line is made
+//! whole before it is put, and has at most 113 bytes.
 
 ghost use Rattle.std.specs.Prelude.{◌≡◌, ◌+◌, ◌*◌, ◌≤◌, ◌++◌, length};
 ghost use Rattle.arrayvec.specs.ArrayVec.{array_vec_len};
@@ -35,7 +35,8 @@ fn push_answers(line: &mut Line, kinds: &[Kind], marks: &[Mark])
     ensures len { array_vec_len line.new ≤ array_vec_len line.old + 16 * length kinds.now }
 {
     for (place, mark) in marks.iter().enumerate() {
-        push_answer(line, kinds[place], mark);
+        let kind = kinds[place];
+        push_answer(line, kind, mark);
     }
 }
 

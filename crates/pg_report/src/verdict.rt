@@ -1,10 +1,10 @@
 //! The text of a verdict.
 //!
-//! For each instruction in order there is a line of what is known of it, and behind them what follows for the machine: that
-//! it is accepted; or the first instruction that is open, and its kind; or the first that breaks the rule, with the two states
-//! that show that it is not privileged, and those of its first sensitive kind that is shown.
+//! For each instruction in order there is a line of what is known of it, and behind them what follows for the machine:
+//! that it is accepted; or the first instruction that is open, and its kind; or the first that breaks the rule, with the
+//! two states that show that it is not privileged, and those of its first sensitive kind that is shown.
 
-ghost use Rattle.std.specs.Prelude.{◌≡◌, ◌*◌, ◌<◌, ◌≤◌, length, All};
+ghost use Rattle.std.specs.Prelude.{◌≡◌, ◌*◌, ◌<◌, ◌≤◌, length, position, All, IfSome};
 ghost use Rattle.pg_edge.specs.Sink.{Puts};
 ghost use Rattle.pg_word.specs.Shape.{IsShape};
 ghost use Rattle.pg_cert.specs.Texts.{DoStateWordsFit};
@@ -24,7 +24,7 @@ use pg_type::{Kind, Machine};
 use pg_word::{Shape, Sparse};
 
 /// Puts the text of the verdict of a report, which has one mark for each instruction of the machine and each kind of its
-/// family. Each word of a state that is kept fits a word of the machine. The cost is linear in the marks and their states.
+/// family. Each word of a state that is kept fits a word of the machine. The cost is linear in the marks and states.
 ///
 /// # Errors
 /// `Failed` where not all of the text went through. A front of it may have.
@@ -147,10 +147,18 @@ fn shown_place(marks: &[Mark]) -> usize
     ensures place { result ≡ shown_place marks.now }
     ensures within { result < length marks.now }
 {
-    match marks[1..].iter().position(is_shown) {
+    match first_shown(&marks[1..]) {
         None => 1,
         Some(place) => place + 1,
     }
+}
+
+/// The place of the first mark that is shown.
+fn first_shown(marks: &[Mark]) -> Option<usize>
+    ensures place { result ≡ position is_shown marks.now }
+    ensures within { IfSome result (λ place. place < length marks.now) }
+{
+    marks.iter().position(|mark| is_shown(mark))
 }
 
 /// Two states show the kind.
@@ -181,12 +189,7 @@ fn put_shown_at<S: Sink>(
 
 /// Puts a kind and the two states that show it, where a mark keeps them.
 #[tactic(auto, unfolding(crate::specs::Verdicts::shown_text))]
-fn put_shown<S: Sink>(
-    out: &mut S,
-    shape: &Shape,
-    kind: Kind,
-    mark: &Mark,
-) -> Result<(), Failed>
+fn put_shown<S: Sink>(out: &mut S, shape: &Shape, kind: Kind, mark: &Mark) -> Result<(), Failed>
     requires shape { IsShape shape.now }
     requires fit { DoMarkWordsFit shape.now.w mark.now }
     ensures { Puts (S.written out.old) (S.written out.new) (S.faults out.old) (S.faults out.new)
