@@ -1,6 +1,7 @@
 -- A file that is handed over part by part to a verifier: what is handed over, and what is made of it.
-use Rattle.std.proofs.Common.{◌≡◌, ◌≢◌, ℕ, suc, ◌+◌, ◌<◌, ◌≤◌, Bool, true, if◌then◌else◌, List, [], ◌∷◌, ◌++◌, length, take, drop, Option, None, Some, IfSome, IsSomeAnd, Result, Ok, Err, inl, inr, refl, sym, ap, subst, ◌∙◌, arith, length-append}
-use Rattle.std.proofs.lemmas.Bool.{eq-eqb}
+use Rattle.std.proofs.Common.{◌≡◌, ◌≢◌, ℕ, suc, ◌+◌, ◌<◌, ◌≤◌, Bool, true, false, nat_lt, if◌then◌else◌, List, [], ◌∷◌, ◌++◌, length, take, drop, Option, None, Some, IfSome, IsSomeAnd, Result, Ok, Err, inl, inr, refl, sym, ap, subst, ◌∙◌, arith, length-append}
+use Rattle.std.specs.Result.{IsOk}
+use Rattle.std.proofs.lemmas.Bool.{eq-eqb, ltb-true, ltb-false}
 use Rattle.std.proofs.lemmas.List.{take-append-drop, take_all, length-take}
 use Rattle.std.proofs.Math.Seq.{take-add}
 use Rattle.pg_ast.specs.declared.tree.Desc.{Desc}
@@ -54,6 +55,13 @@ front_more (Some files) name bytes part at counted h k = by (files name) h k
     by None h k = absurd h
     by (Some content) h k = part_behind content bytes part at counted h k
 
+not_below : (a b : ℕ) → (a < b → ⊥) → b ≤ a
+not_below a b none = by (nat_lt a b) refl
+  where
+    by : (less : Bool) → nat_lt a b ≡ less → b ≤ a
+    by true e = absurd (none (ltb-true a b e))
+    by false e = ltb-false a b e
+
 -- an empty part is behind the last byte
 whole : (told : Option Files) (name bytes : List ℕ) (at : ℕ) → at ≡ length bytes → HoldsFront told name bytes → HoldsPart told name at [] → HoldsFile told name bytes
 whole None name bytes at counted h k = tt
@@ -62,9 +70,13 @@ whole (Some files) name bytes at counted h k = by (files name) h k
     by : (o : Option (List ℕ)) → IsSomeAnd o (λ content. take (length bytes) content ≡ bytes) → IsSomeAnd o (λ content. IsPart content at []) → o ≡ Some bytes
     by None h k = absurd h
     by (Some content) h k =
-        let some = k.some in
-        let short : length content ≤ length bytes = omega (arith, some, counted) in
+        let short : length content ≤ length bytes = subst (λ n. length content ≤ n) counted (not_below at (length content) (λ l. let some = k.some l in omega (arith, some))) in
         ap (λ xs. Some xs) (sym (take_all (length bytes) content short) ∙ h)
+
+-- a part of no byte
+pub no_bytes : (part : List ℕ) → length part ≡ 0 → part ≡ []
+no_bytes [] e = refl
+no_bytes (c ∷ cs) e = absurd (omega arith)
 
 -- ---- what was handed over
 
@@ -242,6 +254,22 @@ end_stops d told name at reader p f (stop.Refused why) before after ok h k answe
     (Faulty told_as.0, inr (all.bytes, all.held, record { fault = f; first = e; told = told_as.1 }), told_as.2)
 end_stops d told name at reader p f stop.ReadFault before after ok h k answer told_as = absurd told_as
 end_stops d told name at reader p f stop.Memory before after ok h k answer told_as = tt
+
+-- ---- the same of a verifier that has refused nothing
+
+pub ok_within : (d : Desc) (told : Option Files) (name : List ℕ) (at : ℕ) (reader : Reader) → IsFed d told name at reader → IsOk reader → at ≤ most_bytes
+ok_within d told name at (Ok p) h ok = fed_within d told name at p h
+ok_within d told name at (Err f) h ok = absurd (cc)
+
+pub ok_came : (d : Desc) (told : Option Files) (name : List ℕ) (at : ℕ) (reader : Reader) (report : Report) (before after : ℕ) → IsOk reader → IsFed d told name at reader → HoldsPart told name at [] →
+    IsAnswer (then_take reader finished) (Ok report) → Comes (λ (r : Report). r) (CertDue d told name) before after (Ok report)
+ok_came d told name at (Ok p) report before after ok h k answer = all_came d told name at (Ok p) p report before after refl h k answer
+ok_came d told name at (Err f) report before after ok h k answer = absurd (cc)
+
+pub ok_stops : (d : Desc) (told : Option Files) (name : List ℕ) (at : ℕ) (reader : Reader) (f : VerifyFault) (why : Stop) (before after : ℕ) → IsOk reader → IsFed d told name at reader → HoldsPart told name at [] →
+    IsAnswer (then_take reader finished) (Err f) → IsStopOf d f why → Comes (λ (r : Report). r) (CertDue d told name) before after (Err why)
+ok_stops d told name at (Ok p) f why before after ok h k answer told_as = end_stops d told name at (Ok p) p f why before after refl h k answer told_as
+ok_stops d told name at (Err g) f why before after ok h k answer told_as = absurd (cc)
 
 -- ---- the size
 
