@@ -8,7 +8,7 @@ use Rattle.pg_cert.specs.declared.report.Verdict.TheVariants as verdict
 use Rattle.pg_cert.specs.Verdicts.{kind_count}
 use Rattle.pg_command.specs.declared.verify.VerifyWords.{VerifyWords}
 use Rattle.pg_edge.specs.Shelf.{Files}
-use Rattle.pg_report.specs.Verdicts.{DoMarkWordsFit}
+use Rattle.pg_report.specs.Verdicts.{DoMarkWordsFit, verdict_text}
 use Rattle.pg_tool.specs.declared.refusal.Refusal.{Refusal}
 use Rattle.pg_tool.specs.declared.refusal.Stop.{Stop}
 use Rattle.pg_tool.specs.Answering.{Comes}
@@ -17,7 +17,8 @@ use Rattle.pg_tool.specs.Classes.{Ended, class_of}
 use Rattle.pg_tool.specs.Descriptions.{DescDue}
 use Rattle.pg_tool.specs.Meaning.{VerdictMeans}
 use Rattle.pg_tool.specs.Steps.{Step, Came, Then, Gives}
-use Rattle.pg_tool.specs.Verify.{Judged, VerifyDue, verdict_on, verdict_status}
+use Rattle.pg_tool.specs.Verify.{Judged, VerifyDue, VerifyEnds, verdict_on, verdict_status}
+use Rattle.pg_tool.specs.World.{World, IsUntouched}
 use Rattle.pg_tool.proofs.StepLemmas.{comes-stopped, comes-behind}
 use Rattle.pg_tool.proofs.VerdictMeanings.{verdict_means, marks_whole, marks_fit}
 
@@ -77,3 +78,8 @@ pub verdict-ended : (v : Verdict) → class_of (verdict_status v) ≡ Ended
 verdict-ended verdict.Accepted = refl
 verdict-ended (verdict.Refused instr) = refl
 verdict-ended (verdict.Unsettled instr kind) = refl
+
+-- what is left of it, where the sink is not its say
+pub verify-ends : (told : Option Files) (v : VerifyWords) (j : Judged) (old new : World) → VerifyDue v told (Came j) → IsUntouched old new →
+    VerifyEnds j old new (verdict_status (verdict_on j)) (verdict_text j.desc j.report.family j.report.marks)
+verify-ends told v j old new due same = record { status = refl; wording = refl; meaning = (verify-read told v j due).means; untouched = same }
