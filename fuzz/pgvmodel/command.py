@@ -15,6 +15,7 @@ from pgvmodel.words import Request, request
 
 USAGE = (
     "pgv bare DESC IMAGE --grant G --steps N\n"
+    "pgv verify DESC CERT\n"
     "pgv run DESC IMAGE --grant G --steps N\n"
     "pgv print DESC\n"
 )
