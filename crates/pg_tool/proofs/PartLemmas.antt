@@ -200,8 +200,11 @@ untold_refused d name bytes f line e t = by (fed (begun d Plain) (take most_byte
     by : (r : Reader) → fed (begun d Plain) (take most_bytes bytes) ≡ r → (rest : List ℕ) → drop most_bytes bytes ≡ rest → Faults d None name line
     by (Err g) er rest es =
         let same : Err g ≡ Err f = sym (ap (λ r. then_take r (λ q. fed q (drop most_bytes bytes))) er) ∙ sym split ∙ e in
-        inr (take most_bytes bytes, record { holds = tt; within = omega (arith, length-take most_bytes bytes) },
-        record { fault = f; first = verified_is d (take most_bytes bytes) ∙ ap (λ r. then_take r finished) er ∙ same; told = t })
+        inr (
+          take most_bytes bytes,
+          record { holds = tt; within = omega (arith, length-take most_bytes bytes) },
+          record { fault = f; first = verified_is d (take most_bytes bytes) ∙ ap (λ r. then_take r finished) er ∙ same; told = t },
+        )
     by (Ok q) er [] es = absurd (let no : Ok q ≡ Err f = sym (ap (λ bs. fed q bs) es ∙ nothing_fed q) ∙ sym (ap (λ r. then_take r (λ x. fed x (drop most_bytes bytes))) er) ∙ sym split ∙ e in cc)
     by (Ok q) er (c ∷ cs) es =
         let read = read_of d (take most_bytes bytes) q er in
@@ -225,8 +228,11 @@ told_refused d files name bytes f line up front e t = by (files name) refl up fr
     by None eo up front = absurd up
     by (Some content) eo up front =
         let parts : bytes ++ drop (length bytes) content ≡ content = ap (λ bs. bs ++ drop (length bytes) content) (sym front) ∙ take-append-drop (length bytes) content in
-        inr (content, record { holds = eo; within = up },
-        record { fault = f; first = ap (λ bs. verified d Plain bs) (sym parts) ∙ refused_front d bytes (drop (length bytes) content) f e; told = t })
+        inr (
+          content,
+          record { holds = eo; within = up },
+          record { fault = f; first = ap (λ bs. verified d Plain bs) (sym parts) ∙ refused_front d bytes (drop (length bytes) content) f e; told = t },
+        )
 
 fault_due : (d : Desc) (told : Option Files) (name bytes : List ℕ) (f : VerifyFault) (line : CertificateLine) → HoldsUpTo told name most_bytes → HoldsFront told name bytes →
     fed (begun d Plain) bytes ≡ Err f → told_of_verifying d f ≡ Some line → Faults d told name line

@@ -59,10 +59,7 @@ fn try_size<F: Shelf>(name: &FileName, shelf: &mut F) -> Result<(), Stop>
                 Err(refused(CertificateLine::Long))
             }
         }
-        Err(fault) => Err(stop_of(
-            fault,
-            RefusalLine::Certificate(CertificateLine::Long),
-        )),
+        Err(fault) => Err(stop_of(fault, RefusalLine::Certificate(CertificateLine::Long))),
     }
 }
 
@@ -83,10 +80,7 @@ fn verify_parts<F: Shelf>(
         let part = match load_part(alloc, name, at, shelf) {
             Ok(part) => part,
             Err(fault) => {
-                return Err(stop_of(
-                    fault,
-                    RefusalLine::Certificate(CertificateLine::Long),
-                ));
+                return Err(stop_of(fault, RefusalLine::Certificate(CertificateLine::Long)));
             }
         };
         if part.is_empty() {
