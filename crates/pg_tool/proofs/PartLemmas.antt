@@ -126,34 +126,6 @@ answer_ok : (due : Reader) (report : Report) → IsAnswer due (Ok report) → (d
 answer_ok (Ok p) report h d bytes e = record { progress = p; taken = sym e; kept = h }
 answer_ok (Err f) report h d bytes e = absurd h
 
-answer_err : (due : Reader) (f : VerifyFault) → IsAnswer due (Err f) → f ≢ fault.Memory → due ≡ Err f
-answer_err (Ok p) fault.Memory h known = absurd (known refl)
-answer_err (Err g) fault.Memory h known = absurd (known refl)
-answer_err (Ok p) fault.Long h known = h
-answer_err (Err g) fault.Long h known = h
-answer_err (Ok p) (fault.Token n) h known = h
-answer_err (Err g) (fault.Token n) h known = h
-answer_err (Ok p) (fault.Grammar n) h known = h
-answer_err (Err g) (fault.Grammar n) h known = h
-answer_err (Ok p) fault.Version h known = h
-answer_err (Err g) fault.Version h known = h
-answer_err (Ok p) (fault.NoSuchInstr n) h known = h
-answer_err (Err g) (fault.NoSuchInstr n) h known = h
-answer_err (Ok p) (fault.BadStep n cause) h known = h
-answer_err (Err g) (fault.BadStep n cause) h known = h
-answer_err (Ok p) (fault.NotClosed n) h known = h
-answer_err (Err g) (fault.NotClosed n) h known = h
-answer_err (Ok p) (fault.BadPair n) h known = h
-answer_err (Err g) (fault.BadPair n) h known = h
-answer_err (Ok p) (fault.BadSpent n) h known = h
-answer_err (Err g) (fault.BadSpent n) h known = h
-answer_err (Ok p) (fault.Missing instr kind) h known = h
-answer_err (Err g) (fault.Missing instr kind) h known = h
-answer_err (Ok p) (fault.Extra n) h known = h
-answer_err (Err g) (fault.Extra n) h known = h
-answer_err (Ok p) (fault.BadDelete n) h known = h
-answer_err (Err g) (fault.BadDelete n) h known = h
-
 -- want of memory is not told
 told_known : (d : Desc) (f : VerifyFault) (line : CertificateLine) → told_of_verifying d f ≡ Some line → f ≢ fault.Memory
 told_known d f line e m = absurd (let no : None ≡ Some line = sym (ap (told_of_verifying d) m) ∙ e in cc)
@@ -256,7 +228,7 @@ pub end_stops : (d : Desc) (told : Option Files) (name : List ℕ) (at : ℕ) (r
 unfolding CertDue
 end_stops d told name at reader p f (stop.Refused why) before after ok h k answer told_as =
     let all : IsAllFed d told name (Ok p) = all_fed d told name at p (subst (λ r. IsFed d told name at r) ok h) k in
-    let e : verified d Plain all.bytes ≡ Err f = sym (ap (λ r. then_take r finished) ok ∙ all.is) ∙ answer_err (then_take reader finished) f answer (told_known d f told_as.0 told_as.1) in
+    let e : verified d Plain all.bytes ≡ Err f = sym (ap (λ r. then_take r finished) ok ∙ all.is) ∙ answer (told_known d f told_as.0 told_as.1) in
     (Faulty told_as.0, inr (all.bytes, all.held, record { fault = f; first = e; told = told_as.1 }), told_as.2)
 end_stops d told name at reader p f stop.ReadFault before after ok h k answer told_as = absurd told_as
 end_stops d told name at reader p f stop.Memory before after ok h k answer told_as = tt
