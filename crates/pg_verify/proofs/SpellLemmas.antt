@@ -41,22 +41,26 @@ no_line_says {P} bytes l e = by (is_first Plain bytes) (is_first Hybrid bytes) e
     by false true e = absurd (cc)
     by false false e = absurd (cc)
 
-read_is_spelled : (shape : Shape) (bytes : List ℕ) (o : Option Line) (l : Line) → said_of_read shape bytes o ≡ Says l → IsSpelled shape bytes l
+read_is_spelled : (shape : Shape) (bytes : List ℕ) (o : Option Line) (l : Line) → said_of_read shape bytes o ≡ Says l →
+    IsSpelled shape bytes l
 read_is_spelled shape bytes None l e = no_line_says bytes l e
 read_is_spelled shape bytes (Some m) l e = by (is_line shape m && bytes_eq bytes (line_text shape m)) refl e
   where
-    by : (b : Bool) → (is_line shape m && bytes_eq bytes (line_text shape m)) ≡ b → (if b then Says m else said_of_no_line bytes) ≡ Says l → IsSpelled shape bytes l
+    by : (b : Bool) → (is_line shape m && bytes_eq bytes (line_text shape m)) ≡ b →
+        (if b then Says m else said_of_no_line bytes) ≡ Says l → IsSpelled shape bytes l
     by true eb e =
         let both = and_parts (is_line shape m) (bytes_eq bytes (line_text shape m)) eb in
         let same : m ≡ l = cc in
-        subst (λ x. IsSpelled shape bytes x) same (record { in_range = both.0; text = (bytes_eq-Decides bytes (line_text shape m)).0 both.1 })
+        subst (λ x. IsSpelled shape bytes x) same
+        (record { in_range = both.0; text = (bytes_eq-Decides bytes (line_text shape m)).0 both.1 })
     by false eb e = no_line_says bytes l e
 
 said_is_spelled : (shape : Shape) (bytes : List ℕ) (l : Line) → said shape bytes ≡ Says l → IsSpelled shape bytes l
 unfolding said
 said_is_spelled shape bytes l e = by (list_any is_foreign (before_end bytes)) e
   where
-    by : (b : Bool) → (if b then NoToken else said_of_read shape bytes (read_parts shape.w (parts_of bytes))) ≡ Says l → IsSpelled shape bytes l
+    by : (b : Bool) → (if b then NoToken else said_of_read shape bytes (read_parts shape.w (parts_of bytes))) ≡ Says l →
+        IsSpelled shape bytes l
     by true e = absurd (cc)
     by false e = read_is_spelled shape bytes (read_parts shape.w (parts_of bytes)) l e
 
@@ -68,7 +72,8 @@ record IsLineRead (p q : Progress) (lines : List Line) (bytes : List ℕ) : Type
   text : bytes ≡ line_text (shape_of p.desc) line
   stands : Stands (record p { lines = suc p.lines }) q (lines ++ line ∷ [])
 
-line_read : (p q : Progress) (lines : List Line) (bytes : List ℕ) → IsAt p.desc p.family p.removes p.marks lines p.opened → after_line p bytes ≡ Ok q → IsLineRead p q lines bytes
+line_read : (p q : Progress) (lines : List Line) (bytes : List ℕ) →
+    IsAt p.desc p.family p.removes p.marks lines p.opened → after_line p bytes ≡ Ok q → IsLineRead p q lines bytes
 unfolding after_line after_said
 line_read p q lines bytes h e = by (said (shape_of p.desc) bytes) refl e
   where
@@ -76,20 +81,29 @@ line_read p q lines bytes h e = by (said (shape_of p.desc) bytes) refl e
     other true f g e = no_ok f q e
     other false f g e = no_ok g q e
 
-    by : (s : Said) → said (shape_of p.desc) bytes ≡ s → after_said (record p { lines = suc p.lines }) s ≡ Ok q → IsLineRead p q lines bytes
+    by : (s : Said) → said (shape_of p.desc) bytes ≡ s → after_said (record p { lines = suc p.lines }) s ≡ Ok q →
+        IsLineRead p q lines bytes
     by (Says l) es e =
         let spelled = said_is_spelled (shape_of p.desc) bytes l es in
-        record { line = l; in_range = spelled.in_range; text = spelled.text; stands = form_kept (record p { lines = suc p.lines }) q lines h l spelled.in_range e }
+        record {
+          line = l;
+          in_range = spelled.in_range;
+          text = spelled.text;
+          stands =
+              form_kept (record p { lines = suc p.lines }) q lines h l spelled.in_range e;
+        }
     by NoToken es e = no_ok _ q e
     by NoForm es e = no_ok _ q e
     by (OtherVersion family) es e = other (is_first_due (record p { lines = suc p.lines }) family) _ _ e
 
 -- ---- bytes
 
-pub lines_text-more : (shape : Shape) (ls : List Line) (l : Line) → lines_text shape (ls ++ l ∷ []) ≡ lines_text shape ls ++ line_text shape l
+pub lines_text-more : (shape : Shape) (ls : List Line) (l : Line) →
+    lines_text shape (ls ++ l ∷ []) ≡ lines_text shape ls ++ line_text shape l
 unfolding lines_text
 lines_text-more shape [] l = append-nil (line_text shape l)
-lines_text-more shape (k ∷ ls) l = ap (λ bs. line_text shape k ++ bs) (lines_text-more shape ls l) ∙ sym (append_assoc (line_text shape k) (lines_text shape ls) (line_text shape l))
+lines_text-more shape (k ∷ ls) l = ap (λ bs. line_text shape k ++ bs) (lines_text-more shape ls l)
+    ∙ sym (append_assoc (line_text shape k) (lines_text shape ls) (line_text shape l))
 
 record IsRead (d : Desc) (family : Family) (bytes : List ℕ) (p : Progress) : Type 0 where
   lines : List Line
@@ -104,17 +118,29 @@ record IsRead (d : Desc) (family : Family) (bytes : List ℕ) (p : Progress) : T
 module _ (d : Desc) (family : Family) where
   none_read : IsRead d family [] (begun d family)
   unfolding lines_text
-  none_read = record { lines = []; desc = refl; family_is = refl; fed_is = refl; within = omega arith; text = refl; in_range = All-nil (IsLine (shape_of d)); at = (refl, refl) }
+  none_read = record {
+    lines = [];
+    desc = refl;
+    family_is = refl;
+    fed_is = refl;
+    within = omega arith;
+    text = refl;
+    in_range = All-nil (IsLine (shape_of d));
+    at = (refl, refl);
+  }
 
   -- a line that ends
-  ended_read : (p q : Progress) (bytes : List ℕ) (c : ℕ) → p.fed ≢ most_bytes → (h : IsRead d family bytes p) → IsLineRead (record p { fed = suc p.fed; rest = [] }) q h.lines (p.rest ++ c ∷ []) → IsRead d family (bytes ++ c ∷ []) q
+  ended_read : (p q : Progress) (bytes : List ℕ) (c : ℕ) → p.fed ≢ most_bytes → (h : IsRead d family bytes p) →
+      IsLineRead (record p { fed = suc p.fed; rest = [] }) q h.lines (p.rest ++ c ∷ []) →
+      IsRead d family (bytes ++ c ∷ []) q
   ended_read p q bytes c room h r =
       let len = length-append bytes (c ∷ []) in
       let k = r.stands.keeps in
       let fed = h.fed_is in
       let most = h.within in
       let text : bytes ++ c ∷ [] ≡ lines_text (shape_of p.desc) (h.lines ++ r.line ∷ []) =
-      ap (λ bs. bs ++ c ∷ []) h.text ∙ append_assoc (lines_text (shape_of p.desc) h.lines) p.rest (c ∷ []) ∙ ap (λ bs. lines_text (shape_of p.desc) h.lines ++ bs) r.text
+      ap (λ bs. bs ++ c ∷ []) h.text ∙ append_assoc (lines_text (shape_of p.desc) h.lines) p.rest (c ∷ [])
+      ∙ ap (λ bs. lines_text (shape_of p.desc) h.lines ++ bs) r.text
       ∙ sym (lines_text-more (shape_of p.desc) h.lines r.line) in
       record {
         lines = h.lines ++ r.line ∷ [];
@@ -123,18 +149,22 @@ module _ (d : Desc) (family : Family) where
         fed_is = k.fed ∙ ap suc h.fed_is ∙ omega arith;
         within = omega (arith, room, fed, most, len);
         text =
-            text ∙ ap (λ x. lines_text (shape_of x) (h.lines ++ r.line ∷ [])) (sym k.desc) ∙ sym (append-nil (lines_text (shape_of q.desc) (h.lines ++ r.line ∷ [])))
+            text ∙ ap (λ x. lines_text (shape_of x) (h.lines ++ r.line ∷ [])) (sym k.desc)
+            ∙ sym (append-nil (lines_text (shape_of q.desc) (h.lines ++ r.line ∷ [])))
             ∙ ap (λ bs. lines_text (shape_of q.desc) (h.lines ++ r.line ∷ []) ++ bs) (sym k.rest);
-        in_range = subst (λ x. All (IsLine (shape_of x)) (h.lines ++ r.line ∷ [])) (sym k.desc) (All-push (IsLine (shape_of p.desc)) h.lines r.line h.in_range r.in_range);
+        in_range = subst (λ x. All (IsLine (shape_of x)) (h.lines ++ r.line ∷ [])) (sym k.desc)
+            (All-push (IsLine (shape_of p.desc)) h.lines r.line h.in_range r.in_range);
         at = r.stands.at;
       }
 
   -- one byte more
-  byte_read : (p q : Progress) (bytes : List ℕ) (c : ℕ) → fed_byte p c ≡ Ok q → IsRead d family bytes p → IsRead d family (bytes ++ c ∷ []) q
+  byte_read : (p q : Progress) (bytes : List ℕ) (c : ℕ) → fed_byte p c ≡ Ok q → IsRead d family bytes p →
+      IsRead d family (bytes ++ c ∷ []) q
   unfolding fed_byte
   byte_read p q bytes c e h = by (p.fed == most_bytes) (c == 10) refl e
     where
-      longer : p.fed ≢ most_bytes → IsRead d family (bytes ++ c ∷ []) (record p { fed = suc p.fed; rest = p.rest ++ c ∷ [] })
+      longer : p.fed ≢ most_bytes → IsRead d family (bytes ++ c ∷ [])
+          (record p { fed = suc p.fed; rest = p.rest ++ c ∷ [] })
       longer room =
           let len = length-append bytes (c ∷ []) in
           let fed = h.fed_is in
@@ -152,14 +182,19 @@ module _ (d : Desc) (family : Family) where
 
       by : (full ends : Bool) → (p.fed == most_bytes) ≡ full →
           (if full then Err fault.Long
-          else (if ends then after_line (record p { fed = suc p.fed; rest = [] }) (p.rest ++ c ∷ []) else Ok (record p { fed = suc p.fed; rest = p.rest ++ c ∷ [] }))) ≡ Ok q → IsRead d family (bytes ++ c ∷ []) q
+          else (if ends then after_line (record p { fed = suc p.fed; rest = [] }) (p.rest ++ c ∷ []) else Ok
+          (record p { fed = suc p.fed; rest = p.rest ++ c ∷ [] }))) ≡ Ok q → IsRead d family (bytes ++ c ∷ []) q
       by true ends ef e = no_ok _ q e
-      by false true ef e = ended_read p q bytes c (eqb-false p.fed most_bytes ef) h (line_read (record p { fed = suc p.fed; rest = [] }) q h.lines (p.rest ++ c ∷ []) h.at e)
-      by false false ef e = subst (λ x. IsRead d family (bytes ++ c ∷ []) x) (same_ok (record p { fed = suc p.fed; rest = p.rest ++ c ∷ [] }) q e) (longer (eqb-false p.fed most_bytes ef))
+      by false true ef e = ended_read p q bytes c (eqb-false p.fed most_bytes ef) h
+          (line_read (record p { fed = suc p.fed; rest = [] }) q h.lines (p.rest ++ c ∷ []) h.at e)
+      by false false ef e = subst (λ x. IsRead d family (bytes ++ c ∷ []) x)
+          (same_ok (record p { fed = suc p.fed; rest = p.rest ++ c ∷ [] }) q e) (longer (eqb-false p.fed most_bytes ef))
 
-  bytes_read : (cs bytes : List ℕ) (p q : Progress) → fed p cs ≡ Ok q → IsRead d family bytes p → IsRead d family (bytes ++ cs) q
+  bytes_read : (cs bytes : List ℕ) (p q : Progress) → fed p cs ≡ Ok q → IsRead d family bytes p →
+      IsRead d family (bytes ++ cs) q
   unfolding fed
-  bytes_read [] bytes p q e h = subst (λ bs. IsRead d family bs q) (sym (append-nil bytes)) (subst (λ x. IsRead d family bytes x) (same_ok p q e) h)
+  bytes_read [] bytes p q e h = subst (λ bs. IsRead d family bs q) (sym (append-nil bytes))
+      (subst (λ x. IsRead d family bytes x) (same_ok p q e) h)
   bytes_read (c ∷ cs) bytes p q e h =
       let t = taken (fed_byte p c) (λ (after : Progress). fed after cs) q e in
       subst (λ bs. IsRead d family bs q) (append_assoc bytes (c ∷ []) cs)
@@ -192,23 +227,29 @@ module _ (d : Desc) (family : Family) where
       by [] er e = at_ended q.opened refl er e
       by (c ∷ cs) er e = never _ _ p e
 
-  ended_spells : (bytes : List ℕ) (q : Progress) (h : IsRead d family bytes q) → q.rest ≡ [] → IsEndedAt q.desc q.family q.removes q.marks h.lines → Spells q.desc family bytes q
+  ended_spells : (bytes : List ℕ) (q : Progress) (h : IsRead d family bytes q) → q.rest ≡ [] →
+      IsEndedAt q.desc q.family q.removes q.marks h.lines → Spells q.desc family bytes q
   unfolding cert_lines
   ended_spells bytes q h rest a =
-      let lines : h.lines ≡ line.First a.heading ∷ findings_lines q.desc q.family 0 a.findings ++ line.End ∷ [] = a.lines_are ∙ ap (λ ls. ls ++ line.End ∷ []) a.front.lines_are in
+      let lines : h.lines ≡ line.First a.heading ∷ findings_lines q.desc q.family 0 a.findings ++ line.End ∷ [] =
+      a.lines_are ∙ ap (λ ls. ls ++ line.End ∷ []) a.front.lines_are in
       record {
         heading = a.heading;
         cert = record { family = q.family; findings = a.findings };
         of_family = h.family_is;
         within = h.within;
-        text = h.text ∙ ap (λ bs. lines_text (shape_of q.desc) h.lines ++ bs) rest ∙ append-nil (lines_text (shape_of q.desc) h.lines) ∙ ap (λ ls. lines_text (shape_of q.desc) ls) lines;
+        text = h.text ∙ ap (λ bs. lines_text (shape_of q.desc) h.lines ++ bs) rest
+            ∙ append-nil (lines_text (shape_of q.desc) h.lines) ∙ ap (λ ls. lines_text (shape_of q.desc) ls) lines;
         valid = record {
           valid = record {
             family = a.front.family_is;
-            whole = sym (length-marks q.desc q.family q.removes q.marks a.before a.heading a.findings a.front) ∙ a.whole;
+            whole = sym (length-marks q.desc q.family q.removes q.marks a.before a.heading a.findings a.front)
+                ∙ a.whole;
             each = a.front.each;
           };
-          in_range = All-same (IsLine (shape_of q.desc)) (line.First a.heading ∷ findings_lines q.desc q.family 0 a.findings ++ line.End ∷ []) h.lines (sym lines) h.in_range;
+          in_range = All-same (IsLine (shape_of q.desc))
+              (line.First a.heading ∷ findings_lines q.desc q.family 0 a.findings ++ line.End ∷ []) h.lines (sym lines)
+              h.in_range;
           listed = a.front.listed;
         };
         marks = a.front.marks_are;

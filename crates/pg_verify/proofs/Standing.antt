@@ -56,12 +56,13 @@ AreDrawn (BothStates s t) = IsDrawn s × IsDrawn t
 
 -- ---- what stands below a header, of which finding
 
-pub record IsRefuting (heading : Heading) (clauses : List (List ℤ)) (log : Log) (f : Found) (body : List Line) : Type 0 where
-  pub acts : List Act
-  pub found_is : f ≡ found.Refuted
-  pub reached : after_acts clauses acts ≡ Some log
-  pub under : All (IsActUnder heading) acts
-  pub lines_are : body ≡ map act_line acts
+pub record IsRefuting (heading : Heading) (clauses : List (List ℤ)) (log : Log) (f : Found) (body : List Line) : Type 0
+  where
+    pub acts : List Act
+    pub found_is : f ≡ found.Refuted
+    pub reached : after_acts clauses acts ≡ Some log
+    pub under : All (IsActUnder heading) acts
+    pub lines_are : body ≡ map act_line acts
 
 pub record IsShowing (pair : Pair) (f : Found) (body : List Line) : Type 0 where
   pub found_is : f ≡ found.Shown
@@ -73,14 +74,15 @@ abbrev pub log_after : Log → List Step → Log
 log_after log [] = log
 log_after log (step ∷ steps) = log_after (with_clause log step.lits) steps
 
-pub record IsSpending (clauses : List (List ℤ)) (budget count : ℕ) (log : Log) (f : Found) (body : List Line) : Type 0 where
-  pub steps : List Step
-  pub found_is : f ≡ found.Spent budget
-  pub least : 1 ≤ budget
-  pub most : budget ≤ most_budget
-  pub spent : IsSpentFrom (begun clauses) count (map act.Add steps)
-  pub log_is : log ≡ log_after (begun clauses) steps
-  pub lines_are : body ≡ map line.Step steps
+pub record IsSpending (clauses : List (List ℤ)) (budget count : ℕ) (log : Log) (f : Found) (body : List Line) : Type 0
+  where
+    pub steps : List Step
+    pub found_is : f ≡ found.Spent budget
+    pub least : 1 ≤ budget
+    pub most : budget ≤ most_budget
+    pub spent : IsSpentFrom (begun clauses) count (map act.Add steps)
+    pub log_is : log ≡ log_after (begun clauses) steps
+    pub lines_are : body ≡ map line.Step steps
 
 abbrev pub IsBody : Heading → List (List ℤ) → Open → Found → List Line → Type 0
 IsBody heading clauses Fresh f body = ⊥
@@ -99,7 +101,8 @@ AreValid d family heading fs =
     IsValidFinding (question d i (kind_of family n)) heading d i (kind_of family n) f
 
 -- the first line, and findings that are closed
-pub record IsFront (d : Desc) (family : Family) (removes : Bool) (marks : List Mark) (heading : Heading) (fs : List Finding) (lines : List Line) : Type 0 where
+pub record IsFront (d : Desc) (family : Family) (removes : Bool) (marks : List Mark) (heading : Heading)
+    (fs : List Finding) (lines : List Line) : Type 0 where
   pub family_is : family_of heading ≡ family
   pub removes_is : removes ≡ may_remove heading
   pub marks_are : marks ≡ map (λ f. kept (mark_of f)) fs
@@ -107,13 +110,15 @@ pub record IsFront (d : Desc) (family : Family) (removes : Bool) (marks : List M
   pub listed : All AreListed fs
   pub lines_are : lines ≡ line.First heading ∷ findings_lines d family 0 fs
 
-pub record IsBetween (d : Desc) (family : Family) (removes : Bool) (marks : List Mark) (lines : List Line) : Type 0 where
-  pub heading : Heading
-  pub findings : List Finding
-  pub front : IsFront d family removes marks heading findings lines
+pub record IsBetween (d : Desc) (family : Family) (removes : Bool) (marks : List Mark) (lines : List Line) : Type 0
+  where
+    pub heading : Heading
+    pub findings : List Finding
+    pub front : IsFront d family removes marks heading findings lines
 
 -- and the header of a finding that is open, of an instruction that there is, with what stands below it
-pub record IsOpenAt (d : Desc) (family : Family) (removes : Bool) (marks : List Mark) (lines : List Line) (o : Open) : Type 0 where
+pub record IsOpenAt (d : Desc) (family : Family) (removes : Bool) (marks : List Mark) (lines : List Line)
+    (o : Open) : Type 0 where
   pub heading : Heading
   pub findings : List Finding
   pub before : List Line
@@ -123,23 +128,26 @@ pub record IsOpenAt (d : Desc) (family : Family) (removes : Bool) (marks : List 
   pub front : IsFront d family removes marks heading findings before
   pub instr_is : slice_get d.instrs (instr_of family (length marks)) ≡ Some instr
   pub body_is : IsBody heading (question d instr (kind_of family (length marks))) o found body
-  pub lines_are : lines ≡ before ++ line.Header (name_of d (instr_of family (length marks))) (kind_of family (length marks)) found ∷ body
+  pub lines_are : lines ≡ before ++ line.Header (name_of d (instr_of family (length marks)))
+      (kind_of family (length marks)) found ∷ body
 
 -- and the last line, behind all findings
-pub record IsEndedAt (d : Desc) (family : Family) (removes : Bool) (marks : List Mark) (lines : List Line) : Type 0 where
-  pub heading : Heading
-  pub findings : List Finding
-  pub before : List Line
-  pub front : IsFront d family removes marks heading findings before
-  pub whole : length marks ≡ length d.instrs * kind_count family
-  pub lines_are : lines ≡ before ++ line.End ∷ []
+pub record IsEndedAt (d : Desc) (family : Family) (removes : Bool) (marks : List Mark) (lines : List Line) : Type 0
+  where
+    pub heading : Heading
+    pub findings : List Finding
+    pub before : List Line
+    pub front : IsFront d family removes marks heading findings before
+    pub whole : length marks ≡ length d.instrs * kind_count family
+    pub lines_are : lines ≡ before ++ line.End ∷ []
 
 abbrev pub IsAt : Desc → Family → Bool → List Mark → List Line → Open → Type 0
 IsAt d family removes marks lines Fresh = (lines ≡ []) × (marks ≡ [])
 IsAt d family removes marks lines Between = IsBetween d family removes marks lines
 IsAt d family removes marks lines (Refuting header log) = IsOpenAt d family removes marks lines (Refuting header log)
 IsAt d family removes marks lines (Showing header pair) = IsOpenAt d family removes marks lines (Showing header pair)
-IsAt d family removes marks lines (Spending header budget count log) = IsOpenAt d family removes marks lines (Spending header budget count log)
+IsAt d family removes marks lines (Spending header budget count log) =
+    IsOpenAt d family removes marks lines (Spending header budget count log)
 IsAt d family removes marks lines Ended = IsEndedAt d family removes marks lines
 
 -- ---- progress

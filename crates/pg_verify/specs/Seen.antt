@@ -8,7 +8,7 @@ use Rattle.pg_verify.specs.declared.drawing.Drawing.{Drawing}
 use Rattle.pg_verify.specs.declared.drawing.Drawing.TheVariants as drawing
 use Rattle.pg_verify.specs.declared.opened.Opened.{Opened}
 use Rattle.pg_verify.specs.declared.opened.Opened.TheVariants as opened
-use Rattle.pg_verify.specs.Reader.{Drawn, Pair, NoState, FirstSize, FirstState, SecondSize, BothStates, Open, Fresh, Between, Refuting, Showing, Spending, Ended}
+use Rattle.pg_verify.specs.Reader.{Drawn, Progress, Reader, Pair, NoState, FirstSize, FirstState, SecondSize, BothStates, Open, Fresh, Between, Refuting, Showing, Spending, Ended}
 use Rattle.pg_image.specs.Lines.{line_cells}
 use Rattle.pg_verify.specs.declared.states.StatePart.{StatePart}
 use Rattle.pg_verify.specs.declared.states.StatePart.TheVariants as part
@@ -70,3 +70,8 @@ IsRowPart (part.Cells first words) = length words.now ≤ line_cells
 abbrev pub pair_told : ℕ → Option Pair → Result Pair VerifyFault
 pair_told n None = misplaced n
 pair_told n (Some pair) = Ok pair
+
+-- a reader, by whether it has refused
+abbrev pub reader_of : Option VerifyFault → Progress → Reader
+reader_of None p = Ok p
+reader_of (Some f) p = Err f

@@ -44,7 +44,9 @@ pub record Spells (d : Desc) (family : Family) (bytes : List ℕ) (p : Progress)
   pub marks : p.marks ≡ map (λ f. kept (mark_of f)) cert.findings
 
 abbrev pub TakenTextsSpell : Type 0
-TakenTextsSpell = (d : Desc) (family : Family) (bytes : List ℕ) (p : Progress) → IsValid d → verified d family bytes ≡ Ok p → Spells d family bytes p
+TakenTextsSpell =
+    (d : Desc) (family : Family) (bytes : List ℕ) (p : Progress) → IsValid d → verified d family bytes ≡ Ok p →
+    Spells d family bytes p
 
 -- and the text of a valid certificate, where it is within the limit, is not refused
 pub record IsTaken (d : Desc) (heading : Heading) (cert : Cert) : Type 0 where
@@ -54,7 +56,9 @@ pub record IsTaken (d : Desc) (heading : Heading) (cert : Cert) : Type 0 where
   pub marks : progress.marks ≡ map (λ f. kept (mark_of f)) cert.findings
 
 abbrev pub ValidTextsAreTaken : Type 0
-ValidTextsAreTaken = (d : Desc) (heading : Heading) (cert : Cert) → IsValid d → IsValidOf heading d cert → length (cert_text d heading cert) ≤ most_bytes → IsTaken d heading cert
+ValidTextsAreTaken =
+    (d : Desc) (heading : Heading) (cert : Cert) → IsValid d → IsValidOf heading d cert →
+    length (cert_text d heading cert) ≤ most_bytes → IsTaken d heading cert
 
 -- ---- what the marks of a text that is not refused tell
 
@@ -66,7 +70,10 @@ Tells d i kind (Spent budget) = ⊤
 -- there is one for each instruction and each kind: that no two states show the kind, or that these do
 pub record AreTold (d : Desc) (family : Family) (marks : List Mark) : Type 0 where
   pub whole : length marks ≡ length d.instrs * kind_count family
-  pub each : (n : ℕ) (mark : Mark) (i : Instr) → slice_get marks n ≡ Some mark → slice_get d.instrs (instr_of family n) ≡ Some i → Tells d i (kind_of family n) mark
+  pub each : (n : ℕ) (mark : Mark) (i : Instr) → slice_get marks n ≡ Some mark →
+      slice_get d.instrs (instr_of family n) ≡ Some i → Tells d i (kind_of family n) mark
 
 abbrev pub TakenTextsTell : Type 0
-TakenTextsTell = (d : Desc) (family : Family) (bytes : List ℕ) (p : Progress) → IsValid d → verified d family bytes ≡ Ok p → AreTold d family p.marks
+TakenTextsTell =
+    (d : Desc) (family : Family) (bytes : List ℕ) (p : Progress) → IsValid d → verified d family bytes ≡ Ok p →
+    AreTold d family p.marks

@@ -8,7 +8,10 @@ ghost use Rattle.pg_cert.specs.Verdicts.{kind_count};
 ghost use Rattle.pg_proof.specs.State.{begun as log_begun};
 ghost use Rattle.pg_verify.specs.Taking.{closed, closed_pair, marked, opened_with, shows_due, due_instr, due_kind, all_findings, may_close, instr_named, clauses_at, placed, named, after_first, after_header, after_end, after_form, is_first_due, ended};
 ghost use Rattle.pg_verify.specs.Feeding.{begun, drawn_of, kept};
-ghost use Rattle.pg_verify.specs.Seen.{open_of, pair_of, IsTold};
+ghost use Rattle.pg_verify.specs.Taking.{reopened, after_step, after_remove, after_state_line, after_line};
+ghost use Rattle.pg_verify.specs.Seen.{numbered, with_part, IsRowPart, IsTold};
+ghost use Rattle.pg_meaning.specs.States.{shape_of};
+ghost use Rattle.pg_cert.specs.Lines.{IsLine};
 ghost use Rattle.pg_verify.specs.Reader.{BothStates};
 ghost use Rattle.pg_verify.specs.declared.fault.VerifyFault.TheVariants.{Missing};
 ghost use Rattle.pg_cert.specs.Texts.{family_of};
@@ -18,9 +21,11 @@ use crate::drawing::Drawing;
 use crate::families::{family_of, kind_place, may_remove, same_family};
 use crate::fault::VerifyFault;
 use crate::opened::{Opened, is_fresh, may_close};
+use crate::states::{StatePart, take_part};
+use crate::steps::{take_removal, take_step};
 use pg_ask::ask;
-use pg_cert::{Family, Found, Heading, Mark, MarkList};
-use pg_proof::Checker;
+use pg_cert::{Family, Found, Heading, Line, LineFault, Mark, MarkList, parse_line};
+use pg_proof::{Checker, Step};
 use pg_replay::replay;
 use pg_type::Kind;
 use pg_valid::Machine;
@@ -80,7 +85,8 @@ impl<'m> Reading<'m> {
 
     /// The mark of the finding that was open. The error is want of memory.
     fn keep(&mut self, mark: Mark) -> Result<(), VerifyFault>
-        ensures { IsTold (Ok (marked self.old (kept mark))) self.new result }
+        ensures told { IsTold (Ok (marked self.old (kept mark))) self.new result }
+        ensures family { self.new.family ≡ self.old.family }
     {
         self.marks.push(mark)?;
         self.opened = Opened::Between;
@@ -122,7 +128,8 @@ impl<'m> Reading<'m> {
 
     /// The two states of the finding that was open are tried.
     fn close_pair(&mut self, header: u32, s: Sparse, t: Sparse) -> Result<(), VerifyFault>
-        ensures { IsTold (closed_pair self.old header (BothStates (drawn_of s) (drawn_of t))) self.new result }
+        ensures told { IsTold (closed_pair self.old header (BothStates (drawn_of s) (drawn_of t))) self.new result }
+        ensures family { self.new.family ≡ self.old.family }
     {
         if self.shows_due(&s, &t) {
             self.keep(Mark::Shown(s, t))
@@ -135,7 +142,8 @@ impl<'m> Reading<'m> {
     #[tactic(auto, unfolding(crate::specs::Taking::closed))]
     fn close(&mut self) -> Result<(), VerifyFault>
         requires { may_close self.old.opened ≡ true }
-        ensures { IsTold (closed self.old) self.new result }
+        ensures told { IsTold (closed self.old) self.new result }
+        ensures family { self.new.family ≡ self.old.family }
     {
         match mem::replace(&mut self.opened, Opened::Between) {
             Opened::Refuting(header, checker) => {
@@ -256,6 +264,72 @@ impl<'m> Reading<'m> {
         }
         self.opened = Opened::Ended;
         Ok(())
+    }
+
+    /// A line that adds a step to the log that is open.
+    fn add(&mut self, step: &Step) -> Result<(), VerifyFault>
+        requires slack { numbered self.old.opened + 1 ≤ 2 ^ 31 + self.old.lines }
+        ensures { IsTold (reopened self.old (after_step self.old.lines step.now self.old.opened)) self.new result }
+    {
+        take_step(&mut self.opened, self.lines, step)
+    }
+
+    /// A line that takes clauses away from the log that is open.
+    fn remove(&mut self, numbers: &[u32]) -> Result<(), VerifyFault>
+        requires slack { numbered self.old.opened + 1 ≤ 2 ^ 31 + self.old.lines }
+        ensures { IsTold (reopened self.old (after_remove self.old.lines self.old.removes numbers.now self.old.opened)) self.new result }
+    {
+        take_removal(&mut self.opened, self.lines, self.removes, numbers)
+    }
+
+    /// A line of a state of the pair that is open.
+    fn draw(&mut self, part: StatePart<'_>) -> Result<(), VerifyFault>
+        requires slack { numbered self.old.opened + 1 ≤ 2 ^ 31 + self.old.lines }
+        requires row { IsRowPart part }
+        ensures { IsTold (reopened self.old (after_state_line self.old.lines (with_part part.entry) self.old.opened)) self.new result }
+    {
+        take_part(self.alloc, &mut self.opened, self.lines, part)
+    }
+
+    /// A line, by what it says.
+    #[tactic(auto, unfolding(crate::specs::Taking::after_form))]
+    fn take_form(&mut self, line: &Line) -> Result<(), VerifyFault>
+        requires slack { numbered self.old.opened + 1 ≤ 2 ^ 31 + self.old.lines }
+        requires line { IsLine (shape_of self.old.desc) line.now }
+        ensures { IsTold (after_form self.old line.now) self.new result }
+    {
+        match line {
+            Line::First(heading) => self.take_first(*heading),
+            Line::Header(name, kind, found) => self.take_header(name.as_slice(), *kind, *found),
+            Line::Step(step) => self.add(step),
+            Line::Remove(numbers) => self.remove(numbers.as_slice()),
+            Line::Size(size) => self.draw(StatePart::Size(*size)),
+            Line::Psw(psw) => self.draw(StatePart::Psw(*psw)),
+            Line::Cells(first, words) => self.draw(StatePart::Cells(*first, words.as_slice())),
+            Line::End => self.take_end(),
+        }
+    }
+
+    /// The next line, of these bytes, its LF among them.
+    #[tactic(auto, unfolding(crate::specs::Taking::after_line, crate::specs::Taking::after_said))]
+    pub fn take_line(&mut self, bytes: &[u8]) -> Result<(), VerifyFault>
+        requires room { self.old.lines + length self.old.rest ≤ self.old.fed }
+        ensures { IsTold (after_line self.old bytes.now) self.new result }
+    {
+        self.lines += 1;
+        match parse_line(self.alloc, self.machine.shape(), bytes) {
+            Ok(line) => self.take_form(&line),
+            Err(LineFault::Token) => Err(VerifyFault::Token(self.lines)),
+            Err(LineFault::Grammar) => Err(VerifyFault::Grammar(self.lines)),
+            Err(LineFault::Version(family)) => {
+                if self.is_first_due(family) {
+                    Err(VerifyFault::Version)
+                } else {
+                    Err(VerifyFault::Grammar(self.lines))
+                }
+            }
+            Err(LineFault::Memory) => Err(VerifyFault::Memory),
+        }
     }
 }
 
