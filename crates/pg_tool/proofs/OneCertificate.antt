@@ -1,5 +1,5 @@
 -- Bytes come to one thing at most as a certificate: what is kept of it is one, as a state is listed in one way.
-use Rattle.std.proofs.Common.{◌≡◌, ℕ, List, [], ◌∷◌, map, Option, Some, Result, Ok, Err, sym, ◌∙◌, ap}
+use Rattle.std.proofs.Common.{◌≡◌, ℕ, List, [], ◌∷◌, map, Some, Result, Ok, Err, sym, ◌∙◌, ap}
 use Rattle.std.proofs.lemmas.Option.{same_Some}
 use mathlib.Core.HLevel.{is_prop→PathP}
 use Rattle.pg_word.specs.Sparse.{AreWithin, AreWithin-prop}
@@ -14,7 +14,6 @@ use Rattle.pg_report.specs.declared.line.CertificateLine.{CertificateLine}
 use Rattle.pg_report.specs.declared.line.CertificateLine.TheVariants as told_line
 use Rattle.pg_verify.specs.declared.fault.VerifyFault.{VerifyFault}
 use Rattle.pg_verify.specs.Reader.{Drawn, Progress, Reader}
-use Rattle.pg_verify.specs.Reader as reader
 use Rattle.pg_verify.specs.Feeding.{most_bytes, drawn_of, kept, IsReportOf}
 use Rattle.pg_verify.proofs.StepLemmas.{same_ok}
 use Rattle.pg_tool.specs.Certificates.{told_of_verifying, CertTextDue, CertDue}

@@ -1,5 +1,5 @@
 -- A file that is handed over part by part to a verifier: what is handed over, and what is made of it.
-use Rattle.std.proofs.Common.{◌≡◌, ◌≢◌, ℕ, suc, ◌+◌, ◌<◌, ◌≤◌, Bool, true, false, nat_lt, if◌then◌else◌, List, [], ◌∷◌, ◌++◌, length, take, drop, Option, None, Some, IfSome, IsSomeAnd, Result, Ok, Err, inl, inr, refl, sym, ap, subst, ◌∙◌, arith, length-append}
+use Rattle.std.proofs.Common.{◌≡◌, ◌≢◌, ℕ, suc, ◌+◌, ◌<◌, ◌≤◌, Bool, true, false, nat_lt, if◌then◌else◌, List, [], ◌∷◌, ◌++◌, length, take, drop, Option, None, Some, IsSomeAnd, Ok, Err, inl, inr, refl, sym, ap, subst, ◌∙◌, arith, length-append}
 use Rattle.std.specs.Result.{IsOk}
 use Rattle.std.proofs.lemmas.Bool.{eq-eqb, ltb-true, ltb-false}
 use Rattle.std.proofs.lemmas.List.{take-append-drop, take_all, length-take}
@@ -25,7 +25,7 @@ use Rattle.pg_tool.specs.Answering.{Comes}
 use Rattle.pg_tool.specs.Certificates.{told_of_verifying, IsCertificate, CertTextDue, CertDue}
 use Rattle.pg_tool.specs.FileSteps.{Faulty, HoldsWithin, FromFile}
 use Rattle.pg_tool.specs.Parts.{HoldsUpTo, HoldsFront, IsFed, IsStopOf}
-use Rattle.pg_tool.specs.Steps.{Came, Refused}
+use Rattle.pg_tool.specs.Steps.{Refused}
 
 -- ---- parts of a file
 

@@ -1,5 +1,5 @@
 -- What the marks of a certificate say, and what follows of the verdict of them.
-use Rattle.std.proofs.Common.{◌≡◌, ℕ, zero, suc, ◌+◌, ◌*◌, ◌/◌, ◌%◌, ◌<◌, ◌≤◌, ◌≢◌, Bool, true, false, not, cond, ◌&&◌, ◌||◌, List, [], ◌∷◌, All, length, map, get_or, take, drop, Option, None, Some, Result, Ok, Err, ◌⊎◌, inl, inr, refl, sym, ap, subst, ◌∙◌, arith, slice_get}
+use Rattle.std.proofs.Common.{◌≡◌, ℕ, zero, suc, ◌+◌, ◌*◌, ◌/◌, ◌%◌, ◌<◌, ◌≤◌, Bool, true, false, not, cond, ◌||◌, List, [], ◌∷◌, All, length, get_or, drop, Option, None, Some, Ok, ◌⊎◌, inl, inr, refl, sym, ap, subst, ◌∙◌, arith, slice_get}
 use Rattle.std.specs.Prelude.{◌==◌, nat_lt, position, unwrap_or, if◌then◌else◌}
 use Rattle.std.proofs.lemmas.Bool.{eqb-true, eqb-false, and_parts, lt-ltb, ltb-true}
 use Rattle.std.specs.List.{position_or_len}
@@ -12,15 +12,13 @@ use Rattle.pg_ast.specs.declared.tree.Desc.{Desc}
 use Rattle.pg_meaning.specs.States.{State}
 use Rattle.pg_valid.specs.Valid.{IsValid}
 use Rattle.pg_type.specs.declared.kind.Kind.{Kind}
-use Rattle.pg_type.specs.declared.kind.Kind.TheVariants.{Privileged, Control, ModeDep, Location, Bound}
+use Rattle.pg_type.specs.declared.kind.Kind.TheVariants.{Privileged}
 use Rattle.pg_type.specs.Kinds.{Shows}
 use Rattle.pg_type.specs.Listed.{state_of}
 use Rattle.pg_type.specs.Accepting.{IsPrivileged, IsInnocuous, IsAccepted}
 use Rattle.pg_type.proofs.KindLaws.{privileged-exactly}
-use Rattle.pg_proof.specs.declared.step.Step.{Step}
 use Rattle.pg_symex.proofs.RunLaw.{all_run_right}
 use Rattle.pg_ask.proofs.ExactLaw.{questions-exact}
-use Rattle.pg_cert.specs.declared.cert.Family.{Family}
 use Rattle.pg_cert.specs.declared.cert.Family.TheVariants.{Plain}
 use Rattle.pg_cert.specs.declared.cert.Finding.{Finding}
 use Rattle.pg_cert.specs.declared.cert.Finding.TheVariants as finding
@@ -45,7 +43,7 @@ use Rattle.pg_verify.proofs.TellLemmas.{taken_texts_tell}
 use Rattle.pg_verify.proofs.TakeLemmas.{valid_texts_are_taken}
 use Rattle.pg_verify.proofs.StepLemmas.{same_ok}
 use Rattle.pg_report.specs.Verdicts.{DoMarkWordsFit, shown_place}
-use Rattle.pg_tool.specs.Meaning.{marks_at, kind_at, mark_at, HasShown, IsSpentOn, MeansRefused, MeansOpen, Means, VerdictMeans}
+use Rattle.pg_tool.specs.Meaning.{kind_at, mark_at, HasShown, IsSpentOn, MeansRefused, MeansOpen, Means, VerdictMeans}
 
 -- ---- the first number that passes a test
 

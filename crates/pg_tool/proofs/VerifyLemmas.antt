@@ -1,5 +1,5 @@
 -- `verify`: what its steps come to, and what it leaves.
-use Rattle.std.proofs.Common.{◌≡◌, ◌*◌, ℕ, ◌≤◌, List, length, All, Option, Result, Ok, Err, refl, sym, ap, subst, arith}
+use Rattle.std.proofs.Common.{◌≡◌, ◌*◌, ℕ, ◌≤◌, List, length, All, Option, Err, refl, sym, subst, arith}
 use Rattle.pg_ast.specs.declared.tree.Desc.{Desc}
 use Rattle.pg_valid.specs.Valid.{IsValid}
 use Rattle.pg_cert.specs.declared.report.Report.{Report}

@@ -4,7 +4,7 @@
 //! to a verifier, which keeps of it what its verdict needs. A fault of the text becomes the line that tells of it, each the one
 //! of its name. Where a file goes on without end the verifier refuses it, as too long.
 
-ghost use Rattle.std.specs.Prelude.{◌≡◌, ◌≤◌, ℕ, length, IfOk, IfErr, IfSome, IsErrOf, OnOk, Some, Ok, Err, slice_index_or, []};
+ghost use Rattle.std.specs.Prelude.{◌≡◌, ◌≤◌, length, IfOk, IfErr, IfSome, IsErrOf, OnOk, Some, Err};
 ghost use Rattle.pg_ast.specs.declared.tree.Desc.{Desc};
 ghost use Rattle.pg_cert.specs.Texts.{name_of};
 ghost use Rattle.pg_edge.specs.Count.{Rose};

@@ -1,5 +1,4 @@
 use Rattle.std.proofs.Common.{◌<◌, Err, sym, ap, subst, arith}
-use Rattle.pg_ast.specs.declared.tree.Desc.{Desc}
 use Rattle.pg_cert.specs.declared.report.Report.{Report}
 use Rattle.pg_edge.specs.Shelf.{LacksFile, HasSize}
 use Rattle.pg_report.specs.declared.line.CertificateLine.TheVariants as told_line

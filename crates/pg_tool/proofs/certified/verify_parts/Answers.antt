@@ -1,9 +1,8 @@
-use Rattle.std.proofs.Common.{◌≡◌, ◌≢◌, ◌+◌, ◌≤◌, List, [], length, Ok, Err, refl, sym, ap, subst, ◌∙◌, arith, rules}
+use Rattle.std.proofs.Common.{◌≡◌, ◌≢◌, ◌+◌, [], length, Err, refl, sym, ap, subst, ◌∙◌, arith, rules}
 use Rattle.std.specs.Prelude.{vec_len}
 use Rattle.std.specs.Result.{IsOk}
 use Rattle.std.proofs.lemmas.Bool.{eqb-true}
 use Rattle.pg_cert.specs.declared.report.Report.{Report}
-use Rattle.pg_edge.specs.Count.{Rose}
 use Rattle.pg_edge.specs.Shelf.{LacksFile, HoldsPart}
 use Rattle.pg_report.specs.declared.line.CertificateLine.TheVariants as told_line
 use Rattle.pg_report.specs.declared.line.RefusalLine.TheVariants.{Certificate}
