@@ -15,3 +15,5 @@ mod rows;
 mod setting;
 #[cfg(test)]
 mod stops;
+#[cfg(test)]
+mod verify;

@@ -45,6 +45,13 @@ pub carries-done : (c : Command) (old new : World) (work : c.Work) (text : List 
     BothTold old.out.written new.out.written (Adds text) → Carries c old new status.Done
 carries-done c old new work text due ends told = record { by_class = inr (record { work = work; is_due = due; came = record { text = text; ends = ends; written = told } }) }
 
+-- whatever its status is, where that ends the command
+pub carries-ended : (c : Command) (old new : World) (work : c.Work) (given : Status) (text : List ℕ) → class_of given ≡ Ended → c.due old.files (Came work) → c.ends work old new given text →
+    BothTold old.out.written new.out.written (Adds text) → Carries c old new given
+carries-ended c old new work given text ended due ends told = record {
+  by_class = subst (λ k. CarriesAs c old new given k) (sym ended) (inr (record { work = work; is_due = due; came = record { text = text; ends = ends; written = told } }));
+}
+
 pub carries-broken : (c : Command) (old new : World) (work : c.Work) (given : Status) (text : List ℕ) → c.due old.files (Came work) → c.ends work old new given text →
     Breaks text old.out new.out → Carries c old new status.WriteFault
 carries-broken c old new work given text due ends front = record {

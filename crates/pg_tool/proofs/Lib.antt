@@ -2,7 +2,12 @@ pub mod StepLemmas
 pub mod CarryLemmas
 pub mod FileLemmas
 pub mod OnlySteps
+pub mod OneSteps
+pub mod OneCertificate
 pub mod OnlyOne
 pub mod BareLemmas
 pub mod RunLemmas
+pub mod PartLemmas
+pub mod VerdictMeanings
+pub mod VerifyLemmas
 pub mod OneState

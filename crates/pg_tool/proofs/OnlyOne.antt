@@ -15,6 +15,7 @@ use Rattle.pg_command.specs.declared.ask.Request.{Request}
 use Rattle.pg_command.specs.declared.ask.Request.TheVariants as request
 use Rattle.pg_command.specs.declared.running.RunWords.{RunWords}
 use Rattle.pg_command.specs.declared.print.PrintWords.{PrintWords}
+use Rattle.pg_command.specs.declared.verify.VerifyWords.{VerifyWords}
 use Rattle.pg_read.specs.declared.fault.DescFault.{DescFault}
 use Rattle.pg_read.specs.declared.fault.DescFault.TheVariants as read_fault
 use Rattle.pg_read.specs.Answer.{most_desc_bytes, IsAnswer}
@@ -37,10 +38,15 @@ use Rattle.pg_tool.specs.Rule.{KeepsRule, of_breach, RuleDue}
 use Rattle.pg_tool.specs.Bare.{BareRun, BareDue}
 use Rattle.pg_tool.specs.Run.{GuestRun, RunDue}
 use Rattle.pg_tool.specs.Print.{PrintDue}
+use Rattle.pg_tool.specs.Certificates.{CertDue}
+use Rattle.pg_tool.specs.Verify.{VerifyDue}
 use Rattle.pg_tool.specs.Asking.{WordsRefused, command_of, command_or_none, command_for}
 use Rattle.pg_tool.specs.Plans.{lone_run}
 use Rattle.pg_tool.proofs.BareLemmas as bare
 use Rattle.pg_tool.proofs.RunLemmas as run
+use Rattle.pg_tool.proofs.VerifyLemmas as verify
+use Rattle.pg_tool.proofs.OneSteps.{one-gives, one-then}
+use Rattle.pg_tool.proofs.OneCertificate.{one-certificate}
 use Rattle.pg_tool.proofs.OnlySteps.{Only, one-of, only-settles, only-gives, lifted, only-as, bind, only-then, file_answer, only-file}
 
 -- ---- a description
@@ -234,10 +240,19 @@ one-run files r = one-of (RunDue r (Some files)) (bind (desc_answer files r.desc
 one-print : (files : Files) (p : PrintWords) → IsOne (PrintDue p (Some files))
 one-print files p = one-of (DescDue (Some files) p.desc) (desc_answer files p.desc) (only-desc files p.desc)
 
+-- ---- `verify`
+
+one-verify : (files : Files) (v : VerifyWords) → IsOne (VerifyDue v (Some files))
+unfolding VerifyDue
+one-verify files v =
+    one-then (DescDue (Some files) v.desc) (verify.behind_desc (Some files) v) (one-of (DescDue (Some files) v.desc) (desc_answer files v.desc) (only-desc files v.desc))
+    (λ d. one-then (CertDue d (Some files) v.cert) (verify.behind_cert d) (one-certificate d files v.cert) (λ report. one-gives (record { desc = d; report = report })))
+
 -- ---- every command
 
 one-command : (files : Files) (asked : Request) → IsOne ((command_of asked).due (Some files))
 one-command files (request.Bare b) = one-bare files b
+one-command files (request.Verify v) = one-verify files v
 one-command files (request.Run r) = one-run files r
 one-command files (request.Print p) = one-print files p
 

@@ -46,7 +46,7 @@ only-then first next answer go one others (Err e) (inr h) = ap (λ a. bind a go)
 
 -- ---- a file
 
-abbrev faulty : {E X : Type 0} → Result X E → Result X (FileFault E)
+abbrev pub faulty : {E X : Type 0} → Result X E → Result X (FileFault E)
 faulty (Ok x) = Ok x
 faulty (Err e) = Err (Faulty e)
 

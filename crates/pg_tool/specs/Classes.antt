@@ -1,6 +1,6 @@
 -- The classes of statuses: what a status says of the way in which a command ended.
 use Rattle.pg_tool.specs.declared.status.Status.{Status}
-use Rattle.pg_tool.specs.declared.status.Status.TheVariants.{Done, Unsettled, Words, Description, Image, Room, ReadFault, WriteFault, Memory, Missing}
+use Rattle.pg_tool.specs.declared.status.Status.TheVariants.{Done, Refused, Unsettled, Words, Description, Image, Certificate, Room, ReadFault, WriteFault, Memory, Missing}
 
 pub data Class : Type 0 where
   -- the command came to its end, and its text is whole
@@ -14,10 +14,12 @@ pub data Class : Type 0 where
 
 abbrev pub class_of : Status → Class
 class_of Done = Ended
+class_of Refused = Ended
 class_of Unsettled = Ended
 class_of Words = Ended
 class_of Description = Ended
 class_of Image = Ended
+class_of Certificate = Ended
 class_of Room = Ended
 class_of ReadFault = Unread
 class_of WriteFault = Unwritten

@@ -5,6 +5,9 @@ pub mod FileSteps
 pub mod Refusals
 pub mod Descriptions
 pub mod Images
+pub mod Certificates
+pub mod Parts
+pub mod Meaning
 pub mod Rooms
 pub mod Rule
 pub mod World
@@ -12,6 +15,7 @@ pub mod Commands
 pub mod Bare
 pub mod Run
 pub mod Print
+pub mod Verify
 pub mod Asking
 pub mod Answering
 pub mod CanRuns

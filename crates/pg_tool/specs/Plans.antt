@@ -9,6 +9,8 @@ use Rattle.pg_word.specs.Psw.{power_on_psw}
 use Rattle.pg_tool.specs.Bare.{BareRun}
 use Rattle.pg_tool.specs.Run.{GuestRun}
 use Rattle.pg_tool.specs.declared.bare.plan.BarePlan.{BarePlan}
+use Rattle.pg_tool.specs.declared.verify.plan.VerifyPlan.{VerifyPlan}
+use Rattle.pg_tool.specs.Verify.{Judged}
 
 abbrev pub bare_run : BarePlan → BareRun
 bare_run p = record { desc = p.machine.desc; image = p.image; grant = p.grant; steps = p.steps }
@@ -30,3 +32,7 @@ guest_state p = lone_state p.machine.desc p.image p.steps
 -- the guest that a monitor has first: it is switched on in a grant of so many cells
 abbrev pub first_guest : ℕ → Guest
 first_guest grant = record { base = kept_cells; size = grant; psw = power_on_psw grant }
+
+-- a description with what was kept of its certificate
+abbrev pub judged : VerifyPlan → Judged
+judged p = record { desc = p.machine.desc; report = p.report }

@@ -10,8 +10,9 @@
 //! command, what is then left of files, sink and hardware, by the class of the status; and `Exactly` that what is due comes.
 //!
 //! - `status`: how a command ends. `refusal`, `stop`: why one goes no further, and how that is told.
-//! - `described`, `imaged`, `load`: bytes and files to machines and images. `room`: more cells than there are.
-//! - `bare`, `run`, `print`: the commands.
+//! - `described`, `imaged`, `load`: bytes and files to machines and images. `certified`: files to certificates. `room`: more
+//!   cells than there are.
+//! - `bare`, `verify`, `run`, `print`: the commands.
 //! - `laws`: what is due for told files is one thing.
 #![tactic(auto)]
 
@@ -25,6 +26,7 @@ ghost use Rattle.pg_tool.specs.Answering.{stop_of_words};
 ghost use Rattle.pg_tool.specs.World.{CanCount, SavesOnly, around, output};
 
 mod bare;
+mod certified;
 mod described;
 mod imaged;
 pub mod laws;
@@ -35,12 +37,14 @@ mod room;
 mod run;
 mod status;
 mod stop;
+mod verify;
 
 use crate::bare::carry_bare;
 use crate::print::carry_print;
 use crate::refusal::Stop;
 use crate::run::carry_run;
 use crate::stop::stopped;
+use crate::verify::carry_verify;
 use pg_command::{Fault, Request, request};
 use pg_edge::{Shelf, Sink};
 use pg_hw::Hardware;
@@ -107,6 +111,7 @@ fn carry<F: Shelf, S: Sink, H: Hardware>(
 {
     match request {
         Request::Bare(words) => carry_bare(alloc, words, shelf, out, hw),
+        Request::Verify(words) => carry_verify(alloc, words, shelf, out, hw),
         Request::Run(words) => carry_run(alloc, words, shelf, out, hw),
         Request::Print(words) => carry_print(alloc, words, shelf, out, hw),
     }

@@ -100,7 +100,7 @@ fn load_file<F: Shelf>(
 }
 
 /// Why a command goes no further whose file was not loaded.
-fn stop_of(fault: LoadFault, long: RefusalLine) -> Stop
+pub(crate) fn stop_of(fault: LoadFault, long: RefusalLine) -> Stop
     ensures { result ≡ stop_as fault long }
 {
     match fault {

@@ -10,9 +10,12 @@ ghost use Rattle.pg_tool.specs.Codes.{code_of};
 /// How a command ended. The program ends with its number.
 #[derive(Clone, Copy, Debug, PartialEq, Eq)]
 pub enum Status {
-    /// The text of the command was written whole.
+    /// The text of the command was written whole; where the command answers whether a monitor may run a machine, it may.
     Done,
-    /// It stays open whether a monitor may run the machine: an instruction breaks the plain rule.
+    /// A monitor may not run the machine: a certificate shows an instruction that is neither privileged nor innocuous.
+    Refused,
+    /// It stays open whether a monitor may run the machine: an instruction breaks the plain rule, or a certificate leaves a
+    /// question open.
     Unsettled,
     /// The words are none that the program takes.
     Words,
@@ -20,6 +23,8 @@ pub enum Status {
     Description,
     /// An image is refused.
     Image,
+    /// A certificate is refused.
+    Certificate,
     /// More cells are wanted than the machine has, beside those of the monitor where there is one.
     Room,
     /// A file could not be read.
@@ -33,16 +38,18 @@ pub enum Status {
 }
 
 impl Status {
-    /// The number of the status: 0, 2, 3, 4, 5, 7, 8, 9, 10 and 11, in the order above.
+    /// The number of the status: from 0 to 11, in the order above.
     pub fn code(self) -> u8
         ensures { result ≡ code_of self }
     {
         match self {
             Status::Done => 0,
+            Status::Refused => 1,
             Status::Unsettled => 2,
             Status::Words => 3,
             Status::Description => 4,
             Status::Image => 5,
+            Status::Certificate => 6,
             Status::Room => 7,
             Status::ReadFault => 8,
             Status::WriteFault => 9,

@@ -53,6 +53,7 @@ fn status_of(line: &RefusalLine) -> Status
     match line {
         RefusalLine::Description(_) => Status::Description,
         RefusalLine::Image(..) => Status::Image,
+        RefusalLine::Certificate(_) => Status::Certificate,
         RefusalLine::Room(..) => Status::Room,
         RefusalLine::Open(_) => Status::Unsettled,
     }

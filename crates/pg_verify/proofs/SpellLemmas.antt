@@ -105,18 +105,18 @@ lines_text-more shape [] l = append-nil (line_text shape l)
 lines_text-more shape (k ∷ ls) l = ap (λ bs. line_text shape k ++ bs) (lines_text-more shape ls l)
     ∙ sym (append_assoc (line_text shape k) (lines_text shape ls) (line_text shape l))
 
-record IsRead (d : Desc) (family : Family) (bytes : List ℕ) (p : Progress) : Type 0 where
-  lines : List Line
-  desc : p.desc ≡ d
-  family_is : p.family ≡ family
-  fed_is : p.fed ≡ length bytes
-  within : length bytes ≤ most_bytes
-  text : bytes ≡ lines_text (shape_of p.desc) lines ++ p.rest
-  in_range : All (IsLine (shape_of p.desc)) lines
-  at : IsAt p.desc p.family p.removes p.marks lines p.opened
+pub record IsRead (d : Desc) (family : Family) (bytes : List ℕ) (p : Progress) : Type 0 where
+  pub lines : List Line
+  pub desc : p.desc ≡ d
+  pub family_is : p.family ≡ family
+  pub fed_is : p.fed ≡ length bytes
+  pub within : length bytes ≤ most_bytes
+  pub text : bytes ≡ lines_text (shape_of p.desc) lines ++ p.rest
+  pub in_range : All (IsLine (shape_of p.desc)) lines
+  pub at : IsAt p.desc p.family p.removes p.marks lines p.opened
 
 module _ (d : Desc) (family : Family) where
-  none_read : IsRead d family [] (begun d family)
+  pub none_read : IsRead d family [] (begun d family)
   unfolding lines_text
   none_read = record {
     lines = [];
@@ -190,7 +190,7 @@ module _ (d : Desc) (family : Family) where
       by false false ef e = subst (λ x. IsRead d family (bytes ++ c ∷ []) x)
           (same_ok (record p { fed = suc p.fed; rest = p.rest ++ c ∷ [] }) q e) (longer (eqb-false p.fed most_bytes ef))
 
-  bytes_read : (cs bytes : List ℕ) (p q : Progress) → fed p cs ≡ Ok q → IsRead d family bytes p →
+  pub bytes_read : (cs bytes : List ℕ) (p q : Progress) → fed p cs ≡ Ok q → IsRead d family bytes p →
       IsRead d family (bytes ++ cs) q
   unfolding fed
   bytes_read [] bytes p q e h = subst (λ bs. IsRead d family bs q) (sym (append-nil bytes))

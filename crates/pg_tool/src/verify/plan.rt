@@ -1,0 +1,13 @@
+//! A certificate that was read, before any of its verdict is put.
+
+use pg_cert::Report;
+use pg_valid::Machine;
+
+/// A machine, and what is kept of a certificate of it.
+#[derive(Drop)]
+pub(crate) struct VerifyPlan {
+    /// The machine, of which nothing is run.
+    pub(crate) machine: Machine,
+    /// The marks of its certificate.
+    pub(crate) report: Report,
+}
