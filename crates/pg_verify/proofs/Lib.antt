@@ -14,3 +14,5 @@ pub mod LogReach
 pub mod StateReach
 pub mod FindingReach
 pub mod TakeLemmas
+mod KeepLemmas
+mod FeedLemmas

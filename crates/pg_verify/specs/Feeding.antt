@@ -1,5 +1,5 @@
 -- A text that is fed, byte by byte: a line is taken with its LF.
-use Rattle.std.specs.Prelude.{◌≡◌, ⊤, ℕ, suc, false, ◌==◌, if◌then◌else◌, List, [], ◌∷◌, ◌++◌, map, Result, Ok, Err}
+use Rattle.std.specs.Prelude.{◌≢◌, nat_lt, length, ◌≡◌, ℕ, suc, false, ◌==◌, if◌then◌else◌, List, [], ◌∷◌, ◌++◌, map, Result, Ok, Err}
 use Rattle.pg_word.specs.declared.sparse.Sparse.{Sparse}
 use Rattle.pg_ast.specs.declared.tree.Desc.{Desc}
 use Rattle.pg_cert.specs.declared.cert.Family.{Family}
@@ -58,9 +58,21 @@ at_rest p (c ∷ cs) = or_misplaced (suc p.lines) (after_line (record p { rest =
 unfoldable pub finished : Progress → Reader
 finished p = at_rest p p.rest
 
+-- bytes more, behind which a line ends: what they leave of one is a line without its LF
+abbrev pub ended_line : Progress → List ℕ → Reader
+ended_line p [] = Ok p
+ended_line p (c ∷ cs) = or_misplaced (suc p.lines) (after_line (record p { rest = [] }) (c ∷ cs))
+
+unfoldable pub lined : Progress → List ℕ → Reader
+lined p bytes = then_take (fed p bytes) (λ after. ended_line after after.rest)
+
 -- what a text is told to be
 unfoldable pub verified : Desc → Family → List ℕ → Reader
 verified d family bytes = then_take (fed (begun d family) bytes) finished
+
+-- the same where the text is there whole: that it is too long is told first
+abbrev pub verified_whole : Desc → Family → List ℕ → Reader
+verified_whole d family bytes = (if nat_lt most_bytes (length bytes) then Err fault.Long else verified d family bytes)
 
 -- ---- what is answered
 
@@ -78,9 +90,12 @@ pub record IsReportOf (p : Progress) (report : Report) : Type 0 where
   pub family : report.family ≡ p.family
   pub marks : map kept report.marks ≡ p.marks
 
--- what is answered of what is due: a report where the text was not refused, or its refusal. Want of memory says nothing of it
+-- a text that was not refused is told by such a report, and a refused one by none
+abbrev pub IsReported : Reader → Report → Type 0
+IsReported (Ok p) report = IsReportOf p report
+IsReported (Err f) report = ⊥
+
+-- what is answered of what is due: a report, or the refusal. Want of memory says nothing of the text
 abbrev pub IsAnswer : Reader → Result Report VerifyFault → Type 0
-IsAnswer (Ok p) (Ok report) = IsReportOf p report
-IsAnswer (Err f) (Ok report) = ⊥
-IsAnswer due (Err fault.Memory) = ⊤
-IsAnswer due (Err f) = due ≡ Err f
+IsAnswer due (Ok report) = IsReported due report
+IsAnswer due (Err f) = f ≢ fault.Memory → due ≡ Err f

@@ -1,7 +1,6 @@
 -- The values of the code as the definitions have them.
-use Rattle.std.specs.Prelude.{ℕ, ⊤, ◌≡◌, ◌≢◌, ◌+◌, ◌<◌, ◌≤◌, ◌^◌, List, length, Option, None, Some, Result, Ok, Err}
+use Rattle.std.specs.Prelude.{Bool, true, false, ℕ, ⊤, ◌≡◌, ◌≢◌, ◌≤◌, length, Option, None, Some, Result, Ok, Err}
 use Rattle.pg_word.specs.declared.sparse.Sparse.{Sparse}
-use Rattle.pg_proof.specs.State.{State as Log}
 use Rattle.pg_verify.specs.declared.fault.VerifyFault.{VerifyFault}
 use Rattle.pg_verify.specs.declared.fault.VerifyFault.TheVariants.{Memory}
 use Rattle.pg_verify.specs.declared.drawing.Drawing.{Drawing}
@@ -75,3 +74,15 @@ pair_told n (Some pair) = Ok pair
 abbrev pub reader_of : Option VerifyFault → Progress → Reader
 reader_of None p = Ok p
 reader_of (Some f) p = Err f
+
+-- a refusal that is due. Want of memory says nothing
+abbrev pub IsFaultDue : Reader → VerifyFault → Type 0
+IsFaultDue due f = f ≢ Memory → due ≡ Err f
+
+abbrev pub is_ended : Open → Bool
+is_ended Fresh = false
+is_ended Between = false
+is_ended (Refuting header log) = false
+is_ended (Showing header pair) = false
+is_ended (Spending header budget count log) = false
+is_ended Ended = true

@@ -21,5 +21,8 @@ mod opened;
 mod reading;
 mod states;
 mod steps;
+mod verifier;
 
 pub use fault::{StepCause, VerifyFault};
+pub use reading::CERT_BYTES;
+pub use verifier::{Verifier, verify};

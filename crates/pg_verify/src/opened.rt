@@ -2,7 +2,7 @@
 
 ghost use Rattle.std.specs.Prelude.{◌≡◌};
 ghost use Rattle.pg_verify.specs.Taking.{is_fresh, may_close};
-ghost use Rattle.pg_verify.specs.Seen.{open_of};
+ghost use Rattle.pg_verify.specs.Seen.{open_of, is_ended};
 
 use crate::drawing::{Drawing, is_whole};
 use pg_proof::Checker;
@@ -49,5 +49,19 @@ pub fn may_close(opened: &Opened) -> bool
         Opened::Showing(_, drawing) => is_whole(drawing),
         Opened::Spending(_, _, _, _) => true,
         Opened::Ended => false,
+    }
+}
+
+/// Whether the last line was read.
+pub fn is_ended(opened: &Opened) -> bool
+    ensures { result ≡ is_ended (open_of opened.now) }
+{
+    match opened {
+        Opened::Ended => true,
+        Opened::Fresh => false,
+        Opened::Between => false,
+        Opened::Refuting(_, _) => false,
+        Opened::Showing(_, _) => false,
+        Opened::Spending(_, _, _, _) => false,
     }
 }

@@ -17,12 +17,15 @@ ghost use Rattle.pg_verify.specs.declared.fault.VerifyFault.TheVariants.{Missing
 ghost use Rattle.pg_cert.specs.Texts.{family_of};
 ghost use Rattle.pg_cert.specs.Validity.{may_remove};
 
+mod feeding;
+
 use crate::drawing::Drawing;
 use crate::families::{family_of, kind_place, may_remove, same_family};
 use crate::fault::VerifyFault;
 use crate::opened::{Opened, is_fresh, may_close};
 use crate::states::{StatePart, take_part};
 use crate::steps::{take_removal, take_step};
+pub use feeding::CERT_BYTES;
 use pg_ask::ask;
 use pg_cert::{Family, Found, Heading, Line, LineFault, Mark, MarkList, parse_line};
 use pg_proof::{Checker, Step};
@@ -312,7 +315,7 @@ impl<'m> Reading<'m> {
 
     /// The next line, of these bytes, its LF among them.
     #[tactic(auto, unfolding(crate::specs::Taking::after_line, crate::specs::Taking::after_said))]
-    pub fn take_line(&mut self, bytes: &[u8]) -> Result<(), VerifyFault>
+    fn take_line(&mut self, bytes: &[u8]) -> Result<(), VerifyFault>
         requires room { self.old.lines + length self.old.rest ≤ self.old.fed }
         ensures { IsTold (after_line self.old bytes.now) self.new result }
     {

@@ -1,4 +1,4 @@
-use Rattle.std.proofs.Common.{arith, sym, ap, ◌∙◌, subst}
+use Rattle.std.proofs.Common.{ap, ◌∙◌}
 use Rattle.pg_cnf.specs.declared.clause.Cnf.{Cnf}
 use Rattle.pg_verify.proofs.NameLemmas.{log_of_question, few_numbered}
 use Rattle.pg_verify.proofs.reading.checker_of.Goals as goal

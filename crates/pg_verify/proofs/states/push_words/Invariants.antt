@@ -1,4 +1,4 @@
-use Rattle.std.proofs.Common.{◌≡◌, ◌≤◌}
+use Rattle.std.proofs.Common.{◌≡◌}
 use Rattle.pg_verify.proofs.PushedRows.{IsListedSoFar}
 use Rattle.pg_verify.proofs.states.push_words.Given as goal
 

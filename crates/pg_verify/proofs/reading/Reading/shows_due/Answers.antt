@@ -1,4 +1,4 @@
-use Rattle.std.proofs.Common.{◌≡◌, arith, subst, sym, ap, ◌∙◌, slice_get}
+use Rattle.std.proofs.Common.{arith, ap, ◌∙◌, slice_get}
 use Rattle.pg_verify.specs.Reader.{Progress}
 use Rattle.pg_verify.specs.Feeding.{drawn_of}
 use Rattle.pg_verify.specs.Taking.{shows_at, due_kind, due_instr}

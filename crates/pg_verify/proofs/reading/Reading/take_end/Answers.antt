@@ -1,4 +1,4 @@
-use Rattle.std.proofs.Common.{ℕ, arith, ap, ◌*◌, List, length}
+use Rattle.std.proofs.Common.{arith, ap, ◌*◌, List, length}
 use Rattle.pg_type.specs.declared.kind.Kind.{Kind}
 use Rattle.pg_verify.proofs.NameLemmas.{small_count}
 use Rattle.pg_verify.proofs.reading.Reading.take_end.Goals as goal
