@@ -1,0 +1,211 @@
+"""Certificates of random small descriptions: pairs that were found by trying, logs of a small search, and spoiled ones.
+
+Where there is no program to ask for the clauses of questions, what needs them is written without: such a finding is a guess,
+and the certificate is told by a fault before it, or not modelled.
+"""
+
+from collections.abc import Sequence
+from random import Random
+
+from inputs.bodies import FREE, GUARDED, PURE
+from inputs.case import Case, verifying
+from inputs.certificate_edits import ODD_LINES, spoiled, with_edited_log
+from inputs.descriptions import random_description, random_shape
+from inputs.pairs import Pair, PairFinder
+from inputs.programs import TAME
+from inputs.search import Search
+from pgvmodel import tree
+from pgvmodel.certificate import MOST_BYTES
+from pgvmodel.clauses import Step
+from pgvmodel.machine import state_text
+from pgvmodel.pairs import KINDS
+from pgvmodel.printer import printed
+from pgvmodel.questions import NotModelled, Questions
+from pgvmodel.reader import read
+
+MOST_STEPS = 40
+"""Most steps that a search may take."""
+
+STORING = (
+    "mem[x] = ext(cat(cat(rel, bound), mode), $W);",
+    "mem[x] = ext(rel, $W); mem[y] = (ext(bound, $W) ^ ext(mode, $W));",
+)
+"""Bodies that store the control registers."""
+
+TELLING = (
+    "rel = (rel + 1:$A);", "bound = y;", "mode = ~mode;", "mode = ~mode; pc = y;", "if ~mode { rel = y; } else { bound = y; }",
+    "bound = (bound - 1:$A); rel = (rel ^ 1:$A);",
+)
+"""Ends of such bodies, which change one."""
+
+QUIET = ("", "trap;", "pc = y;", "mem[x] = mem[y];", "if mode { trap; }", "if mode { trap; } rel = x; bound = y;", "mode = mode;")
+"""Bodies of which many questions have clauses that contradict each other soon."""
+
+
+def _described(rng: Random, bodies: Sequence[str]) -> tree.Description:
+    """A small machine with one or two instructions of these bodies; x and y are fields of the width of an address."""
+    word = rng.choice([16, 16, 24, 32, 64])
+    width = rng.randint(4, min(9, (word - 3) // 3))
+    causes = rng.choice(["", "causes on;"])
+    text = f"machine {{ word {word}; address {width}; size {rng.choice([4, 5, 8, 15, 2**width - 1])}; {causes} }}"
+    for code in range(rng.choice([1, 1, 2])):
+        pattern = f"{code}{'x' * width}{'y' * width}"
+        body = rng.choice(bodies).replace("$A", str(width)).replace("$W", str(word))
+        text += f' instr i{code} "{pattern:.<{word}}" {{ {body} }}'
+    return read(text.encode())
+
+
+def telling(rng: Random) -> tree.Description:
+    """Instructions of which every kind can be shown."""
+    return _described(rng, [f"{stored} {ending}" for stored in STORING for ending in TELLING])
+
+
+def quiet(rng: Random) -> tree.Description:
+    """Instructions of which most questions are refuted."""
+    return _described(rng, QUIET)
+
+
+def mixed(rng: Random) -> tree.Description:
+    """Instructions of any bodies, most of them short."""
+    shape = random_shape(rng, small=True)
+    manners = rng.choice([(FREE,), (FREE, FREE, GUARDED, PURE)])
+    if rng.random() < 0.7:
+        return random_description(rng, shape, rng.choice([1, 1, 2, 3]), manners, TAME)
+    return random_description(rng, shape, rng.choice([0, 1, 1, 2]), manners)
+
+
+class CertificateWriter:
+    """Writes the lines of a certificate for a description."""
+
+    def __init__(self, rng: Random, description: tree.Description, questions: Questions) -> None:
+        self.rng = rng
+        self.description = description
+        self.text = printed(description)
+        self.questions = questions
+        self.pairs = PairFinder(rng, description)
+        self.version = rng.choice("1222")
+
+    def lines(self, spent: float = 0.1) -> list[str]:
+        """A whole certificate; findings that could be shown or refuted are spent with this chance."""
+        lines = [f"pgcert {self.version}"]
+        for number, instruction in enumerate(self.description.instructions):
+            for kind in KINDS:
+                lines += self.finding(number, instruction.name, kind, spent)
+        return [*lines, "end"]
+
+    def finding(self, number: int, name: str, kind: str, spent: float) -> list[str]:
+        header = f"finding {name} {kind}"
+        is_spent = self.rng.random() < spent
+        pair = None if is_spent and self.questions.program else self.pairs.found(number, kind)
+        if pair is not None:
+            return [f"{header} shown", *self.states(pair)]
+        try:
+            question = self.questions.clauses(self.text, name, kind)
+        except NotModelled:
+            return self.guess(header)
+        steps, is_closed = Search(self.rng, question).steps(self.rng.choice([1, 3, MOST_STEPS]))
+        if is_closed and not is_spent:
+            return [f"{header} refuted", *self.refutation(len(question), steps)]
+        kept = steps[: len(steps) - is_closed]
+        return [f"{header} spent {max(1, len(kept))}", *map(step_line, kept)]
+
+    def states(self, pair: Pair) -> list[str]:
+        return [line for state in pair for line in state_text(state, self.description.word).splitlines()]
+
+    def guess(self, header: str) -> list[str]:
+        """A finding by whoever has not seen the question."""
+        guesses = [["refuted"], ["refuted", "s 0 1 2 0"], ["refuted", "s 0 0"], ["spent 1"], ["spent 2", "s 2 0 1 2 0"], ["shown"]]
+        found, *evidence = self.rng.choice(guesses)
+        return [f"{header} {found}", *evidence]
+
+    def refutation(self, last: int, steps: list[Step]) -> list[str]:
+        """The steps, and in version 2 lines that take away what no later step needs."""
+        lines = []
+        held = set(range(1, last + 1))
+        for place, step in enumerate(steps, 1):
+            lines.append(step_line(step))
+            held.add(last + place)
+            if self.version == "2" and self.rng.random() < 0.3:
+                needed = {hint for later in steps[place:] for hint in later.hints}
+                spare = sorted(held - needed)
+                gone = sorted(self.rng.sample(spare, min(len(spare), self.rng.randint(1, 4))))
+                held -= set(gone)
+                lines += [" ".join(map(str, ["d", *gone, 0]))] if gone else []
+        return lines
+
+
+def step_line(step: Step) -> str:
+    return " ".join(map(str, ["s", *step.literals, 0, *step.hints, 0]))
+
+
+def _text(lines: Sequence[str]) -> bytes:
+    return "".join(line + "\n" for line in lines).encode()
+
+
+def certificates(rng: Random, questions: Questions) -> Case:
+    """Mostly valid ones."""
+    description = rng.choice([telling, telling, quiet, mixed])(rng)
+    return verifying(description, _text(CertificateWriter(rng, description, questions).lines()))
+
+
+def spoiled_certificates(rng: Random, questions: Questions) -> Case:
+    """Edited ones; a few are for a description with other instructions."""
+    description = rng.choice([telling, telling, telling, quiet, mixed])(rng)
+    text = _text(CertificateWriter(rng, description, questions).lines())
+    if rng.random() < 0.05:
+        description = telling(rng)
+    return verifying(description, spoiled(rng, text))
+
+
+def logs(rng: Random, questions: Questions) -> Case:
+    """Ones that are mostly logs, with an edit of steps and of lines that take clauses away."""
+    description = rng.choice([quiet, quiet, mixed, telling])(rng)
+    lines = CertificateWriter(rng, description, questions).lines(spent=0.4)
+    return verifying(description, _text(with_edited_log(rng, lines) if rng.random() < 0.85 else lines))
+
+
+def _fixed() -> tuple[tree.Description, list[str]]:
+    """One description, and a certificate of it that has shown pairs alone."""
+    rng = Random("a machine that tells all")
+    text = """machine { word 16; address 4; size 15; }
+    instr i0 "0xxxxyyyy......." { mem[x] = ext(cat(cat(rel, bound), mode), 16); rel = y; }"""
+    description = read(text.encode())
+    return description, CertificateWriter(rng, description, Questions()).lines()
+
+
+def odd_lines() -> list[Case]:
+    """Each odd line in place of each line, and before it; and each line twice, and left out."""
+    description, lines = _fixed()
+    cases = []
+    for i, line in enumerate(lines):
+        cases += [[*lines[:i], *lines[i + 1 :]], [*lines[:i], line, *lines[i:]]]
+        for odd in ODD_LINES:
+            cases += [[*lines[:i], odd, *lines[i + 1 :]], [*lines[:i], odd, *lines[i:]]]
+    cases += [[*lines, odd] for odd in ODD_LINES]
+    return [verifying(description, _text(case)) for case in cases]
+
+
+def odd_logs() -> list[Case]:
+    """Each odd line as a line of a refuted and of a spent finding, alone and behind a step that is not needed."""
+    description, lines = _fixed()
+    end = next(i for i, line in enumerate(lines) if " control " in line)
+    cases = []
+    for version in "12":
+        for found in ("refuted", "spent 1", "spent 2"):
+            header = lines[end].replace("shown", found)
+            for odd in ODD_LINES:
+                cases += [[f"pgcert {version}", *lines[1:end], header, *more, "end"] for more in ([odd], [odd, odd])]
+    return [verifying(description, _text(case)) for case in cases]
+
+
+def fronts() -> list[Case]:
+    """A certificate broken off at each byte."""
+    description, lines = _fixed()
+    whole = _text(lines)
+    return [verifying(description, whole[:length]) for length in range(len(whole) + 1)]
+
+
+def largest() -> list[Case]:
+    """As many bytes as a file may have, and one more; the first line is at fault too."""
+    description, _ = _fixed()
+    return [verifying(description, b"x" * length) for length in (MOST_BYTES, MOST_BYTES + 1)]
