@@ -1,5 +1,8 @@
 #!/usr/bin/env python3
-"""Small certificates beside what the model has to answer, worked out by hand. Ends with 0 where it answers all of them so."""
+"""Small certificates beside what the model has to answer, worked out by hand.
+
+Ends with 0 where it answers all of them so.
+"""
 
 import sys
 from typing import NamedTuple
@@ -42,6 +45,20 @@ ONCE = ("s 2 0 1 2 0", "s 0 5 3 4 0")
 """A refutation of SQUARE."""
 LAST = tuple(line for kind in ("mode", "location", "bound") for line in refuted(kind, *ONCE))
 FIRST = ("pgcert 2", "finding rtu privileged")
+
+CELLS = "0: 06000002 00000000 00000000 00000000"
+HERE = ("size 4", "psw s 0 0 4", CELLS)
+IN_USER_MODE = ("size 4", "psw u 0 0 4", CELLS)
+THERE = ("size 4", "psw s 0 0 3", CELLS, "size 4", "psw s 0 1 3", "0: 00000007 06000002 00000000 00000000")
+"""A window of three cells from cell 0, and the same from cell 1."""
+TOLD = (
+    "pgcert 1",
+    *("finding t privileged shown", *HERE, *IN_USER_MODE),
+    *("finding t control shown", *HERE, *HERE),
+    *("finding t mode shown", *HERE, *IN_USER_MODE),
+    *("finding t location shown", *THERE),
+    *("finding t bound shown", *HERE, "size 4", "psw s 0 0 5", CELLS),
+)
 
 
 class Row(NamedTuple):
@@ -150,8 +167,14 @@ ROWS = (
     Row(RTU, spent("2", "s 2 0 1 2 0", "s 0 5 3 4 0"), 6, "certificate: spent 4"),
     Row(RTU, spent("1", "s 1 2 0 1 0"), 6, "certificate: spent 3"),
     Row(RTU, spent("1", "d 1 0"), 6, "certificate: grammar 3"),
-    Row(TELLING, ("pgcert 1", *pair("privileged", ("psw s 0 0 4", "0: 06000002 00000000 00000000 00000000"),
-        ("psw u 0 0 4", "0: 06000002 00000000 00000000 00000000"), "t"), "finding t control shown"), 6, "certificate: grammar 10"),
+    Row(TELLING, (*TOLD, "end"), 1, "refused t"),
+    Row(TELLING, (*TOLD[:23], *THERE[:3], "size 5", THERE[4], f"{THERE[5]} 00000000", "end"), 6, "certificate: pair 23"),
+    Row(TELLING, (*TOLD[:23], *THERE[:4], "psw s 0 1 2", THERE[5], "end"), 6, "certificate: pair 23"),
+    Row(TELLING, (*TOLD[:23], *THERE[:4], "psw u 0 1 3", THERE[5], "end"), 6, "certificate: pair 23"),
+    Row(TELLING, (*TOLD[:23], *THERE[:4], "psw s 0 0 3", THERE[2], "end"), 6, "certificate: pair 23"),
+    Row(TELLING, (*TOLD[:23], *THERE, "end"), 6, "certificate: missing t bound"),
+    Row(TELLING, (*TOLD[:29], "finding t bound shown", *HERE, "size 4", "psw s 0 0 4", CELLS, "end"), 6, "certificate: pair 30"),
+    Row(TELLING, (*TOLD[:29], "finding t bound shown", *HERE, "size 5", "psw s 0 0 5", CELLS), 6, "certificate: grammar 36"),
 )
 
 

@@ -4,31 +4,34 @@ from collections.abc import Callable
 from random import Random
 
 ODD_LINES = (
-    "", " ", "end", "end ", " end", "END", "end 0", "pgcert", "pgcert 0", "pgcert 1", "pgcert 2", "pgcert 3", "pgcert 02",
-    "pgcert 2 ", "pgcert  2", "pgcert -1", "pgcert +1", "pgcert 1x", "pgcert 18446744073709551617", "pghybrid 1", "pghybrid 2",
-    "pgguest 1", "pgcert\t1", "# c", "finding", "finding i0", "finding i0 privileged", "finding i0 privileged refuted",
-    "finding i0 privileged shown", "finding i0 privileged spent 1", "finding i0 control refuted", "finding i0 control shown",
-    "finding i0 control spent 1000000", "finding i0 mode refuted", "finding i0 location shown", "finding i0 bound shown",
-    "finding i0 bound spent 1", "finding i1 privileged refuted", "finding i1 bound shown", "finding nobody control refuted",
+    "", " ", "end", "end ", " end", "END", "end 0", "pgcert", "pgcert 0", "pgcert 1", "pgcert 2", "pgcert 3",
+    "pgcert 02", "pgcert 2 ", "pgcert  2", "pgcert -1", "pgcert +1", "pgcert 1x", "pgcert 18446744073709551617",
+    "pghybrid 1", "pghybrid 2", "pgguest 1", "pgcert\t1", "# c", "finding", "finding i0", "finding i0 privileged",
+    "finding i0 privileged refuted", "finding i0 privileged shown", "finding i0 privileged spent 1",
+    "finding i0 control refuted", "finding i0 control shown", "finding i0 control spent 1000000",
+    "finding i0 mode refuted", "finding i0 location shown", "finding i0 bound shown", "finding i0 bound spent 1",
+    "finding i1 privileged refuted", "finding i1 bound shown", "finding nobody control refuted",
     "finding mem control shown", "finding 0i control shown", "finding _i control shown", "finding i-0 control shown",
     "finding  control shown", "finding i0 ucontrol shown", "finding i0 Control shown", "finding i0 control Shown",
-    "finding i0 control spent", "finding i0 control spent 0", "finding i0 control spent 1000001", "finding i0 control spent 01",
-    "finding i0 control spent +1", "finding i0 control spent 4294967297", "finding i0 control refuted 1",
-    "finding i0 control shown ", "finding i0 control  shown", "finding i0 control proved", f"finding {'n' * 32} mode shown",
-    f"finding {'n' * 33} mode shown", "size", "size 0", "size 1", "size 2", "size 3", "size 4", "size 04", "size 4 4", "size +4",
-    "size 65535", "size 1048575", "size 1048576", "size 4294967300", "size 18446744073709551620", "psw", "psw s 0 0 4",
-    "psw u 0 0 4", "psw s 0 0", "psw s 0 0 4 0", "psw S 0 0 4", "psw x 0 0 4", "psw s 00 0 4", "psw s 0 0 1048576",
-    "psw s 15 15 15", "psw s 16 0 4", "psw s 4294967296 0 4", "psw s -1 0 4", "psw s  0 0 4", "0:", "0: ", "0: 0", "0: 0000",
-    "0: 0001", "0: 0000 0000 0000 0000", "0: 0001 0000 0000 0000", "0: 000A 0000 0000 0000", "0:0001 0000 0000 0000",
+    "finding i0 control spent", "finding i0 control spent 0", "finding i0 control spent 1000001",
+    "finding i0 control spent 01", "finding i0 control spent +1", "finding i0 control spent 4294967297",
+    "finding i0 control refuted 1", "finding i0 control shown ", "finding i0 control  shown",
+    "finding i0 control proved", f"finding {'n' * 32} mode shown", f"finding {'n' * 33} mode shown", "size", "size 0",
+    "size 1", "size 2", "size 3", "size 4", "size 04", "size 4 4", "size +4", "size 65535", "size 1048575",
+    "size 1048576", "size 4294967300", "size 18446744073709551620", "psw", "psw s 0 0 4", "psw u 0 0 4", "psw s 0 0",
+    "psw s 0 0 4 0", "psw S 0 0 4", "psw x 0 0 4", "psw s 00 0 4", "psw s 0 0 1048576", "psw s 15 15 15",
+    "psw s 16 0 4", "psw s 4294967296 0 4", "psw s -1 0 4", "psw s  0 0 4", "0:", "0: ", "0: 0", "0: 0000", "0: 0001",
+    "0: 0000 0000 0000 0000", "0: 0001 0000 0000 0000", "0: 000A 0000 0000 0000", "0:0001 0000 0000 0000",
     "0: 0001 0000 0000", "0: 0001 0000 0000 0000 0000", "0: 0001 0000 0000 0000 0000 0000 0000 0000",
     "0: 0001 0000 0000 0000 0000 0000 0000 0000 0000", "00: 0001 0000 0000 0000", "1: 0001", "4: 0001", "8: 0001",
-    "8: 0001 0000 0000 0000 0000 0000 0000 0000", "16: 0001", "9999999: 0001", "4294967296: 0001", "18446744073709551616: 0001",
-    "s", "s 0", "s 0 0", "s 0 0 0", "s 0 0 ", "s  0 0", "s 1 0 0", "s 1 0 1 0", "s -1 0 1 0", "s 0 1 0", "s 0 1 2 0",
-    "s 0 2 1 0", "s -0 0 1 0", "s 1 1 0 1 0", "s 1 -1 0 1 0", "s 2 1 0 1 0", "s 1 -2 0 1 0", "s 01 0 1 0", "s +1 0 1 0",
-    "s 0 01 0", "s 0 -1 0", "s 0 1", "s 1 2", "s 0 1 0 0", "s 2147483647 0 1 0", "s 2147483648 0 1 0", "s -2147483647 0 1 0",
-    "s -2147483648 0 1 0", "s 4294967297 0 1 0", "s 0 4294967295 0", "s 0 4294967296 0", "s 0 18446744073709551617 0", "S 0 1 0",
-    "s 0 x 0", "s\t0 1 0", "d", "d 0", "d 1", "d 1 0", "d 1 2 0", "d 1 1 0", "d 2 1 0", "d 0 0", "d 01 0", "d -1 0", "d 1  0",
-    "d 1 0 ", "d 1 0 0", "d 4294967295 0", "d 4294967296 0", "D 1 0", "\x7f", "\x1f", "end\r", "e\x00nd", "\u00e9",
+    "8: 0001 0000 0000 0000 0000 0000 0000 0000", "16: 0001", "9999999: 0001", "4294967296: 0001",
+    "18446744073709551616: 0001", "s", "s 0", "s 0 0", "s 0 0 0", "s 0 0 ", "s  0 0", "s 1 0 0", "s 1 0 1 0",
+    "s -1 0 1 0", "s 0 1 0", "s 0 1 2 0", "s 0 2 1 0", "s -0 0 1 0", "s 1 1 0 1 0", "s 1 -1 0 1 0", "s 2 1 0 1 0",
+    "s 1 -2 0 1 0", "s 01 0 1 0", "s +1 0 1 0", "s 0 01 0", "s 0 -1 0", "s 0 1", "s 1 2", "s 0 1 0 0",
+    "s 2147483647 0 1 0", "s 2147483648 0 1 0", "s -2147483647 0 1 0", "s -2147483648 0 1 0", "s 4294967297 0 1 0",
+    "s 0 4294967295 0", "s 0 4294967296 0", "s 0 18446744073709551617 0", "S 0 1 0", "s 0 x 0", "s\t0 1 0", "d",
+    "d 0", "d 1", "d 1 0", "d 1 2 0", "d 1 1 0", "d 2 1 0", "d 0 0", "d 01 0", "d -1 0", "d 1  0", "d 1 0 ",
+    "d 1 0 0", "d 4294967295 0", "d 4294967296 0", "D 1 0", "\x7f", "\x1f", "end\r", "e\x00nd", "\u00e9",
 )
 """Lines that may stand somewhere, and lines that may not."""
 
@@ -57,8 +60,8 @@ Lines = list[bytes]
 def spoiled(rng: Random, text: bytes) -> bytes:
     """A certificate with one edit, or a few."""
     for _ in range(rng.choice([1, 1, 1, 1, 2, 3])):
-        edits = [_edited_bytes, _edited_lines, _edited_word, _larger_number]
-        text = rng.choices(edits, [20, 30, 30, 20])[0](rng, text)
+        edits = [_edited_bytes, _edited_lines, _edited_word, _larger_number, _edited_findings, _edited_state]
+        text = rng.choices(edits, [10, 15, 15, 20, 20, 20])[0](rng, text)
     return text
 
 
@@ -117,6 +120,46 @@ def _larger_number(rng: Random, text: bytes) -> bytes:
     else:
         words[i] = words[i][:-1] + rng.choice([b"1", b"7", b"f"])
     return b" ".join(words)
+
+
+def _edited_findings(rng: Random, text: bytes) -> bytes:
+    """A whole finding left out, doubled, moved or exchanged with another, or with its header alone exchanged."""
+    front, *findings = text.split(b"\nfinding ")
+    if not findings:
+        return text
+    i, k = (rng.randrange(len(findings)) for _ in range(2))
+    edits: dict[str, Callable[[], Lines]] = {
+        "leave out": lambda: [*findings[:i], *findings[i + 1 :]],
+        "double": lambda: [*findings[:i], findings[i], *findings[i:]],
+        "copy": lambda: [*findings[:k], findings[i], *findings[k:]],
+        "exchange": lambda: _exchanged(findings, i, k),
+        "exchange headers": lambda: _with_exchanged_headers(findings, i, k),
+    }
+    return b"\nfinding ".join([front, *edits[rng.choice(list(edits))]()])
+
+
+def _with_exchanged_headers(findings: Lines, i: int, k: int) -> Lines:
+    headers, evidence = zip(*(finding.partition(b"\n")[::2] for finding in findings))
+    return [b"\n".join(pair) for pair in zip(_exchanged(list(headers), i, k), evidence)]
+
+
+def _edited_state(rng: Random, text: bytes) -> bytes:
+    """Another mode, a number of a program status word by one larger or smaller, or a cell of a state exchanged with another."""
+    lines = text.split(b"\n")
+    places = [i for i, line in enumerate(lines) if line.startswith(b"psw ") or line[:1].isdigit()]
+    if not places:
+        return text
+    i = rng.choice(places)
+    words = lines[i].split(b" ")
+    k = rng.randrange(1, len(words))
+    if words[0] != b"psw":
+        words[1:] = _exchanged(words[1:], k - 1, rng.randrange(len(words) - 1))
+    elif words[k].isdigit():
+        words[k] = str(max(0, int(words[k][:9]) + rng.choice([-1, 1]))).encode()
+    else:
+        words[k] = b"u" if words[k] == b"s" else b"s"
+    lines[i] = b" ".join(words)
+    return b"\n".join(lines)
 
 
 def with_edited_log(rng: Random, lines: list[str]) -> list[str]:
