@@ -194,14 +194,43 @@ def _other_budget(rng: Random, line: str) -> str:
 
 
 def _edited_parts(rng: Random, line: str) -> str:
-    """A step with a literal or a hint left out, put in, negated, moved or made another one."""
+    """A step, or a line that takes clauses away, with one number left out, put in, changed or moved; the form mostly stays."""
     first, *parts = line.split(" ")
-    i, k = (rng.randrange(len(parts)) for _ in range(2))
-    number = int(parts[i])
-    edits: list[Callable[[], list[str]]] = [
-        lambda: [*parts[:i], *parts[i + 1 :]],
-        lambda: [*parts[:i], str(rng.choice([1, 2, 3, 5, number])), *parts[i:]],
-        lambda: [*parts[:i], str(rng.choice([-number, number + 1, number - 1, number + 100000])), *parts[i + 1 :]],
-        lambda: [parts[k] if n == i else parts[i] if n == k else part for n, part in enumerate(parts)],
-    ]
-    return " ".join([first, *rng.choice(edits)()])
+    numbers = [int(part) for part in parts]
+    in_form = rng.random() < 0.9
+    if first == "d":
+        named = _edited_numbers(rng, numbers[:-1])
+        return _joined(first, sorted({max(1, number) for number in named}) if in_form else named)
+    middle = numbers.index(0)
+    literals, hints = numbers[:middle], numbers[middle + 1 : -1]
+    if rng.random() < 0.35:
+        literals = _edited_numbers(rng, literals)
+        if in_form:
+            by_variable = {abs(literal): literal for literal in literals if literal}
+            literals = [by_variable[variable] for variable in sorted(by_variable)]
+    else:
+        hints = _edited_numbers(rng, hints)
+        if in_form:
+            hints = [max(1, hint) for hint in hints]
+    return _joined(first, [*literals, 0, *hints])
+
+
+def _edited_numbers(rng: Random, numbers: list[int]) -> list[int]:
+    made = list(numbers)
+    place = rng.randint(0, len(made))
+    other = rng.choice([1, 2, *made]) * rng.choice([1, 1, 1, -1]) + rng.choice([-1, 0, 0, 1, 1, 100000])
+    kind = rng.choice(["leave out", "put in", "change", "exchange"])
+    if kind == "put in" or place == len(made):
+        made.insert(place, other)
+    elif kind == "leave out":
+        del made[place]
+    elif kind == "change":
+        made[place] = rng.choice([other, -made[place], made[place] + 1])
+    else:
+        k = rng.randrange(len(made))
+        made[place], made[k] = made[k], made[place]
+    return made
+
+
+def _joined(first: str, numbers: list[int]) -> str:
+    return " ".join(map(str, [first, *numbers, 0]))

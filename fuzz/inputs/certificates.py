@@ -41,6 +41,9 @@ TELLING = (
 QUIET = ("", "trap;", "pc = y;", "mem[x] = mem[y];", "if mode { trap; }", "if mode { trap; } rel = x; bound = y;", "mode = mode;")
 """Bodies of which many questions have clauses that contradict each other soon."""
 
+GUESSES = (["refuted"], ["refuted", "s 0 1 2 0"], ["refuted", "s 0 0"], ["spent 1"], ["spent 2", "s 2 0 1 2 0"], ["shown"])
+"""Findings as they may look; the first word belongs to the header."""
+
 
 def _described(rng: Random, bodies: Sequence[str]) -> tree.Description:
     """A small machine with one or two instructions of these bodies; x and y are fields of the width of an address."""
@@ -94,29 +97,32 @@ class CertificateWriter:
         return [*lines, "end"]
 
     def finding(self, number: int, name: str, kind: str, spent: float) -> list[str]:
-        header = f"finding {name} {kind}"
+        """Two states where there are some, else a log where there is a question, else a guess."""
+        pair = self.pairs.found(number, kind)
         is_spent = self.rng.random() < spent
-        pair = None if is_spent and self.questions.program else self.pairs.found(number, kind)
-        if pair is not None:
-            return [f"{header} shown", *self.states(pair)]
+        evidence = self.log(name, kind, is_spent) if pair is None or is_spent else []
+        if not evidence:
+            evidence = self.guess() if pair is None else ["shown", *self.states(pair)]
+        return [f"finding {name} {kind} {evidence[0]}", *evidence[1:]]
+
+    def log(self, name: str, kind: str, is_spent: bool) -> list[str]:
+        """How a header ends, and steps; nothing where there is no question, or a search ended without a step."""
         try:
             question = self.questions.clauses(self.text, name, kind)
         except NotModelled:
-            return self.guess(header)
+            return []
         steps, is_closed = Search(self.rng, question).steps(self.rng.choice([1, 3, MOST_STEPS]))
-        if is_closed and not is_spent:
-            return [f"{header} refuted", *self.refutation(len(question), steps)]
         kept = steps[: len(steps) - is_closed]
-        return [f"{header} spent {max(1, len(kept))}", *map(step_line, kept)]
+        if is_closed and not (is_spent and kept):
+            return ["refuted", *self.refutation(len(question), steps)]
+        return [f"spent {len(kept)}", *map(step_line, kept)] if kept else []
 
     def states(self, pair: Pair) -> list[str]:
         return [line for state in pair for line in state_text(state, self.description.word).splitlines()]
 
-    def guess(self, header: str) -> list[str]:
-        """A finding by whoever has not seen the question."""
-        guesses = [["refuted"], ["refuted", "s 0 1 2 0"], ["refuted", "s 0 0"], ["spent 1"], ["spent 2", "s 2 0 1 2 0"], ["shown"]]
-        found, *evidence = self.rng.choice(guesses)
-        return [f"{header} {found}", *evidence]
+    def guess(self) -> list[str]:
+        """How a header ends, and steps, by whoever has not seen the question."""
+        return self.rng.choice(GUESSES)
 
     def refutation(self, last: int, steps: list[Step]) -> list[str]:
         """The steps, and in version 2 lines that take away what no later step needs."""
