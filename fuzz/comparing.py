@@ -158,7 +158,7 @@ def report(name: str, tally: Tally) -> Iterator[str]:
     seen = ", ".join(f"{label}: {count}" for label, count in sorted(tally.seen.items()))
     if tally.not_modelled:
         seen += f"; not modelled: {tally.not_modelled}"
-    yield f"{name:18} {tally.runs:6} runs {tally.differences:4} differences  {seen}"
+    yield f"{name:20} {tally.runs:6} runs {tally.differences:4} differences  {seen}"
     for difference in tally.kept:
         yield f"  {difference.folder}"
         yield f"    program: {difference.program.told()}"

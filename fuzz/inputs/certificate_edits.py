@@ -146,7 +146,7 @@ def _with_exchanged_headers(findings: Lines, i: int, k: int) -> Lines:
 def _edited_state(rng: Random, text: bytes) -> bytes:
     """Another mode, a number of a program status word by one larger or smaller, or a cell of a state exchanged with another."""
     lines = text.split(b"\n")
-    places = [i for i, line in enumerate(lines) if line.startswith(b"psw ") or line[:1].isdigit()]
+    places = [i for i, line in enumerate(lines) if b" " in line and (line.startswith(b"psw") or line[:1].isdigit())]
     if not places:
         return text
     i = rng.choice(places)

@@ -41,6 +41,13 @@ TELLING = (
 QUIET = ("", "trap;", "pc = y;", "mem[x] = mem[y];", "if mode { trap; }", "if mode { trap; } rel = x; bound = y;", "mode = mode;")
 """Bodies of which many questions have clauses that contradict each other soon."""
 
+SEARCHED = (
+    "let u = cut(mem[x], 2, 0); let v = cut(mem[y], 2, 0); if ~((u + v) == (v + u)) { mode = ~mode; }",
+    "let u = cut(mem[x], 1, 0); let v = cut(mem[y], 1, 0); if ~((u * (u + v)) == ((u * u) + (u * v))) { rel = y; bound = x; }",
+    "let u = cut(mem[x], 3, 0); if (mode & (((u + 1:4) < u) ^ (u == 15:4))) { pc = y; }",
+)
+"""Bodies of which some questions are refuted by a search of several steps."""
+
 GUESSES = (["refuted"], ["refuted", "s 0 1 2 0"], ["refuted", "s 0 0"], ["spent 1"], ["spent 2", "s 2 0 1 2 0"], ["shown"])
 """Findings as they may look; the first word belongs to the header."""
 
@@ -66,6 +73,11 @@ def telling(rng: Random) -> tree.Description:
 def quiet(rng: Random) -> tree.Description:
     """Instructions of which most questions are refuted."""
     return _described(rng, QUIET)
+
+
+def searched(rng: Random) -> tree.Description:
+    """Instructions of which some questions take a search."""
+    return _described(rng, SEARCHED)
 
 
 def mixed(rng: Random) -> tree.Description:
@@ -165,7 +177,7 @@ def spoiled_certificates(rng: Random, questions: Questions) -> Case:
 
 def logs(rng: Random, questions: Questions) -> Case:
     """Ones that are mostly logs, with an edit of steps and of lines that take clauses away."""
-    description = rng.choice([quiet, quiet, mixed, telling])(rng)
+    description = rng.choice([quiet, searched, searched, mixed, telling])(rng)
     lines = CertificateWriter(rng, description, questions).lines(spent=0.4)
     return verifying(description, _text(with_edited_log(rng, lines) if rng.random() < 0.85 else lines))
 

@@ -4,6 +4,7 @@ The first line at fault refuses. On one line a strange byte comes first, then a 
 there. A header and `end` then close the finding before, and are tried themselves last.
 """
 
+import re
 from collections.abc import Callable, Sequence
 from dataclasses import dataclass, field
 
@@ -21,6 +22,8 @@ MOST_BYTES = 268_435_456
 
 VERSIONS = ("1", "2")
 """In the second one a refutation may take clauses away."""
+
+_STRANGE = re.compile(rb"[^\x20-\x7e]")
 
 Question = Callable[[str, str], Sequence[Clause]]
 """The clauses of the question of an instruction's name and a kind."""
@@ -158,7 +161,7 @@ class _Verifier:
 
     def line(self, number: int, text: bytes, is_whole: bool) -> None:
         """Takes a line without its line feed; a line that has none is not whole."""
-        if any(not 0x20 <= byte <= 0x7E for byte in text):
+        if _STRANGE.search(text):
             raise Fault(f"token {number}")
         try:
             if not is_whole:
