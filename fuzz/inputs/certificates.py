@@ -11,12 +11,13 @@ from inputs.bodies import FREE, GUARDED, PURE
 from inputs.case import Case, verifying
 from inputs.certificate_edits import ODD_LINES, spoiled, with_edited_log
 from inputs.descriptions import random_description, random_shape
+from inputs.near_steps import covered_resolvent, loosened
 from inputs.pairs import Pair, PairFinder
 from inputs.programs import TAME
 from inputs.search import Search
 from pgvmodel import tree
 from pgvmodel.certificate import MOST_BYTES
-from pgvmodel.clauses import Step
+from pgvmodel.clauses import Clause, Clauses, Step
 from pgvmodel.machine import state_text
 from pgvmodel.pairs import KINDS
 from pgvmodel.printer import printed
@@ -90,28 +91,35 @@ def mixed(rng: Random) -> tree.Description:
 
 
 class CertificateWriter:
-    """Writes the lines of a certificate for a description."""
+    """Writes the lines of a certificate for a description.
 
-    def __init__(self, rng: Random, description: tree.Description, questions: Questions) -> None:
+    Findings that could be shown or refuted are spent with the chance `spent`; logs are not quite right with the chance `near`.
+    """
+
+    def __init__(
+        self, rng: Random, description: tree.Description, questions: Questions, spent: float = 0.1, near: float = 0
+    ) -> None:
         self.rng = rng
         self.description = description
         self.text = printed(description)
         self.questions = questions
         self.pairs = PairFinder(rng, description)
         self.version = rng.choice("1222")
+        self.spent = spent
+        self.near = near
 
-    def lines(self, spent: float = 0.1) -> list[str]:
-        """A whole certificate; findings that could be shown or refuted are spent with this chance."""
+    def lines(self) -> list[str]:
+        """A whole certificate."""
         lines = [f"pgcert {self.version}"]
         for number, instruction in enumerate(self.description.instructions):
             for kind in KINDS:
-                lines += self.finding(number, instruction.name, kind, spent)
+                lines += self.finding(number, instruction.name, kind)
         return [*lines, "end"]
 
-    def finding(self, number: int, name: str, kind: str, spent: float) -> list[str]:
+    def finding(self, number: int, name: str, kind: str) -> list[str]:
         """Two states where there are some, else a log where there is a question, else a guess."""
         pair = self.pairs.found(number, kind)
-        is_spent = self.rng.random() < spent
+        is_spent = self.rng.random() < self.spent
         evidence = self.log(name, kind, is_spent) if pair is None or is_spent else []
         if not evidence:
             evidence = self.guess() if pair is None else ["shown", *self.states(pair)]
@@ -124,10 +132,23 @@ class CertificateWriter:
         except NotModelled:
             return []
         steps, is_closed = Search(self.rng, question).steps(self.rng.choice([1, 3, MOST_STEPS]))
-        kept = steps[: len(steps) - is_closed]
+        if self.rng.random() < self.near:
+            steps = self.near_steps(question, steps)
+        kept = [step for step in steps if step.literals]
         if is_closed and not (is_spent and kept):
             return ["refuted", *self.refutation(len(question), steps)]
         return [f"spent {len(kept)}", *map(step_line, kept)] if kept else []
+
+    def near_steps(self, question: Sequence[Clause], steps: list[Step]) -> list[Step]:
+        """The steps with one of them loosened, or with one behind them that says nothing new."""
+        clauses = Clauses(question)
+        chosen = self.rng.randint(0, len(steps))
+        for step in steps[:chosen]:
+            clauses.add(step)
+        if chosen < len(steps):
+            return [*steps[:chosen], loosened(self.rng, clauses, steps[chosen]), *steps[chosen + 1 :]]
+        step = covered_resolvent(self.rng, clauses)
+        return [*steps, step] if step else steps
 
     def states(self, pair: Pair) -> list[str]:
         return [line for state in pair for line in state_text(state, self.description.word).splitlines()]
@@ -176,10 +197,10 @@ def spoiled_certificates(rng: Random, questions: Questions) -> Case:
 
 
 def logs(rng: Random, questions: Questions) -> Case:
-    """Ones that are mostly logs, with an edit of steps and of lines that take clauses away."""
+    """Ones that are mostly logs, some with steps that are not quite right, and half of them with an edit of one."""
     description = rng.choice([quiet, searched, searched, mixed, telling])(rng)
-    lines = CertificateWriter(rng, description, questions).lines(spent=0.4)
-    return verifying(description, _text(with_edited_log(rng, lines) if rng.random() < 0.85 else lines))
+    lines = CertificateWriter(rng, description, questions, spent=0.4, near=0.2).lines()
+    return verifying(description, _text(with_edited_log(rng, lines) if rng.random() < 0.5 else lines))
 
 
 def _fixed() -> tuple[tree.Description, list[str]]:

@@ -8,6 +8,12 @@ from pgvmodel.machine import SUPERVISOR, USER, Machine, State, window
 from pgvmodel.pairs import BOUND, CONTROL, LOCATION, shows
 
 SIZES = (2, 3, 4, 4, 5, 6, 8, 9, 12, 16, 17)
+MOST_CELLS = 600
+"""A machine's greatest size is tried too, or this where it is above."""
+
+FULL = 20
+"""Larger storages are mostly zero."""
+
 TRIES = 60
 
 Pair = tuple[State, State]
@@ -21,7 +27,7 @@ class PairFinder:
         self.machine = Machine(description)
         self.word = description.word
         self.top = mask(description.address)
-        self.sizes = [size for size in SIZES if size <= description.size]
+        self.sizes = [size for size in (*SIZES, min(MOST_CELLS, description.size)) if size <= description.size]
 
     def found(self, number: int, kind: str) -> Pair | None:
         """A pair that shows the kind of the instruction of this number, or None where no try did."""
@@ -46,13 +52,18 @@ class PairFinder:
     def state(self, number: int) -> State:
         """A small state with the instruction at P, its window mostly all of the storage."""
         size = self.rng.choice(self.sizes)
-        l = self.rng.choice([0, 0, 1, self.rng.randrange(size)])
+        l = self.rng.choice([0, 0, 1, size - 1, max(0, size - 3), self.rng.randrange(size)])
         b = self.rng.choice([size, size - l, self.rng.randint(1, size), self.top]) & self.top
         length = min(b, size - l)
         p = self.rng.randrange(max(1, length))
-        cells = [self.number() for _ in range(size)]
+        cells = self.cells(size)
         cells[l + p] = self.instruction_word(number, size)
         return State(cells, ProgramStatusWord(self.rng.choice([SUPERVISOR, USER]), p, l, b))
+
+    def cells(self, size: int) -> list[int]:
+        """A storage of any content."""
+        chance = 1 if size <= FULL else 0.05
+        return [self.number() if self.rng.random() < chance else 0 for _ in range(size)]
 
     def number(self) -> int:
         """A word of a cell."""
@@ -72,7 +83,7 @@ class PairFinder:
         content = window(first)
         size = len(first.cells)
         l = self.rng.randint(0, size - len(content))
-        cells = [self.number() for _ in range(size)]
+        cells = self.cells(size)
         cells[l : l + len(content)] = content
         return State(cells, first.psw._replace(l=l))
 
@@ -80,6 +91,6 @@ class PairFinder:
         """The same window under another bound, at times clipped by the end of a storage of another size."""
         end = first.psw.l + len(window(first))
         size = self.rng.choice([end, end, len(first.cells), self.rng.choice(self.sizes)])
-        cells = (first.cells + [self.number() for _ in range(size)])[:size]
+        cells = (first.cells + self.cells(size))[:size]
         b = self.rng.choice([len(window(first)), len(window(first)) + 1, self.top, self.rng.randint(0, self.top)])
         return State(cells, first.psw._replace(b=min(b, self.top))) if size >= 2 else first
