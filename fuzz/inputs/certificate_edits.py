@@ -144,7 +144,7 @@ def _with_exchanged_headers(findings: Lines, i: int, k: int) -> Lines:
 
 
 def _edited_state(rng: Random, text: bytes) -> bytes:
-    """Another mode, a number of a program status word by one larger or smaller, or a cell of a state exchanged with another."""
+    """Another mode or a number near it in a program status word; or a line of cells with two exchanged, all zero, or in capitals."""
     lines = text.split(b"\n")
     places = [i for i, line in enumerate(lines) if b" " in line and (line.startswith(b"psw") or line[:1].isdigit())]
     if not places:
@@ -153,13 +153,22 @@ def _edited_state(rng: Random, text: bytes) -> bytes:
     words = lines[i].split(b" ")
     k = rng.randrange(1, len(words))
     if words[0] != b"psw":
-        words[1:] = _exchanged(words[1:], k - 1, rng.randrange(len(words) - 1))
+        words[1:] = _edited_cells(rng, words[1:])
     elif words[k].isdigit():
         words[k] = str(max(0, int(words[k][:9]) + rng.choice([-1, 1]))).encode()
     else:
         words[k] = b"u" if words[k] == b"s" else b"s"
     lines[i] = b" ".join(words)
     return b"\n".join(lines)
+
+
+def _edited_cells(rng: Random, cells: Lines) -> Lines:
+    kind = rng.choice(["exchange", "exchange", "zeros", "capitals"])
+    if kind == "zeros":
+        return [b"0" * len(cell) for cell in cells]
+    if kind == "capitals":
+        return [cell.upper() for cell in cells]
+    return _exchanged(cells, rng.randrange(len(cells)), rng.randrange(len(cells)))
 
 
 def with_edited_log(rng: Random, lines: list[str]) -> list[str]:

@@ -137,7 +137,8 @@ class CertificateWriter:
         kept = [step for step in steps if step.literals]
         if is_closed and not (is_spent and kept):
             return ["refuted", *self.refutation(len(question), steps)]
-        return [f"spent {len(kept)}", *map(step_line, kept)] if kept else []
+        budget = max(1, len(kept) - (self.rng.random() < self.near))
+        return [f"spent {budget}", *map(step_line, kept)] if kept else []
 
     def near_steps(self, question: Sequence[Clause], steps: list[Step]) -> list[Step]:
         """The steps with one of them loosened, or with one behind them that says nothing new."""

@@ -8,15 +8,18 @@ TRIES = 20
 
 
 def loosened(rng: Random, clauses: Clauses, step: Step) -> Step:
-    """A valid step with a literal or a hint that it does not need; at times a literal is that of no variable of the question."""
-    if rng.random() < 0.5:
+    """A valid step with a literal or a hint that it does not need, or one with a variable behind the question's last."""
+    kind = rng.choice(["hint", "hint", "any", "any", "last", "behind"])
+    if kind == "hint":
         return _with_hint(rng, clauses, step)
-    variables = [clauses.variables] if rng.random() < 0.3 else range(1, clauses.variables + 1)
+    if kind == "behind":
+        return _with_literal(step, clauses.variables + 1)
     for _ in range(TRIES):
-        added = _with_literal(step, rng.choice(variables) * rng.choice([1, -1]))
+        variable = clauses.variables if kind == "last" else rng.randint(1, clauses.variables)
+        added = _with_literal(step, variable * rng.choice([1, -1]))
         if clauses.fault(added) is None:
             return added
-    return _with_literal(step, clauses.variables + 1)
+    return step
 
 
 def _with_literal(step: Step, literal: int) -> Step:
