@@ -22,6 +22,7 @@ RTU = HEAD + b'instr rtu "00000101_................_aaaaaaaa" { mode = 1:1; pc =
 TELLING = HEAD + b"""instr t "00000110_................_aaaaaaaa" {
   mem[a] = cat(cat(rel, bound), ext(mode, 16)); rel = (rel + 1:8);
 }"""
+TRAPPING = HEAD + b'instr t "00000110_................_aaaaaaaa" { if (rel < a) { trap; } else { let x = mem[255:8]; } }'
 
 SQUARE: list[Clause] = [(1, 2), (-1, 2), (1, -2), (-1, -2)]
 """The clauses of every question here; they cannot all be true."""
@@ -59,6 +60,15 @@ TOLD = (
     *("finding t location shown", *THERE),
     *("finding t bound shown", *HERE, "size 4", "psw s 0 0 5", CELLS),
 )
+TRAP = "0: 06000001 00000000 00000000 00000000"
+TRAPPED = (
+    *("finding t privileged shown", "size 4", "psw s 0 0 4", TRAP, "size 4", "psw u 0 0 4", TRAP),
+    *refuted("control", *ONCE, name="t"),
+    *refuted("mode", *ONCE, name="t"),
+    *("finding t location shown", "size 4", "psw s 0 0 3", TRAP),
+    *("size 4", "psw s 0 1 3", "0: 00000000 06000001 00000000 00000000"),
+)
+"""Two traps of one kind show that an instruction is not privileged; a trap and a memory trap show nothing of places."""
 
 
 class Row(NamedTuple):
@@ -167,14 +177,15 @@ ROWS = (
     Row(RTU, spent("2", "s 2 0 1 2 0", "s 0 5 3 4 0"), 6, "certificate: spent 4"),
     Row(RTU, spent("1", "s 1 2 0 1 0"), 6, "certificate: spent 3"),
     Row(RTU, spent("1", "d 1 0"), 6, "certificate: grammar 3"),
+    Row(TRAPPING, ("pgcert 2", *TRAPPED, "end"), 6, "certificate: pair 15"),
     Row(TELLING, (*TOLD, "end"), 1, "refused t"),
     Row(TELLING, (*TOLD[:23], *THERE[:3], "size 5", THERE[4], f"{THERE[5]} 00000000", "end"), 6, "certificate: pair 23"),
     Row(TELLING, (*TOLD[:23], *THERE[:4], "psw s 0 1 2", THERE[5], "end"), 6, "certificate: pair 23"),
     Row(TELLING, (*TOLD[:23], *THERE[:4], "psw u 0 1 3", THERE[5], "end"), 6, "certificate: pair 23"),
     Row(TELLING, (*TOLD[:23], *THERE[:4], "psw s 0 0 3", THERE[2], "end"), 6, "certificate: pair 23"),
     Row(TELLING, (*TOLD[:23], *THERE, "end"), 6, "certificate: missing t bound"),
-    Row(TELLING, (*TOLD[:29], "finding t bound shown", *HERE, "size 4", "psw s 0 0 4", CELLS, "end"), 6, "certificate: pair 30"),
-    Row(TELLING, (*TOLD[:29], "finding t bound shown", *HERE, "size 5", "psw s 0 0 5", CELLS), 6, "certificate: grammar 36"),
+    Row(TELLING, (*TOLD[:30], *HERE, "size 4", "psw s 0 0 4", CELLS, "end"), 6, "certificate: pair 30"),
+    Row(TELLING, (*TOLD[:30], *HERE, "size 5", "psw s 0 0 5", CELLS), 6, "certificate: grammar 36"),
 )
 
 

@@ -144,7 +144,7 @@ def _with_exchanged_headers(findings: Lines, i: int, k: int) -> Lines:
 
 
 def _edited_state(rng: Random, text: bytes) -> bytes:
-    """Another mode or a number near it in a program status word; or a line of cells with two exchanged, all zero, or in capitals."""
+    """Another mode or number in a program status word; or a line of cells with two exchanged, all zero, or in capitals."""
     lines = text.split(b"\n")
     places = [i for i, line in enumerate(lines) if b" " in line and (line.startswith(b"psw") or line[:1].isdigit())]
     if not places:

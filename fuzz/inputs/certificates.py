@@ -30,8 +30,9 @@ MOST_STEPS = 40
 STORING = (
     "mem[x] = ext(cat(cat(rel, bound), mode), $W);",
     "mem[x] = ext(rel, $W); mem[y] = (ext(bound, $W) ^ ext(mode, $W));",
+    "pc = ((pc + rel) + (bound + ext(mode, $A)));",
 )
-"""Bodies that store the control registers."""
+"""Bodies that store the control registers, or jump by them."""
 
 TELLING = (
     "rel = (rel + 1:$A);", "bound = y;", "mode = ~mode;", "mode = ~mode; pc = y;", "if ~mode { rel = y; } else { bound = y; }",
@@ -39,8 +40,19 @@ TELLING = (
 )
 """Ends of such bodies, which change one."""
 
-QUIET = ("", "trap;", "pc = y;", "mem[x] = mem[y];", "if mode { trap; }", "if mode { trap; } rel = x; bound = y;", "mode = mode;")
+QUIET = (
+    "", "trap;", "pc = y;", "mem[x] = mem[y];", "if mode { trap; }", "if mode { trap; } rel = x; bound = y;", "mode = mode;",
+)
 """Bodies of which many questions have clauses that contradict each other soon."""
+
+DIFFERING = (
+    "if mode { pc = y; }", "pc = (pc + rel);", "pc = bound;", "if ~mode { trap; }", "if mode { trap; }",
+    "if (rel < y) { trap; } else { let t = mem[~0:$A]; }",
+    "if (bound < y) { trap; } else { let t = mem[~0:$A]; }",
+    "if mode { trap; } else { let t = mem[~0:$A]; }",
+    "if ~mode { trap; } else { let t = mem[~0:$A]; }",
+)
+"""Bodies whose endings differ in P alone, or in how they trap: no address is usable whose bits are all one."""
 
 SEARCHED = (
     "let u = cut(mem[x], 2, 0); let v = cut(mem[y], 2, 0); if ~((u + v) == (v + u)) { mode = ~mode; }",
@@ -76,6 +88,12 @@ def quiet(rng: Random) -> tree.Description:
     return _described(rng, QUIET)
 
 
+def differing(rng: Random) -> tree.Description:
+    """Instructions that end in ways which are nearly the same, but where x is 0: there every kind can be shown."""
+    tells = f"{STORING[2]} {TELLING[0]}"
+    return _described(rng, [f"if (x == 0:$A) {{ {tells} }} else {{ {body} }}" for body in DIFFERING])
+
+
 def searched(rng: Random) -> tree.Description:
     """Instructions of which some questions take a search."""
     return _described(rng, SEARCHED)
@@ -93,7 +111,7 @@ def mixed(rng: Random) -> tree.Description:
 class CertificateWriter:
     """Writes the lines of a certificate for a description.
 
-    Findings that could be shown or refuted are spent with the chance `spent`; logs are not quite right with the chance `near`.
+    Findings that could be shown or refuted are spent with the chance `spent`; evidence is not quite right with the chance `near`.
     """
 
     def __init__(
@@ -119,6 +137,9 @@ class CertificateWriter:
     def finding(self, number: int, name: str, kind: str) -> list[str]:
         """Two states where there are some, else a log where there is a question, else a guess."""
         pair = self.pairs.found(number, kind)
+        if self.rng.random() < self.near:
+            untried = self.pairs.pair(number, kind)
+            pair = self.rng.choice([untried, self.pairs.near(pair or untried)])
         is_spent = self.rng.random() < self.spent
         evidence = self.log(name, kind, is_spent) if pair is None or is_spent else []
         if not evidence:
@@ -184,17 +205,18 @@ def _text(lines: Sequence[str]) -> bytes:
 
 def certificates(rng: Random, questions: Questions) -> Case:
     """Mostly valid ones."""
-    description = rng.choice([telling, telling, quiet, mixed])(rng)
+    description = rng.choice([telling, telling, quiet, mixed, differing])(rng)
     return verifying(description, _text(CertificateWriter(rng, description, questions).lines()))
 
 
 def spoiled_certificates(rng: Random, questions: Questions) -> Case:
-    """Edited ones; a few are for a description with other instructions."""
-    description = rng.choice([telling, telling, telling, quiet, mixed])(rng)
-    text = _text(CertificateWriter(rng, description, questions).lines())
+    """Edited ones, or with evidence that is not quite right; a few are for a description with other instructions."""
+    description = rng.choice([telling, telling, telling, quiet, mixed, differing])(rng)
+    near = rng.random() < 0.25
+    text = _text(CertificateWriter(rng, description, questions, near=0.2 if near else 0).lines())
     if rng.random() < 0.05:
         description = telling(rng)
-    return verifying(description, spoiled(rng, text))
+    return verifying(description, text if near else spoiled(rng, text))
 
 
 def logs(rng: Random, questions: Questions) -> Case:

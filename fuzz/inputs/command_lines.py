@@ -85,8 +85,9 @@ RUN_LINES = (
 """Lines behind `bare` and `run`; G and S stand for a whole option of each kind."""
 
 POOL = (
-    "bare", "run", "print", "verify", "d", "i", "n", "v", "badv", "none", "open", "--grant", "--steps", "8", "2", "--grant=8", "--steps=3", "--grant=+9",
-    "--steps=0", "--", "-", "", "--help", "-h", "x", "--grant=65", "+1", "63", "-1", "--slice=1", "help", "bad", "badi", "dir",
+    "bare", "run", "print", "verify", "d", "i", "n", "v", "badv", "none", "open", "--grant", "--steps", "8", "2", "--grant=8",
+    "--steps=3", "--grant=+9", "--steps=0", "--", "-", "", "--help", "-h", "x", "--grant=65", "+1", "63", "-1", "--slice=1",
+    "help", "bad", "badi", "dir",
 )
 
 

@@ -37,6 +37,21 @@ class PairFinder:
                 return pair
         return None
 
+    def near(self, pair: Pair) -> Pair:
+        """A pair with one thing changed; if it showed a kind, it may not any more."""
+        first, second = pair
+        psw = second.psw
+        changes = [
+            (second, first),
+            (first, State([*second.cells, 0][: self.sizes[-1]], psw)),
+            (first, State(second.cells, psw._replace(mode=USER - psw.mode))),
+            (State(first.cells, first.psw._replace(mode=USER)), State(second.cells, psw._replace(mode=USER))),
+            (first, State(second.cells, psw._replace(p=min(self.top, psw.p + 1)))),
+            (first, State(second.cells, psw._replace(b=max(0, psw.b - 1)))),
+            (first, State([self.number(), *second.cells[1:]], psw)),
+        ]
+        return self.rng.choice(changes)
+
     def pair(self, number: int, kind: str) -> Pair:
         """Two states that are near to show the kind."""
         first = self.state(number)

@@ -1,4 +1,7 @@
-"""The lines of a certificate, each of which has one spelling: one space between parts, decimal numbers without leading zeros."""
+"""The lines of a certificate, each of which has one spelling.
+
+One space stands between parts, and decimal numbers have no leading zeros.
+"""
 
 import re
 from collections.abc import Sequence
