@@ -111,11 +111,18 @@ def mixed(rng: Random) -> tree.Description:
 class CertificateWriter:
     """Writes the lines of a certificate for a description.
 
-    Findings that could be shown or refuted are spent with the chance `spent`; evidence is not quite right with the chance `near`.
+    Findings that could be shown or refuted are spent with the chance `spent`. Pairs and logs are not quite right with chances
+    of their own.
     """
 
     def __init__(
-        self, rng: Random, description: tree.Description, questions: Questions, spent: float = 0.1, near: float = 0
+        self,
+        rng: Random,
+        description: tree.Description,
+        questions: Questions,
+        spent: float = 0.1,
+        near_pairs: float = 0,
+        near_logs: float = 0,
     ) -> None:
         self.rng = rng
         self.description = description
@@ -124,7 +131,8 @@ class CertificateWriter:
         self.pairs = PairFinder(rng, description)
         self.version = rng.choice("1222")
         self.spent = spent
-        self.near = near
+        self.near_pairs = near_pairs
+        self.near_logs = near_logs
 
     def lines(self) -> list[str]:
         """A whole certificate."""
@@ -137,7 +145,7 @@ class CertificateWriter:
     def finding(self, number: int, name: str, kind: str) -> list[str]:
         """Two states where there are some, else a log where there is a question, else a guess."""
         pair = self.pairs.found(number, kind)
-        if self.rng.random() < self.near:
+        if self.rng.random() < self.near_pairs:
             untried = self.pairs.pair(number, kind)
             pair = self.rng.choice([untried, self.pairs.near(pair or untried)])
         is_spent = self.rng.random() < self.spent
@@ -153,12 +161,12 @@ class CertificateWriter:
         except NotModelled:
             return []
         steps, is_closed = Search(self.rng, question).steps(self.rng.choice([1, 3, MOST_STEPS]))
-        if self.rng.random() < self.near:
+        if self.rng.random() < self.near_logs:
             steps = self.near_steps(question, steps)
         kept = [step for step in steps if step.literals]
         if is_closed and not (is_spent and kept):
             return ["refuted", *self.refutation(len(question), steps)]
-        budget = max(1, len(kept) - (self.rng.random() < self.near))
+        budget = max(1, len(kept) - (self.rng.random() < self.near_logs))
         return [f"spent {budget}", *map(step_line, kept)] if kept else []
 
     def near_steps(self, question: Sequence[Clause], steps: list[Step]) -> list[Step]:
@@ -213,7 +221,7 @@ def spoiled_certificates(rng: Random, questions: Questions) -> Case:
     """Edited ones, or with evidence that is not quite right; a few are for a description with other instructions."""
     description = rng.choice([telling, telling, telling, quiet, mixed, differing])(rng)
     near = rng.random() < 0.25
-    text = _text(CertificateWriter(rng, description, questions, near=0.2 if near else 0).lines())
+    text = _text(CertificateWriter(rng, description, questions, near_pairs=0.2 * near).lines())
     if rng.random() < 0.05:
         description = telling(rng)
     return verifying(description, text if near else spoiled(rng, text))
@@ -222,7 +230,7 @@ def spoiled_certificates(rng: Random, questions: Questions) -> Case:
 def logs(rng: Random, questions: Questions) -> Case:
     """Ones that are mostly logs, some with steps that are not quite right, and half of them with an edit of one."""
     description = rng.choice([quiet, searched, searched, mixed, telling])(rng)
-    lines = CertificateWriter(rng, description, questions, spent=0.4, near=0.2).lines()
+    lines = CertificateWriter(rng, description, questions, spent=0.4, near_logs=0.2).lines()
     return verifying(description, _text(with_edited_log(rng, lines) if rng.random() < 0.5 else lines))
 
 
