@@ -12,10 +12,14 @@ from pathlib import Path
 from typing import NamedTuple
 
 from inputs.case import Case
-from pgvmodel.command import DESCRIPTION, IMAGE, answer
+from pgvmodel.command import CERTIFICATE, DESCRIPTION, IMAGE, answer
+from pgvmodel.questions import NotModelled, Questions
 
 SECONDS = 120
 """A run of the program that takes longer is stopped, and differs."""
+
+REFUSED_FILES = (DESCRIPTION, IMAGE, CERTIFICATE)
+"""Statuses of which the class of the fault is told beside."""
 
 MOST_KEPT = 20
 """Differences of a round that are kept; further ones are counted only."""
@@ -39,7 +43,7 @@ class Outcome(NamedTuple):
     def label(self) -> str:
         """The status, and of a refused file the class of its fault."""
         words = self.output.partition(b": ")[2].split()
-        return f"{self.status} {words[0].decode()}" if self.status in (DESCRIPTION, IMAGE) and words else str(self.status)
+        return f"{self.status} {words[0].decode()}" if self.status in REFUSED_FILES and words else str(self.status)
 
 
 def _shortened(text: bytes) -> str:
@@ -63,6 +67,7 @@ class Tally:
 
     runs: int = 0
     differences: int = 0
+    not_modelled: int = 0
     seen: Counter[str] = field(default_factory=Counter)
     kept: list[Difference] = field(default_factory=list)
 
@@ -70,18 +75,23 @@ class Tally:
 class Comparison:
     """Compares the program with the model, in a folder of its own."""
 
-    def __init__(self, program: Path, folder: Path) -> None:
+    def __init__(self, program: Path, folder: Path, questions: Questions) -> None:
         self.program = program
+        self.questions = questions
         self.folder = folder
         self.files = folder / "files"
         self.placed: Mapping[str, bytes] | None = None
 
     def round(self, name: str, cases: Iterable[Case]) -> Tally:
-        """Runs all cases of a round."""
+        """Runs all cases of a round, but those that are not modelled."""
         tally = Tally()
         for case in cases:
             self.place(case.files)
-            model, program = self.by_model(case), self.by_program(case)
+            model = self.by_model(case)
+            if model is None:
+                tally.not_modelled += 1
+                continue
+            program = self.by_program(case)
             tally.runs += 1
             tally.seen[model.label()] += 1
             if model != program:
@@ -109,9 +119,12 @@ class Comparison:
         with open(os.path.join(self.files, name), "rb") as file:
             return file.read()
 
-    def by_model(self, case: Case) -> Outcome:
+    def by_model(self, case: Case) -> Outcome | None:
+        """None where the model has no answer."""
         try:
-            return Outcome(*answer(case.words, self.load), b"")
+            return Outcome(*answer(case.words, self.load, self.questions), b"")
+        except NotModelled:
+            return None
         except Exception:  # a fault of the model is a difference too, and its input is wanted
             return Outcome(None, b"", traceback.format_exc().encode())
 
@@ -143,7 +156,9 @@ class Comparison:
 def report(name: str, tally: Tally) -> Iterator[str]:
     """A line for a round, and some for each difference that was kept."""
     seen = ", ".join(f"{label}: {count}" for label, count in sorted(tally.seen.items()))
-    yield f"{name:18} {tally.runs:6} runs {tally.differences:4} differences  {seen}"
+    if tally.not_modelled:
+        seen += f"; not modelled: {tally.not_modelled}"
+    yield f"{name:20} {tally.runs:6} runs {tally.differences:4} differences  {seen}"
     for difference in tally.kept:
         yield f"  {difference.folder}"
         yield f"    program: {difference.program.told()}"

@@ -4,7 +4,7 @@ from collections.abc import Callable, Iterator
 from dataclasses import dataclass
 from random import Random
 
-from inputs import command_lines, depths, large, limits, lines, patterns, windows
+from inputs import certificates, command_lines, depths, large, limits, lines, patterns, windows
 from inputs.case import Case, printing, running
 from inputs.descriptions import ANY_MANNER, MOSTLY_PLAIN, PLAIN_MANNERS, any_description, random_description, random_shape
 from inputs.images import ImageWriter, broken_image
@@ -14,6 +14,7 @@ from inputs.text_mutations import mutated
 from inputs.tree_mutations import perturbed, with_limit_fault, with_other_names, with_other_widths
 from pgvmodel import tree
 from pgvmodel.machine import MONITOR_CELLS
+from pgvmodel.questions import Questions
 
 STEPS = (1, 2, 3, 4, 6, 9, 15, 30, 60)
 GRANTS = (2, 3, 5, 7, 8, 9, 12, 16, 17, 24, 30, 40)
@@ -30,10 +31,23 @@ class RandomRound:
     name: str
     make: Callable[[Random], Case]
 
-    def cases(self, seed: int, count: int) -> Iterator[Case]:
+    def cases(self, seed: int, count: int, _questions: Questions) -> Iterator[Case]:
         """So many cases."""
         for i in range(count):
             yield self.make(Random(f"{seed} {self.name} {i}"))
+
+
+@dataclass(frozen=True)
+class QuestionRound:
+    """Cases made one by one, each from a generator of its own, with the clauses of questions where they can be had."""
+
+    name: str
+    make: Callable[[Random, Questions], Case]
+
+    def cases(self, seed: int, count: int, questions: Questions) -> Iterator[Case]:
+        """So many cases."""
+        for i in range(count):
+            yield self.make(Random(f"{seed} {self.name} {i}"), questions)
 
 
 @dataclass(frozen=True)
@@ -43,7 +57,7 @@ class ListRound:
     name: str
     cases_of: Callable[[], list[Case]]
 
-    def cases(self, seed: int, count: int) -> Iterator[Case]:
+    def cases(self, seed: int, count: int, _questions: Questions) -> Iterator[Case]:
         """At most so many cases."""
         listed = self.cases_of()
         yield from Random(f"{seed} {self.name}").sample(listed, min(count, len(listed)))
@@ -176,6 +190,12 @@ ROUNDS = (
     RandomRound("tame-guest-runs", tame_guest_runs),
     RandomRound("windows", windows.windows),
     RandomRound("operators", operators),
+    QuestionRound("certificates", certificates.certificates),
+    QuestionRound("spoiled-certificates", certificates.spoiled_certificates),
+    QuestionRound("logs", certificates.logs),
+    ListRound("certificate-lines", certificates.odd_lines),
+    ListRound("log-lines", certificates.odd_logs),
+    ListRound("certificate-fronts", certificates.fronts),
     ListRound("line-shapes", command_lines.shapes),
     ListRound("line-numbers", command_lines.numbers),
     ListRound("refusals", command_lines.refusals),
@@ -187,4 +207,5 @@ LONG_ROUNDS = (
     ListRound("large-descriptions", large.large_descriptions),
     ListRound("large-images", large.large_images),
     ListRound("long-runs", large.long_runs),
+    ListRound("large-certificates", certificates.largest),
 )

@@ -8,6 +8,7 @@ from pgvmodel.printer import printed
 
 DESCRIPTION_FILE = "machine.isa"
 IMAGE_FILE = "storage.img"
+CERTIFICATE_FILE = "machine.cert"
 
 
 class Case(NamedTuple):
@@ -26,6 +27,12 @@ def running(command: str, description: bytes | tree.Description, image: bytes, g
     """`bare` or `run` of a description and an image."""
     words = (command, DESCRIPTION_FILE, IMAGE_FILE, "--grant", str(grant), "--steps", str(steps))
     return Case(words, {DESCRIPTION_FILE: _text(description), IMAGE_FILE: image})
+
+
+def verifying(description: bytes | tree.Description, certificate: bytes) -> Case:
+    """`verify` of a description and a certificate."""
+    words = ("verify", DESCRIPTION_FILE, CERTIFICATE_FILE)
+    return Case(words, {DESCRIPTION_FILE: _text(description), CERTIFICATE_FILE: certificate})
 
 
 def _text(description: bytes | tree.Description) -> bytes:

@@ -18,6 +18,9 @@ OPEN = SMALL + b'instr sm "00000110_................_aaaaaaaa" { pc = rel; }'
 FILES = {
     "d": SMALL,
     "i": b"1: 00000705\n7: 01000000\n",
+    "n": b"machine { word 32; address 8; size 64; }",
+    "v": b"pgcert 1\nend\n",
+    "badv": b"pgcert 3\nend\n",
     "bad": b"machine {",
     "badi": b"2: 00\n",
     "empty": b"",
@@ -59,6 +62,15 @@ SHORT_LINES = (
     "--grant 8 bare d i --steps 0", "print=d", "d", "- d",
 )
 
+VERIFY_LINES = (
+    "", "n", "n v", "n v v", "d v", "n badv", "v n", "-- n v", "n -- v", "n v --", "n v -- --", "-- -- n v", "n v --grant 8",
+    "n v --grant=8 --steps=2", "n v --steps=2", "--steps=2 n v", "n v --cert v", "n --cert v", "n --cert=v", "n v --budget 1",
+    "--help", "n v --help", "n v -h", "help", "help n v", "-x v", "-- -x v", "n -x", "n -", "- v", "n -v", "n v -V", "n v i",
+    "verify v", "n verify", "n none", "none v", "none none", "n dir", "n ./v", "n v/", "n v/x", "n /dev/null", "n empty",
+    "bad badv", "d none", "bad none", "n n", "n i", "8 v",
+)
+"""Lines behind `verify`."""
+
 RUN_LINES = (
     "d i", "d G S", "G S", "d i G", "d i S", "d i x G S", "d i G G S", "d i G S S", "d i --grant 8 --grant=8 S", "d G i S",
     "G d S i", "S G d i", "S d G i", "G S -- d i", "-- d i G S", "G -- S d i", "d -- i G S", "d G S -- i", "d i G S --",
@@ -73,8 +85,9 @@ RUN_LINES = (
 """Lines behind `bare` and `run`; G and S stand for a whole option of each kind."""
 
 POOL = (
-    "bare", "run", "print", "d", "i", "none", "open", "--grant", "--steps", "8", "2", "--grant=8", "--steps=3", "--grant=+9",
-    "--steps=0", "--", "-", "", "--help", "-h", "x", "--grant=65", "+1", "63", "-1", "--slice=1", "help", "bad", "badi", "dir",
+    "bare", "run", "print", "verify", "d", "i", "n", "v", "badv", "none", "open", "--grant", "--steps", "8", "2", "--grant=8",
+    "--steps=3", "--grant=+9", "--steps=0", "--", "-", "", "--help", "-h", "x", "--grant=65", "+1", "63", "-1", "--slice=1",
+    "help", "bad", "badi", "dir",
 )
 
 
@@ -86,6 +99,9 @@ def shapes() -> list[Case]:
     """Lines with words missing, doubled, misspelt and in other orders."""
     lines = [[], [""], ["", "print", "d"], *(line.split() for line in SHORT_LINES)]
     lines += [["print", name] for name in PRINT_FILES]
+    lines += [["verify", *line.split()] for line in VERIFY_LINES]
+    lines += [["verify", *files] for files in (["", ""], ["n", ""], ["", "v"], [f"n{NO_UTF_8}", "v"], ["n", NO_UTF_8])]
+    lines += [[word, "n", "v"] for word in ("Verify", "verif", "verifys", "VERIFY", "verify ", "--verify", "check", "replay")]
     for command in ("bare", "run"):
         lines += [[command, *_filled(line)] for line in RUN_LINES]
         lines += [[command, *files, *BOTH] for files in (["", ""], ["d", ""], ["", "i"], ["d", "/dev/null"])]
@@ -114,22 +130,24 @@ def numbers() -> list[Case]:
 
 
 def refusals() -> list[Case]:
-    """Descriptions and images that are fine, broken, absent or no files, with grants around the room: which is told first."""
+    """Files that are fine, broken, absent or no files, with grants around the room: which is told first."""
     descriptions = ("d", "bad", "none", "dir", "empty", "open", "shape", "-", "d/", "d/x", "")
     images = ("i", "badi", "none", "dir", "over", "empty", "twoi", "d", "i/", "")
     grants = (2, 3, 7, 8, 62, 63, 64, 65, 1048575)
     lines = []
     for command, description, image, grant, steps in product(("bare", "run"), descriptions, images, grants, (0, 3)):
         lines.append([command, "--grant", str(grant), "--steps", str(steps), "--", description, image])
+    certificates = ("v", "badv", "none", "dir", "empty", "i", "d", "v/", "v/x", "")
+    lines += [["verify", "--", *files] for files in product(("n", *descriptions), certificates)]
     return [_case(line) for line in lines]
 
 
 def random_line(rng: Random) -> Case:
     """A line that is taken, with up to three edits."""
-    command = rng.choice(["bare", "run", "print"])
+    command = rng.choice(["bare", "run", "print", "verify"])
     words = ["d", "i", "--grant=8", "--steps=3"] if rng.random() < 0.5 else ["d", "i", *BOTH]
-    if command == "print" and rng.random() < 0.7:
-        words = ["d"]
+    if command in ("print", "verify") and rng.random() < 0.7:
+        words = ["d"] if command == "print" else ["n", "v"]
     for _ in range(rng.choice([0, 1, 1, 2, 3])):
         words = _edited(rng, words)
     return _case([command, *words] if rng.random() < 0.95 else words)

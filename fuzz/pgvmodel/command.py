@@ -1,16 +1,20 @@
 """What the program answers to its words: the order in which it refuses, and the texts."""
 
 from collections.abc import Callable, Sequence
+from functools import partial
 from typing import NamedTuple
 
 from pgvmodel import tree
+from pgvmodel.certificate import Question, verified
 from pgvmodel.faults import Fault
 from pgvmodel.image import read_image
-from pgvmodel.machine import MONITOR_CELLS, State, run_bare, run_guest
+from pgvmodel.machine import MONITOR_CELLS, run_bare, run_guest, state_text
 from pgvmodel.printer import printed
+from pgvmodel.questions import Questions
 from pgvmodel.reader import read
 from pgvmodel.rule import first_breach
 from pgvmodel.validity import check
+from pgvmodel.verdict import ACCEPTED, UNSETTLED, verdict
 from pgvmodel.words import Request, request
 
 USAGE = (
@@ -20,10 +24,9 @@ USAGE = (
     "pgv print DESC\n"
 )
 
-DONE, OPEN, WORDS, DESCRIPTION, IMAGE, ROOM, UNREADABLE, MISSING = 0, 2, 3, 4, 5, 7, 8, 11
-"""The statuses that are compared."""
-
-CELLS_A_LINE = 8
+DONE, OPEN = ACCEPTED, UNSETTLED
+WORDS, DESCRIPTION, IMAGE, CERTIFICATE, ROOM, UNREADABLE, MISSING = 3, 4, 5, 6, 7, 8, 11
+"""The statuses that are compared; `verdict` has that of a refused machine."""
 
 Load = Callable[[str], bytes]
 """The content of the file of a name; raises FileNotFoundError, or another OSError where it cannot be read."""
@@ -36,13 +39,16 @@ class Answer(NamedTuple):
     output: bytes
 
 
-def answer(words: Sequence[str], load: Load) -> Answer:
-    """What the program is to answer. The first step that refuses says so."""
+def answer(words: Sequence[str], load: Load, questions: Questions) -> Answer:
+    """What the program is to answer. The first step that refuses says so.
+
+    Raises NotModelled where the answer rests on the clauses of a question, and there is no program to ask for them.
+    """
     asked = request(words)
     if asked is None:
         return _told(WORDS, USAGE)
     try:
-        return _carried_out(asked, load)
+        return _carried_out(asked, load, questions)
     except FileNotFoundError:
         return _told(MISSING, "")
     except OSError:
@@ -53,15 +59,30 @@ def _told(status: int, text: str) -> Answer:
     return Answer(status, text.encode())
 
 
-def _carried_out(asked: Request, load: Load) -> Answer:
-    """The description, then the room, then the image, then the plain rule, then the run."""
+def _carried_out(asked: Request, load: Load, questions: Questions) -> Answer:
+    """The description, then what the command does with it."""
     try:
-        description = read(load(asked.files[0]))
+        text = load(asked.files[0])
+        description = read(text)
         check(description)
     except Fault as fault:
         return _told(DESCRIPTION, f"description: {fault.line}\n")
     if asked.command == "print":
         return Answer(DONE, printed(description))
+    if asked.command == "verify":
+        return _verified(description, load(asked.files[1]), partial(questions.clauses, text))
+    return _run(asked, description, load)
+
+
+def _verified(description: tree.Description, text: bytes, question: Question) -> Answer:
+    try:
+        return _told(*verdict(description, verified(description, text, question)))
+    except Fault as fault:
+        return _told(CERTIFICATE, f"certificate: {fault.line}\n")
+
+
+def _run(asked: Request, description: tree.Description, load: Load) -> Answer:
+    """The room, then the image, then the plain rule, then the run."""
     grant = asked.numbers["grant"]
     room = description.size - (MONITOR_CELLS if asked.command == "run" else 0)
     if grant > room:
@@ -84,14 +105,3 @@ def _guest(description: tree.Description, cells: list[int], steps: int) -> Answe
         return _told(OPEN, f"open {breach.name} rule\n")
     state, direct = run_guest(description, cells, steps)
     return _told(DONE, f"guest 0\n{state_text(state, description.word)}steps {steps} direct {direct}\n")
-
-
-def state_text(state: State, word: int) -> str:
-    """A size, a program status word, and the lines of cells that are not all zero."""
-    mode, p, l, b = state.psw
-    lines = [f"size {len(state.cells)}", f"psw {'su'[mode]} {p} {l} {b}"]
-    for first in range(0, len(state.cells), CELLS_A_LINE):
-        row = state.cells[first : first + CELLS_A_LINE]
-        if any(row):
-            lines.append(f"{first}: " + " ".join(f"{cell:0{word // 4}x}" for cell in row))
-    return "\n".join(lines) + "\n"

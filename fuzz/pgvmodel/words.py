@@ -7,8 +7,11 @@ from typing import NamedTuple
 OPTIONS = {"grant": range(2, 1_048_576), "steps": range(0, 1_000_001)}
 """Options of `bare` and `run`, each wanted once, and what each may be: cells, and steps."""
 
-FILES = {"bare": 2, "run": 2, "print": 1}
-"""The commands, and how many files each names: a description, then an image."""
+FILES = {"bare": 2, "verify": 2, "run": 2, "print": 1}
+"""The commands, and how many files each names: a description, then an image or a certificate."""
+
+RUNNING = ("bare", "run")
+"""The commands that have options."""
 
 _DIGITS = re.compile(r"\+?0*([0-9]{1,9})")
 
@@ -30,7 +33,7 @@ def request(words: Sequence[str]) -> Request | None:
     if not words or words[0] not in FILES or not all(map(_is_text, words)):
         return None
     command = words[0]
-    wanted = OPTIONS if command != "print" else {}
+    wanted = OPTIONS if command in RUNNING else {}
     try:
         files, given = _sorted_out(words[1:], wanted)
         numbers = {name: _number(text, wanted[name]) for name, text in given.items()}
