@@ -52,7 +52,10 @@ fn the_certificate_is_taken_in_any_parts(rt: HostRuntime) -> Result<(), Fail> {
         let text = text_of(alloc, "pgcert 2\n", edit)?;
         let bytes = text.as_bytes();
         assert!(rt; told(alloc, &m, bytes) == want, "whole, but {but}");
-        assert!(rt; told_by_lines(alloc, &m, but) == want, "by lines, but {but}");
+        assert!(rt;
+            told_by_lines(alloc, &m, but) == want,
+            "by lines, but {but}"
+        );
         for size in [1, 7, 64] {
             let told = told_in_parts(alloc, &m, bytes, size);
             assert!(rt; told == want, "by {size} bytes, but {but}");
@@ -68,7 +71,10 @@ fn clauses_are_taken_away(rt: HostRuntime) -> Result<(), Fail> {
         (SAME, VERDICT),
         ((17, 1, "s 0 949 1 0\n"), VERDICT),
         ((17, 1, "d 1 0\ns 0 1 949 0\n"), gone),
-        ((17, 1, "d 950 0\ns 0 1 949 0\n"), Err(VerifyFault::BadDelete(17))),
+        (
+            (17, 1, "d 950 0\ns 0 1 949 0\n"),
+            Err(VerifyFault::BadDelete(17)),
+        ),
         ((17, 1, "s 0 1 949 0\nd 950 0\n"), VERDICT),
         ((17, 1, "d 2 0\nd 2 0\n"), Err(VerifyFault::BadDelete(18))),
     ];
@@ -79,8 +85,14 @@ fn clauses_are_taken_away(rt: HostRuntime) -> Result<(), Fail> {
 fn the_first_version_takes_none_away(rt: HostRuntime) -> Result<(), Fail> {
     let table: [Row; 3] = [
         (SAME, VERDICT),
-        ((17, 1, "d 1 0\ns 0 1 949 0\n"), Err(VerifyFault::Grammar(17))),
-        ((17, 1, "s 0 1 949 0\nd 950 0\n"), Err(VerifyFault::Grammar(18))),
+        (
+            (17, 1, "d 1 0\ns 0 1 949 0\n"),
+            Err(VerifyFault::Grammar(17)),
+        ),
+        (
+            (17, 1, "s 0 1 949 0\nd 950 0\n"),
+            Err(VerifyFault::Grammar(18)),
+        ),
     ];
     expect(&rt, rt.alloc(), "pgcert 1\n", &table)
 }
@@ -90,13 +102,28 @@ fn the_other_family_has_its_own_first_line(rt: HostRuntime) -> Result<(), Fail> 
     let alloc = rt.alloc();
     let m = machine(alloc, NONE)?;
     let table: [(&str, Told, Told); 3] = [
-        ("pgcert 2\nend\n", Ok(Verdict::Accepted), Err(VerifyFault::Grammar(1))),
-        ("pghybrid 1\nend\n", Err(VerifyFault::Grammar(1)), Ok(Verdict::Accepted)),
-        ("pghybrid 2\nend\n", Err(VerifyFault::Grammar(1)), Err(VerifyFault::Version)),
+        (
+            "pgcert 2\nend\n",
+            Ok(Verdict::Accepted),
+            Err(VerifyFault::Grammar(1)),
+        ),
+        (
+            "pghybrid 1\nend\n",
+            Err(VerifyFault::Grammar(1)),
+            Ok(Verdict::Accepted),
+        ),
+        (
+            "pghybrid 2\nend\n",
+            Err(VerifyFault::Grammar(1)),
+            Err(VerifyFault::Version),
+        ),
     ];
     for (text, plain, hybrid) in table {
         assert!(rt; told(alloc, &m, text.as_bytes()) == plain, "plain {text}");
-        assert!(rt; told_of_hybrid(alloc, &m, text.as_bytes()) == hybrid, "hybrid {text}");
+        assert!(rt;
+            told_of_hybrid(alloc, &m, text.as_bytes()) == hybrid,
+            "hybrid {text}"
+        );
     }
     Ok(())
 }
