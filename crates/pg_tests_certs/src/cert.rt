@@ -13,11 +13,8 @@ use std::test::Fail;
 /// What a text comes to that is fed in parts of so many bytes.
 fn told_in_parts(alloc: Global, m: &Machine, text: &[u8], size: usize) -> Told {
     let mut verifier = Verifier::new(alloc, m);
-    let mut left = text;
-    while !left.is_empty() {
-        let (part, rest) = left.split_at(size.max(1).min(left.len()));
+    for part in text.chunks(size.max(1)) {
         is_fed(&mut verifier, part);
-        left = rest;
     }
     told_of(verifier)
 }
