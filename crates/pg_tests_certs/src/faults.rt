@@ -1,6 +1,6 @@
 //! Each refusal alone, and two at once.
 
-use crate::setting::{Row, expect};
+use crate::setting::{RTU_JMP, Row, SAME, expect, expect_of};
 use pg_type::Kind;
 use pg_verify::{StepCause, VerifyFault};
 use std::test::Fail;
@@ -173,4 +173,30 @@ fn the_first_line_at_fault_refuses(rt: HostRuntime) -> Result<(), Fail> {
         ),
     ];
     expect(&rt, rt.alloc(), "pgcert 2\n", &table)
+}
+
+#[test]
+fn findings_of_two_instructions(rt: HostRuntime) -> Result<(), Fail> {
+    let before = "finding jmp privileged shown
+size 4\npsw s 2 0 4\n0: 00000000 00000000 02000000 00000000
+size 4\npsw u 2 0 4\n0: 00000000 00000000 02000000 00000000
+finding rtu bound refuted\n";
+    let later = "finding jmp control shown\nend\n";
+    let table: [Row; 5] = [
+        (SAME, Err(VerifyFault::Missing(1, Kind::Privileged))),
+        (
+            (2, 1, "finding jmp privileged shown\n"),
+            Err(VerifyFault::Missing(0, Kind::Privileged)),
+        ),
+        (
+            (22, 1, later),
+            Err(VerifyFault::Missing(1, Kind::Privileged)),
+        ),
+        (
+            (22, 1, "finding rtu bound refuted\n"),
+            Err(VerifyFault::Extra(22)),
+        ),
+        ((22, 1, before), Err(VerifyFault::Extra(29))),
+    ];
+    expect_of(&rt, rt.alloc(), RTU_JMP, "pgcert 2\n", &table)
 }

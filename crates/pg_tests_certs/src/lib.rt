@@ -6,6 +6,7 @@
 //! - `setting`: the certificate, its texts, and the calls.
 //! - `cert`: the certificate, whole and in parts, and clauses that are taken away.
 //! - `faults`: each refusal alone, and two at once.
+//! - `lines`: single lines, and the text that is written.
 //! - `prefixes`: texts that are cut off, and texts with one byte changed.
 //! - `spent`: logs that spend a budget.
 #![tactic(auto)]
@@ -14,6 +15,8 @@
 mod cert;
 #[cfg(test)]
 mod faults;
+#[cfg(test)]
+mod lines;
 #[cfg(test)]
 mod prefixes;
 #[cfg(test)]

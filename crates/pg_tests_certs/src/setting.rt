@@ -26,6 +26,12 @@ pub const RTU: &str = "machine { word 32; address 8; size 64; }
 instr rtu \"00000101_................_aaaaaaaa\" { mode = 1:1; pc = a; }
 ";
 
+/// The same machine with an instruction more, which goes on elsewhere.
+pub const RTU_JMP: &str = "machine { word 32; address 8; size 64; }
+instr rtu \"00000101_................_aaaaaaaa\" { mode = 1:1; pc = a; }
+instr jmp \"00000010_................_aaaaaaaa\" { pc = a; }
+";
+
 /// A machine with no instruction.
 pub const NONE: &str = "machine { word 32; address 8; size 64; }\n";
 
@@ -111,13 +117,24 @@ pub fn is_lined(verifier: &mut Verifier<'_>, line: &[u8]) -> bool {
     verifier.line(line).is_ok()
 }
 
-/// Each change, of the certificate of a version, comes to what its row says.
-pub fn expect(rt: &impl Abort, alloc: Global, heading: &str, rows: &[Row]) -> Result<(), Fail> {
-    let m = machine(alloc, RTU)?;
+/// Each change, of the certificate of a version, comes to what its row says of the machine of a description.
+pub fn expect_of(
+    rt: &impl Abort,
+    alloc: Global,
+    desc: &str,
+    heading: &str,
+    rows: &[Row],
+) -> Result<(), Fail> {
+    let m = machine(alloc, desc)?;
     for row in rows {
         let text = text_of(alloc, heading, row.0)?;
         let told = told(alloc, &m, text.as_bytes());
         assert!(rt; told == row.1, "{} {} {told:?}", row.0.0, row.0.2);
     }
     Ok(())
+}
+
+/// The same of the machine of one instruction.
+pub fn expect(rt: &impl Abort, alloc: Global, heading: &str, rows: &[Row]) -> Result<(), Fail> {
+    expect_of(rt, alloc, RTU, heading, rows)
 }
