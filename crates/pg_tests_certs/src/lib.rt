@@ -1,7 +1,7 @@
-//! Tests of the verifier of certificates, of public calls alone: texts that were worked out by hand, and what each comes to.
+//! Tests of the verifier of certificates, of public calls alone: texts that were worked out by hand, and what each is.
 //!
-//! That a text is taken exactly where it spells a valid certificate is proved; here it is seen that the definitions mean what
-//! they should. All texts are one certificate with some lines changed, and all tables are plain data.
+//! That a text is taken exactly where it spells a valid certificate is proved; here it is seen that the definitions mean
+//! what they should. All texts are one certificate with some lines changed, and all tables are plain data.
 //!
 //! - `setting`: the certificate, its texts, and the calls.
 //! - `cert`: the certificate, whole and in parts, and clauses that are taken away.

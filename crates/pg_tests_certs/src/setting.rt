@@ -35,8 +35,8 @@ instr jmp \"00000010_................_aaaaaaaa\" { pc = a; }
 /// A machine with no instruction.
 pub const NONE: &str = "machine { word 32; address 8; size 64; }\n";
 
-/// The lines of a certificate of the first machine. The first clause of each question that is asked here says that variable
-/// 1 is false, and the last that it is true.
+/// The lines of a certificate of the first machine. The questions of its last three findings have 949, 1387 and 1447
+/// clauses: the first of each says that variable 1 is false, and the last that it is true.
 pub const LINES: [&str; 22] = [
     "pgcert 2\n",
     "finding rtu privileged shown\n",

@@ -7,7 +7,7 @@ use std::test::Fail;
 #[test]
 fn budgets_that_are_not_spent(rt: HostRuntime) -> Result<(), Fail> {
     let unknown = Err(VerifyFault::BadStep(17, StepCause::UnknownHint));
-    let table: [Row; 6] = [
+    let table: [Row; 8] = [
         (
             (16, 1, "finding rtu mode spent 1\n"),
             Err(VerifyFault::BadSpent(17)),
@@ -28,6 +28,16 @@ fn budgets_that_are_not_spent(rt: HostRuntime) -> Result<(), Fail> {
         (
             (16, 2, "finding rtu mode spent 1\nd 1 0\n"),
             Err(VerifyFault::Grammar(17)),
+        ),
+        // The step has a literal that is in neither clause.
+        (
+            (16, 2, "finding rtu mode spent 1\ns 2 0 1 949 0\n"),
+            Err(VerifyFault::BadSpent(17)),
+        ),
+        // The step is a clause of the question.
+        (
+            (16, 2, "finding rtu mode spent 1\ns 1 0 949 0\n"),
+            Err(VerifyFault::BadSpent(17)),
         ),
     ];
     expect(&rt, rt.alloc(), "pgcert 2\n", &table)
