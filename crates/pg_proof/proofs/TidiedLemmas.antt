@@ -135,7 +135,11 @@ removal_runs q variables closed held after (n ∷ ns) acts e of r =
     let state = state_of variables held closed in
     let gone_so : after_removal state (n ∷ ns) ≡ Some (state_of variables after closed) = ap (option_map (λ x. record state { held = x })) e in (
       (r.0.0, ap (option_and_then (λ s. after_acts_from s acts)) gone_so ∙ r.0.1),
-      (of, λ s f. subst (λ x. IsTidyFrom q x acts) (same_Some (state_of variables after closed) s (sym gone_so ∙ f)) r.1),
+      (
+        omega arith,
+        of,
+        λ s f. subst (λ x. IsTidyFrom q x acts) (same_Some (state_of variables after closed) s (sym gone_so ∙ f)) r.1,
+      ),
     )
 
 -- hints of a step

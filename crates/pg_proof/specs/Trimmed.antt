@@ -60,13 +60,13 @@ abbrev pub AreAscending : ℕ → List ℕ → Type 0
 AreAscending least [] = ⊤
 AreAscending least (n ∷ ns) = (least ≤ n) × AreAscending n ns
 
--- where a step is added, each clause of a step that is held is a hint of it or of a later one. What is taken away ascends, and
--- the question's clauses stay
+-- where a step is added, each clause of a step that is held is a hint of it or of a later one. What is taken away is one
+-- clause at least, ascends, and the question's clauses stay
 abbrev pub IsTidyFrom : ℕ → State → List Act → Type 0
 IsTidyFrom question state [] = ⊤
 IsTidyFrom question state (Add step ∷ acts) = AreServing question state.held (Add step ∷ acts) × IsTidyFrom question (with_clause state step.lits) acts
 IsTidyFrom question state (Remove numbers ∷ acts) =
-    AreAscending (question + 1) numbers × ((after : State) → after_removal state numbers ≡ Some after → IsTidyFrom question after acts)
+    (0 < length numbers) × AreAscending (question + 1) numbers × ((after : State) → after_removal state numbers ≡ Some after → IsTidyFrom question after acts)
 
 abbrev pub IsTidy : List (List ℤ) → List Act → Type 0
 IsTidy question acts = IsTidyFrom (length question) (begun question) acts

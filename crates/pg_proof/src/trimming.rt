@@ -249,8 +249,9 @@ fn picked(alloc: Global, cnf: &Cnf, acts: &[Act]) -> Result<Vec<Act>, AllocError
 /// A closed log without the steps that its empty clause is not made of. Each step that is kept has the same literals, and its
 /// hints name the same clauses under the numbers that are left. The last act adds the empty clause, and each other step is a
 /// hint of a later one. Behind the step that names it last its clause is taken away, so that where a step is added, those
-/// clauses of steps are held that are hints of it or of a later one; the hints of the last act stay. The numbers of a removal
-/// ascend, and none is that of a clause of the question. It is a closed log of this question too. The error is want of memory.
+/// clauses of steps are held that are hints of it or of a later one; the hints of the last act stay. A removal has a number at
+/// least, its numbers ascend, and none is that of a clause of the question. It is a closed log of this question too. The error
+/// is want of memory.
 ///
 /// It costs the length of the log, and the sorting of each removal.
 pub fn trim(alloc: Global, cnf: &Cnf, acts: &[Act]) -> Result<ActList, AllocError>
