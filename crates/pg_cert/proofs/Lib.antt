@@ -9,3 +9,4 @@ pub mod RowLemmas
 pub mod TextLemmas
 pub mod StateText
 pub mod Fits
+pub mod InRange

@@ -16,6 +16,7 @@ ghost use Rattle.pg_cert.specs.declared.line.Line.{Line};
 ghost use Rattle.pg_cert.specs.Lines.{line_text, IsLine};
 ghost use Rattle.pg_cert.specs.Reading.{read_parts, but_last};
 ghost use Rattle.pg_cert.specs.Parsing.{Says, said};
+ghost use Rattle.pg_cert.specs.InRange.{ValidCertificatesAreInRange, TrimmedLogsMayStand};
 ghost use Rattle.pg_cert.specs.Texts.{state_lines, lines_text, DoStateWordsFit};
 
 /// What is read of the parts of a line's text, which stand between its spaces, is the line.
@@ -54,4 +55,14 @@ pub fn states_are_shown()
 pub fn shown_states_fit()
     ensures { (d : Desc) (i : Instr) (kind : Kind) (s t : Sparse) → IsCellList s.cells → IsCellList t.cells →
         Shows d i kind (state_of s) (state_of t) → DoStateWordsFit d.word s × DoStateWordsFit d.word t }
+{}
+
+/// The lines of a valid certificate are in range, where its logs have few enough steps for their numbers.
+pub fn valid_certificates_are_in_range()
+    ensures { ValidCertificatesAreInRange }
+{}
+
+/// A log that was trimmed can stand in a certificate, under each heading that lets clauses be taken away.
+pub fn trimmed_logs_may_stand()
+    ensures { TrimmedLogsMayStand }
 {}
