@@ -31,4 +31,4 @@ pub use cert::{Cert, Family, Finding, FindingList, StepList};
 pub use line::{Found, Heading, Line};
 pub use parse::{LineFault, parse_line};
 pub use report::{Mark, MarkList, Report, Verdict, report_of};
-pub use text::{put_finding, put_state, write};
+pub use text::{instr_of, kind_of, put_finding, put_state, write};

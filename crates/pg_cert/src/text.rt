@@ -148,15 +148,15 @@ pub fn put_finding(
     put_body(shape, finding, into)
 }
 
-/// The instruction of a finding, by its number.
-fn instr_of(family: Family, number: usize) -> usize
+/// The number of the instruction of a finding, by the finding's number.
+pub fn instr_of(family: Family, number: usize) -> usize
     ensures { result ≡ instr_of family number }
 {
     number / family.kinds().len()
 }
 
 /// The kind of a finding, by its number.
-fn kind_of(family: Family, number: usize) -> Kind
+pub fn kind_of(family: Family, number: usize) -> Kind
     ensures { result ≡ kind_of family number }
 {
     let kinds = family.kinds();
