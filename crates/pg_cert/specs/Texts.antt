@@ -3,7 +3,7 @@ use Rattle.std.specs.Prelude.{◌+◌, ◌≤◌, ⊤, ℕ, zero, suc, ◌*◌, 
 use Rattle.std.specs.List.{All, list_all}
 use Rattle.pg_word.specs.declared.shape.Shape.{Shape}
 use Rattle.pg_word.specs.declared.sparse.Sparse.{Sparse}
-use Rattle.pg_word.specs.Sparse.{storage_of}
+use Rattle.pg_word.specs.Sparse.{IsCellList, storage_of}
 use Rattle.pg_ast.specs.declared.tree.Desc.{Desc}
 use Rattle.pg_meaning.specs.States.{shape_of}
 use Rattle.pg_image.specs.Lines.{line_cells, line_words, line_count}
@@ -113,6 +113,13 @@ abbrev pub cert_text : Desc → Heading → Cert → List ℕ
 cert_text d heading cert = lines_text (shape_of d) (cert_lines d heading cert)
 
 -- ---- what can be written
+
+-- the cells of the states that are shown are listed in the one way. That they are within the size is part of what a
+-- listed state is
+abbrev pub AreListed : Finding → Type 0
+AreListed (finding.Refuted acts) = ⊤
+AreListed (finding.Shown s t) = IsCellList s.cells × IsCellList t.cells
+AreListed (finding.Spent k steps) = ⊤
 
 -- the words of a state have w bits
 abbrev pub DoStateWordsFit : ℕ → Sparse → Type 0
