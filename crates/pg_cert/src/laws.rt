@@ -8,6 +8,7 @@ ghost use Rattle.pg_word.specs.declared.sparse.Sparse.{Sparse};
 ghost use Rattle.pg_word.specs.Sparse.{IsCellList, storage_of};
 ghost use Rattle.pg_ast.specs.declared.tree.Desc.{Desc};
 ghost use Rattle.pg_ast.specs.declared.tree.Instr.{Instr};
+ghost use Rattle.pg_meaning.specs.States.{shape_of};
 ghost use Rattle.pg_type.specs.declared.kind.Kind.{Kind};
 ghost use Rattle.pg_type.specs.Kinds.{Shows};
 ghost use Rattle.pg_type.specs.Listed.{state_of};
@@ -18,7 +19,7 @@ ghost use Rattle.pg_cert.specs.declared.line.Line.{Line};
 ghost use Rattle.pg_cert.specs.Lines.{line_text, IsLine};
 ghost use Rattle.pg_cert.specs.Reading.{read_parts, but_last};
 ghost use Rattle.pg_cert.specs.Parsing.{Says, said};
-ghost use Rattle.pg_cert.specs.Texts.{state_lines, lines_text, AreListed, DoStateWordsFit, DoFindingWordsFit};
+ghost use Rattle.pg_cert.specs.Texts.{state_lines, lines_text, cert_text, AreListed, DoStateWordsFit, DoFindingWordsFit, IsSpellable};
 ghost use Rattle.pg_cert.specs.Validity.{IsValidCert};
 
 /// What is read of the parts of a line's text, which stand between its spaces, is the line.
@@ -64,4 +65,11 @@ pub fn shown_states_fit()
 pub fn valid_certificates_fit()
     ensures { (question : Instr → Kind → List (List ℤ)) (heading : Heading) (d : Desc) (cert : Cert) →
         All AreListed cert.findings → IsValidCert question heading d cert → All (DoFindingWordsFit d.word) cert.findings }
+{}
+
+/// A text is that of one certificate at most, under one heading: of those whose lines are in range, and whose states
+/// that are shown list their cells in the one way.
+pub fn certificates_have_one_text()
+    ensures { (d : Desc) → IsShape (shape_of d) → (h k : Heading) (x y : Cert) → IsSpellable h d x → IsSpellable k d y →
+        cert_text d h x ≡ cert_text d k y → (h ≡ k) × (x ≡ y) }
 {}
