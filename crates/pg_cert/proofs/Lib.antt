@@ -12,3 +12,4 @@ pub mod Fits
 pub mod Parted
 pub mod OneState
 pub mod OneCert
+pub mod InRange

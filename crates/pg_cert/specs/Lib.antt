@@ -4,3 +4,4 @@ pub mod Reading
 pub mod Parsing
 pub mod Texts
 pub mod Validity
+pub mod InRange

@@ -19,6 +19,7 @@ ghost use Rattle.pg_cert.specs.declared.line.Line.{Line};
 ghost use Rattle.pg_cert.specs.Lines.{line_text, IsLine};
 ghost use Rattle.pg_cert.specs.Reading.{read_parts, but_last};
 ghost use Rattle.pg_cert.specs.Parsing.{Says, said};
+ghost use Rattle.pg_cert.specs.InRange.{ValidCertificatesAreInRange, TrimmedLogsMayStand};
 ghost use Rattle.pg_cert.specs.Texts.{state_lines, lines_text, cert_text, AreListed, DoStateWordsFit, DoFindingWordsFit, IsSpellable};
 ghost use Rattle.pg_cert.specs.Validity.{IsValidCert};
 
@@ -72,4 +73,14 @@ pub fn valid_certificates_fit()
 pub fn certificates_have_one_text()
     ensures { (d : Desc) → IsShape (shape_of d) → (h k : Heading) (x y : Cert) → IsSpellable h d x → IsSpellable k d y →
         cert_text d h x ≡ cert_text d k y → (h ≡ k) × (x ≡ y) }
+{}
+
+/// The lines of a valid certificate are in range, where its logs have few enough steps for their numbers.
+pub fn valid_certificates_are_in_range()
+    ensures { ValidCertificatesAreInRange }
+{}
+
+/// A log that was trimmed can stand in a certificate, under each heading that lets clauses be taken away.
+pub fn trimmed_logs_may_stand()
+    ensures { TrimmedLogsMayStand }
 {}
