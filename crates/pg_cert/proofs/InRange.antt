@@ -1,5 +1,5 @@
 -- The lines of a valid certificate are in range.
-use Rattle.std.proofs.Common.{◌≡◌, ◌≢◌, ℕ, zero, suc, ◌+◌, ◌-◌, ◌*◌, ◌/◌, ◌%◌, ◌^◌, ◌<◌, ◌≤◌, ◌⊎◌, inl, inr, min, Bool, true, false, not, cond, if◌then◌else◌, ℤ, List, [], ◌∷◌, ◌++◌, length, map, take, drop, get_or, set, All, Option, None, Some, is_none, is_some, IsTrue, refl, sym, ap, subst, ◌∙◌, lit<, arith, add-zero, length-append, ⊎_elim}
+use Rattle.std.proofs.Common.{◌≡◌, ◌≢◌, ℕ, zero, suc, ◌+◌, ◌-◌, ◌*◌, ◌%◌, ◌^◌, ◌<◌, ◌≤◌, ◌⊎◌, inl, inr, min, Bool, true, false, not, if◌then◌else◌, ℤ, List, [], ◌∷◌, ◌++◌, length, map, drop, get_or, set, All, Option, None, Some, is_none, is_some, IsTrue, refl, sym, ap, subst, ◌∙◌, lit<, arith, add-zero, length-append, ⊎_elim}
 use Rattle.std.specs.Prelude.{IsSomeAnd, ◌==◌, ◌&&◌, ◌||◌, nat_lt, nat_le, nat_abs, slice_get, slice_index_or}
 use Rattle.std.specs.List.{list_any, list_all}
 use Rattle.std.specs.Option.{option_and_then, option_map}
@@ -21,8 +21,6 @@ use Rattle.pg_ast.specs.declared.tree.Instr.{Instr}
 use Rattle.pg_ast.specs.declared.tree.Desc.{Desc}
 use Rattle.pg_meaning.specs.States.{State, IsState, shape_of, in_user}
 use Rattle.pg_valid.specs.Twice.{instr_names}
-use Rattle.pg_valid.specs.Valid.{IsValid}
-use Rattle.pg_valid.proofs.ValidFacts.{IsShape-of_valid}
 use Rattle.pg_image.specs.Lines.{line_cells, line_words, line_count}
 use Rattle.pg_proof.specs.declared.step.ProofFault.{ProofFault}
 use Rattle.pg_proof.specs.declared.step.ProofFault.TheVariants.{UnknownLit}
@@ -30,11 +28,11 @@ use Rattle.pg_proof.specs.declared.step.Step.{Step as Steps}
 use Rattle.pg_proof.specs.declared.step.Act.{Act}
 use Rattle.pg_proof.specs.declared.step.Act.TheVariants as act
 use Rattle.pg_proof.specs.Places.{negations}
-use Rattle.pg_proof.specs.State.{State as Log, clause_at, variables_of, begun, with_clause}
+use Rattle.pg_proof.specs.State.{State as Log, clause_at, begun, with_clause}
 use Rattle.pg_proof.specs.Refutation.{are_ascending, walk, fault_of}
-use Rattle.pg_proof.specs.Removal.{without, after_removal}
-use Rattle.pg_proof.specs.Log.{after_act, after_acts_from, IsSpentFrom, IsClosedLog}
-use Rattle.pg_proof.specs.Trimmed.{full, shown, IsPart, step_count, AreAscending, IsTidyFrom, IsTrimmed}
+use Rattle.pg_proof.specs.Removal.{without}
+use Rattle.pg_proof.specs.Log.{after_acts_from, IsSpentFrom}
+use Rattle.pg_proof.specs.Trimmed.{shown, IsPart, step_count, AreAscending, IsTidyFrom, IsTrimmed}
 use Rattle.pg_proof.proofs.GivenLemmas.{AreKnown, known_hints, number_below}
 use Rattle.pg_proof.proofs.RemovalLemmas.{length-without}
 use Rattle.pg_type.specs.declared.kind.Kind.{Kind}
@@ -49,9 +47,9 @@ use Rattle.pg_cert.specs.declared.cert.Cert.{Cert}
 use Rattle.pg_cert.specs.declared.line.Heading.{Heading}
 use Rattle.pg_cert.specs.declared.line.Line.{Line}
 use Rattle.pg_cert.specs.declared.line.Line.TheVariants.{First, Header, Step, Remove, Size, Psw, Cells, End}
-use Rattle.pg_cert.specs.Lines.{most_budget, most_variable, most_number, ascend, are_lits, are_hints, are_removed, is_psw, is_found, are_cells, is_line, IsLine}
+use Rattle.pg_cert.specs.Lines.{most_budget, most_variable, most_number, ascend, are_lits, are_hints, are_removed, is_found, is_line, IsLine}
 use Rattle.pg_cert.specs.Verdicts.{kind_count}
-use Rattle.pg_cert.specs.Texts.{row_lines, rows_before, state_lines, act_line, found_of, body_lines, instr_of, kind_of, name_of, named_lines, finding_lines, findings_lines, cert_lines}
+use Rattle.pg_cert.specs.Texts.{row_lines, rows_before, state_lines, act_line, found_of, body_lines, instr_of, kind_of, named_lines, finding_lines, findings_lines, cert_lines}
 use Rattle.pg_cert.specs.Validity.{may_remove, IsActUnder, IsValidFinding, IsValidCert}
 use Rattle.pg_cert.specs.InRange.{IsNumbered, IsFindingNumbered}
 
@@ -442,8 +440,7 @@ under_heading heading q (act.Remove numbers ∷ acts) state final may tidy e n =
         All (IsActUnder heading) (act.Remove numbers ∷ acts)
     by None eo f rest = absurd (cc)
     by (Some held) eo f rest =
-        All-cons (IsActUnder heading) (act.Remove numbers) acts
-        (
+        All-cons (IsActUnder heading) (act.Remove numbers) acts (
           may,
           and_from (nat_le 1 (length numbers)) (ascend most_number 0 numbers) some
               (ascends_strictly most_number numbers 0 state.held held (from_zero numbers (q + 1) tidy.1) refl eo

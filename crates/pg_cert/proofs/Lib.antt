@@ -9,4 +9,7 @@ pub mod RowLemmas
 pub mod TextLemmas
 pub mod StateText
 pub mod Fits
+pub mod Parted
+pub mod OneState
+pub mod OneCert
 pub mod InRange

@@ -36,7 +36,8 @@ module _ (p : ℕ → Bool) where
     none_joined (part ∷ next ∷ parts) h =
         let both = and_parts (graphic part) (list_all graphic (next ∷ parts)) h in
         let rest : List ℕ = join_with_byte 32 (next ∷ parts) in
-        none_append part (32 ∷ rest) (none_of part both.0) (or_from (p 32) (list_any p rest) no_space (none_joined (next ∷ parts) both.1))
+        none_append part (32 ∷ rest) (none_of part both.0)
+        (or_from (p 32) (list_any p rest) no_space (none_joined (next ∷ parts) both.1))
 
 known : (c : ℕ) → is_graphic c ≡ true → is_foreign c ≡ false
 known c h = grind (arith, nat_tests)
@@ -57,20 +58,25 @@ before_end-push text =
 
 -- ---- a text says its line
 
-pub said-line : (shape : Shape) → IsShape shape → (line : Line) → IsLine shape line → said shape (line_text shape line) ≡ Says line
+pub said-line : (shape : Shape) → IsShape shape → (line : Line) → IsLine shape line →
+    said shape (line_text shape line) ≡ Says line
 unfolding said line_text
 said-line shape numbers line h =
     let body : List ℕ = join_with_byte 32 (line_parts shape.w line) in
     let text : List ℕ = body ++ 10 ∷ [] in
-    let none : list_any is_foreign (before_end text) ≡ false = ap (list_any is_foreign) (before_end-push body) ∙ none_joined is_foreign known refl (line_parts shape.w line) (line_graphic shape numbers line h) in
-    let spelled : (is_line shape line && bytes_eq text text) ≡ true = and_from (is_line shape line) (bytes_eq text text) h ((bytes_eq-Decides text text).1 refl) in
+    let none : list_any is_foreign (before_end text) ≡ false =
+    ap (list_any is_foreign) (before_end-push body)
+    ∙ none_joined is_foreign known refl (line_parts shape.w line) (line_graphic shape numbers line h) in
+    let spelled : (is_line shape line && bytes_eq text text) ≡ true =
+    and_from (is_line shape line) (bytes_eq text text) h ((bytes_eq-Decides text text).1 refl) in
     ap (λ b. cond b NoToken (said_of_read shape text (read_parts shape.w (parts_of text)))) none
     ∙ ap (said_of_read shape text) (read_text-line shape numbers line h)
     ∙ ap (λ b. cond b (Says line) (said_of_no_line text)) spelled
 
 -- ---- what says a line is its text
 
-no_line_if : (P : Type 0) (line : Line) (first second : Bool) → cond first (OtherVersion Plain) (cond second (OtherVersion Hybrid) NoForm) ≡ Says line → P
+no_line_if : (P : Type 0) (line : Line) (first second : Bool) →
+    cond first (OtherVersion Plain) (cond second (OtherVersion Hybrid) NoForm) ≡ Says line → P
 no_line_if P line true second e = absurd cc
 no_line_if P line false true e = absurd cc
 no_line_if P line false false e = absurd cc
@@ -82,7 +88,8 @@ module _ (shape : Shape) (bytes : List ℕ) (line : Line) where
   abbrev IsSpelled : Type 0
   IsSpelled = IsLine shape line × (bytes ≡ line_text shape line)
 
-  spelled_if : (read : Line) (test : Bool) → test ≡ (is_line shape read && bytes_eq bytes (line_text shape read)) → cond test (Says read) (said_of_no_line bytes) ≡ Says line → IsSpelled
+  spelled_if : (read : Line) (test : Bool) → test ≡ (is_line shape read && bytes_eq bytes (line_text shape read)) →
+      cond test (Says read) (said_of_no_line bytes) ≡ Says line → IsSpelled
   spelled_if read true t e =
       let same : read ≡ line = cc in
       let both = and_parts (is_line shape read) (bytes_eq bytes (line_text shape read)) (sym t) in
@@ -94,7 +101,8 @@ module _ (shape : Shape) (bytes : List ℕ) (line : Line) where
   spelled_read None e = no_line IsSpelled line bytes e
   spelled_read (Some read) e = spelled_if read (is_line shape read && bytes_eq bytes (line_text shape read)) refl e
 
-  spelled_known : (foreign : Bool) (read : Option Line) → cond foreign NoToken (said_of_read shape bytes read) ≡ Says line → IsSpelled
+  spelled_known : (foreign : Bool) (read : Option Line) →
+      cond foreign NoToken (said_of_read shape bytes read) ≡ Says line → IsSpelled
   spelled_known true read e = absurd cc
   spelled_known false read e = spelled_read read e
 
@@ -112,12 +120,18 @@ text_ends shape line =
 
 none_at : (text : List ℕ) → list_any (λ c. c == 10) text ≡ false → All (λ c. c ≢ 10) text
 none_at text h = λ k d l e.
-    let there : list_any (λ c. c == 10) text ≡ true = list_any_at (λ c. c == 10) text k d l (eq-eqb (get_or text k d) 10 e) in
+    let there : list_any (λ c. c == 10) text ≡ true =
+    list_any_at (λ c. c == 10) text k d l (eq-eqb (get_or text k d) 10 e) in
     cc
 
-pub ends_once : (shape : Shape) → IsShape shape → (line : Line) → IsLine shape line → All (λ c. c ≢ 10) (but_last (line_text shape line))
+pub no_end_before : (shape : Shape) → IsShape shape → (line : Line) → IsLine shape line →
+    list_any (λ c. c == 10) (but_last (line_text shape line)) ≡ false
 unfolding line_text
-ends_once shape numbers line h =
+no_end_before shape numbers line h =
     let body : List ℕ = join_with_byte 32 (line_parts shape.w line) in
-    none_at (but_last (body ++ 10 ∷ []))
-    (ap (list_any (λ c. c == 10)) (but_last-push body 10) ∙ none_joined (λ c. c == 10) no_end refl (line_parts shape.w line) (line_graphic shape numbers line h))
+    ap (list_any (λ c. c == 10)) (but_last-push body 10)
+    ∙ none_joined (λ c. c == 10) no_end refl (line_parts shape.w line) (line_graphic shape numbers line h)
+
+pub ends_once : (shape : Shape) → IsShape shape → (line : Line) → IsLine shape line →
+    All (λ c. c ≢ 10) (but_last (line_text shape line))
+ends_once shape numbers line h = none_at (but_last (line_text shape line)) (no_end_before shape numbers line h)

@@ -16,11 +16,11 @@ use Rattle.pg_cert.proofs.Spacing.{parts_spaced}
 use Rattle.pg_cert.proofs.RowLemmas.{all_zero}
 use Rattle.pg_cert.proofs.TextLemmas.{lines_text-append}
 
-size_line : (n : ℕ) → parts_text (size_parts n) ≡ size_text n
+pub size_line : (n : ℕ) → parts_text (size_parts n) ≡ size_text n
 unfolding size_text
 size_line n = refl
 
-psw_line : (x : Psws) → parts_text (psw_parts x) ≡ psw_text x
+pub psw_line : (x : Psws) → parts_text (psw_parts x) ≡ psw_text x
 unfolding psw_text
 psw_line x = simp append_assoc
 
@@ -29,7 +29,7 @@ unfolding spaced words_text
 words_spaced w [] = refl
 words_spaced w (x ∷ xs) = ap (λ t. 32 ∷ hex_text (w / 4) x ++ t) (words_spaced w xs)
 
-cells_line : (w first : ℕ) (words : List ℕ) → parts_text (cells_parts w first words) ≡ cells_text w first words
+pub cells_line : (w first : ℕ) (words : List ℕ) → parts_text (cells_parts w first words) ≡ cells_text w first words
 unfolding cells_text
 cells_line w first words =
     parts_spaced (decimal first ++ 58 ∷ []) (map (hex_text (w / 4)) words)
@@ -41,7 +41,8 @@ module _ (shape : Shape) where
   unfolding lines_text line_text line_parts cells_shown
   row_shown first words = by (all_zero words)
     where
-      by : (b : Bool) → lines_text shape (cond b [] (Cells first words ∷ [])) ≡ cond b [] (cells_text shape.w first words)
+      by : (b : Bool) →
+          lines_text shape (cond b [] (Cells first words ∷ [])) ≡ cond b [] (cells_text shape.w first words)
       by true = refl
       by false = append-nil (parts_text (cells_parts shape.w first words)) ∙ cells_line shape.w first words
 
@@ -55,7 +56,8 @@ module _ (shape : Shape) where
       ∙ ap (λ t. t ++ lines_text shape (row_lines first words)) (rows_shown k cells)
       ∙ ap (λ t. lines_before shape.w k cells ++ t) (row_shown first words)
 
-  pub lines_of_state : (s : Sparse) → lines_text shape (state_lines s) ≡ state_text shape.w (storage_of s.size s.cells) s.psw
+  pub lines_of_state : (s : Sparse) →
+      lines_text shape (state_lines s) ≡ state_text shape.w (storage_of s.size s.cells) s.psw
   unfolding lines_text line_text line_parts state_text
   lines_of_state s =
       let cells : List ℕ = storage_of s.size s.cells in

@@ -1,9 +1,9 @@
 -- The text of a certificate: its lines in order.
-use Rattle.std.specs.Prelude.{◌+◌, ◌≤◌, ⊤, ℕ, zero, suc, ◌*◌, ◌^◌, ◌<◌, ◌/◌, ◌%◌, ◌==◌, if◌then◌else◌, List, [], ◌∷◌, ◌++◌, map, slice_index_or}
+use Rattle.std.specs.Prelude.{◌≡◌, ◌+◌, ◌≤◌, ⊤, ℕ, zero, suc, ◌*◌, ◌^◌, ◌<◌, ◌/◌, ◌%◌, ◌==◌, if◌then◌else◌, List, [], ◌∷◌, ◌++◌, map, slice_index_or}
 use Rattle.std.specs.List.{All, list_all}
 use Rattle.pg_word.specs.declared.shape.Shape.{Shape}
 use Rattle.pg_word.specs.declared.sparse.Sparse.{Sparse}
-use Rattle.pg_word.specs.Sparse.{storage_of}
+use Rattle.pg_word.specs.Sparse.{IsCellList, storage_of}
 use Rattle.pg_ast.specs.declared.tree.Desc.{Desc}
 use Rattle.pg_meaning.specs.States.{shape_of}
 use Rattle.pg_image.specs.Lines.{line_cells, line_words, line_count}
@@ -23,7 +23,7 @@ use Rattle.pg_cert.specs.declared.line.Found.{Found}
 use Rattle.pg_cert.specs.declared.line.Found.TheVariants as found
 use Rattle.pg_cert.specs.declared.line.Line.{Line}
 use Rattle.pg_cert.specs.declared.line.Line.TheVariants.{First, Header, Step, Remove, Size, Psw, Cells, End}
-use Rattle.pg_cert.specs.Lines.{line_text}
+use Rattle.pg_cert.specs.Lines.{line_text, IsLine}
 use Rattle.pg_cert.specs.Verdicts.{kinds_of, kind_count}
 
 -- ---- states
@@ -114,6 +114,13 @@ cert_text d heading cert = lines_text (shape_of d) (cert_lines d heading cert)
 
 -- ---- what can be written
 
+-- the cells of the states that are shown are listed in the one way. That they are within the size is part of what a
+-- listed state is
+abbrev pub AreListed : Finding → Type 0
+AreListed (finding.Refuted acts) = ⊤
+AreListed (finding.Shown s t) = IsCellList s.cells × IsCellList t.cells
+AreListed (finding.Spent k steps) = ⊤
+
 -- the words of a state have w bits
 abbrev pub DoStateWordsFit : ℕ → Sparse → Type 0
 DoStateWordsFit w s = All (λ cell. cell.1 < 2 ^ w) s.cells
@@ -123,3 +130,12 @@ abbrev pub DoFindingWordsFit : ℕ → Finding → Type 0
 DoFindingWordsFit w (finding.Refuted acts) = ⊤
 DoFindingWordsFit w (finding.Shown s t) = DoStateWordsFit w s × DoStateWordsFit w t
 DoFindingWordsFit w (finding.Spent k steps) = ⊤
+
+-- ---- what has a text of its own
+
+-- the heading is one of the certificate's family, each line under it is in range, and the cells of the states that are
+-- shown are listed in the one way
+pub record IsSpellable (heading : Heading) (d : Desc) (cert : Cert) : Type 0 where
+  pub family : family_of heading ≡ cert.family
+  pub in_range : All (IsLine (shape_of d)) (cert_lines d heading cert)
+  pub listed : All AreListed cert.findings

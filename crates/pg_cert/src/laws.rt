@@ -1,6 +1,6 @@
 //! What follows from the definitions alone: none of it does anything when it runs.
 
-ghost use Rattle.std.specs.Prelude.{◌≡◌, ◌≢◌, ℕ, ◌==◌, List, [], ◌∷◌, ◌++◌, Some};
+ghost use Rattle.std.specs.Prelude.{◌≡◌, ◌≢◌, ℕ, ◌==◌, ℤ, List, [], ◌∷◌, ◌++◌, Some};
 ghost use Rattle.std.specs.List.{All, slice_split};
 ghost use Rattle.pg_word.specs.Shape.{IsShape};
 ghost use Rattle.pg_word.specs.declared.shape.Shape.{Shape};
@@ -8,16 +8,20 @@ ghost use Rattle.pg_word.specs.declared.sparse.Sparse.{Sparse};
 ghost use Rattle.pg_word.specs.Sparse.{IsCellList, storage_of};
 ghost use Rattle.pg_ast.specs.declared.tree.Desc.{Desc};
 ghost use Rattle.pg_ast.specs.declared.tree.Instr.{Instr};
+ghost use Rattle.pg_meaning.specs.States.{shape_of};
 ghost use Rattle.pg_type.specs.declared.kind.Kind.{Kind};
 ghost use Rattle.pg_type.specs.Kinds.{Shows};
 ghost use Rattle.pg_type.specs.Listed.{state_of};
 ghost use Rattle.pg_image.specs.Lines.{state_text};
+ghost use Rattle.pg_cert.specs.declared.cert.Cert.{Cert};
+ghost use Rattle.pg_cert.specs.declared.line.Heading.{Heading};
 ghost use Rattle.pg_cert.specs.declared.line.Line.{Line};
 ghost use Rattle.pg_cert.specs.Lines.{line_text, IsLine};
 ghost use Rattle.pg_cert.specs.Reading.{read_parts, but_last};
 ghost use Rattle.pg_cert.specs.Parsing.{Says, said};
 ghost use Rattle.pg_cert.specs.InRange.{ValidCertificatesAreInRange, TrimmedLogsMayStand};
-ghost use Rattle.pg_cert.specs.Texts.{state_lines, lines_text, DoStateWordsFit};
+ghost use Rattle.pg_cert.specs.Texts.{state_lines, lines_text, cert_text, AreListed, DoStateWordsFit, DoFindingWordsFit, IsSpellable};
+ghost use Rattle.pg_cert.specs.Validity.{IsValidCert};
 
 /// What is read of the parts of a line's text, which stand between its spaces, is the line.
 pub fn lines_are_read()
@@ -55,6 +59,20 @@ pub fn states_are_shown()
 pub fn shown_states_fit()
     ensures { (d : Desc) (i : Instr) (kind : Kind) (s t : Sparse) → IsCellList s.cells → IsCellList t.cells →
         Shows d i kind (state_of s) (state_of t) → DoStateWordsFit d.word s × DoStateWordsFit d.word t }
+{}
+
+/// The listed words of the states of a valid certificate have as many bits as a word of the machine: each valid
+/// certificate can be written.
+pub fn valid_certificates_fit()
+    ensures { (question : Instr → Kind → List (List ℤ)) (heading : Heading) (d : Desc) (cert : Cert) →
+        All AreListed cert.findings → IsValidCert question heading d cert → All (DoFindingWordsFit d.word) cert.findings }
+{}
+
+/// A text is that of one certificate at most, under one heading: of those whose lines are in range, and whose states
+/// that are shown list their cells in the one way.
+pub fn certificates_have_one_text()
+    ensures { (d : Desc) → IsShape (shape_of d) → (h k : Heading) (x y : Cert) → IsSpellable h d x → IsSpellable k d y →
+        cert_text d h x ≡ cert_text d k y → (h ≡ k) × (x ≡ y) }
 {}
 
 /// The lines of a valid certificate are in range, where its logs have few enough steps for their numbers.
