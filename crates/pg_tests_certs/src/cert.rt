@@ -5,10 +5,31 @@ use crate::setting::{
     told_of,
 };
 use pg_cert::Verdict;
+use pg_type::Kind;
 use pg_valid::Machine;
 use pg_verify::{StepCause, Verifier, VerifyFault};
 use std::alloc::Global;
 use std::test::Fail;
+
+/// A certificate of the other family: the instruction is not privileged, and in user mode it is not sensitive. The questions
+/// of its last three findings have 848, 1387 and 1447 clauses: the first of each says that variable 1 is false, and the last
+/// that it is true.
+const HYBRID: &str = "pghybrid 1
+finding rtu privileged shown
+size 4
+psw s 2 0 4
+0: 00000000 00000000 05000000 00000000
+size 4
+psw u 2 0 4
+0: 00000000 00000000 05000000 00000000
+finding rtu ucontrol refuted
+s 0 1 848 0
+finding rtu ulocation refuted
+s 0 1 1387 0
+finding rtu ubound refuted
+s 0 1 1447 0
+end
+";
 
 /// What a text comes to that is fed in parts of so many bytes.
 fn told_in_parts(alloc: Global, m: &Machine, text: &[u8], size: usize) -> Told {
@@ -95,27 +116,26 @@ fn the_first_version_takes_none_away(rt: HostRuntime) -> Result<(), Fail> {
 }
 
 #[test]
-fn the_other_family_has_its_own_first_line(rt: HostRuntime) -> Result<(), Fail> {
+fn each_family_has_its_own_first_line_and_kinds(rt: HostRuntime) -> Result<(), Fail> {
     let alloc = rt.alloc();
-    let m = machine(alloc, NONE)?;
-    let table: [(&str, Told, Told); 3] = [
+    let first: Told = Err(VerifyFault::Grammar(1));
+    let missing: Told = Err(VerifyFault::Missing(0, Kind::Privileged));
+    let foreign = "pghybrid 1\nfinding rtu control refuted\n";
+    let table: [(&str, &str, Told, Told); 6] = [
+        (NONE, "pgcert 2\nend\n", Ok(Verdict::Accepted), first),
+        (NONE, "pghybrid 1\nend\n", first, Ok(Verdict::Accepted)),
         (
-            "pgcert 2\nend\n",
-            Ok(Verdict::Accepted),
-            Err(VerifyFault::Grammar(1)),
-        ),
-        (
-            "pghybrid 1\nend\n",
-            Err(VerifyFault::Grammar(1)),
-            Ok(Verdict::Accepted),
-        ),
-        (
+            NONE,
             "pghybrid 2\nend\n",
-            Err(VerifyFault::Grammar(1)),
+            first,
             Err(VerifyFault::Version),
         ),
+        (RTU, HYBRID, first, Ok(Verdict::Accepted)),
+        (RTU, "pghybrid 1\nend\n", first, missing),
+        (RTU, foreign, first, Err(VerifyFault::Grammar(2))),
     ];
-    for (text, plain, hybrid) in table {
+    for (desc, text, plain, hybrid) in table {
+        let m = machine(alloc, desc)?;
         assert!(rt; told(alloc, &m, text.as_bytes()) == plain, "plain {text}");
         assert!(rt;
             told_of_hybrid(alloc, &m, text.as_bytes()) == hybrid,

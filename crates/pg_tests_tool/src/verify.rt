@@ -36,6 +36,27 @@ psw s 2 0 4
 end
 ";
 
+/// Whether the instruction is privileged is open: of the 851 clauses of that question the sixth is `-75 26` and the eleventh
+/// `76 75 74`, and the one step is what they come to. In supervisor mode it changes the mode, and the other kinds are refuted.
+const OPEN: &str = "pgcert 2
+finding rtu privileged spent 1
+s 26 74 76 0 6 11 0
+finding rtu control shown
+size 4
+psw s 2 0 4
+0: 00000000 00000000 05000000 00000000
+size 4
+psw s 2 0 4
+0: 00000000 00000000 05000000 00000000
+finding rtu mode refuted
+s 0 1 949 0
+finding rtu location refuted
+s 0 1 1387 0
+finding rtu bound refuted
+s 0 1 1447 0
+end
+";
+
 /// Verifies a certificate of a description.
 fn verify(alloc: Global, desc: &str, cert: &str) -> Result<Ran, Fail> {
     let words = ["pgv", "verify", "d", "i"];
@@ -47,6 +68,16 @@ fn a_machine_without_instructions_is_accepted(rt: HostRuntime) -> Result<(), Fai
     let ran = verify(rt.alloc(), NONE, "pgcert 1\nend\n")?;
     assert_eq!(rt; ran.text.as_str(), "accepted\n");
     assert!(rt; ran.status == Status::Done);
+    assert!(rt; is_fresh(&ran.hw));
+    Ok(())
+}
+
+#[test]
+fn what_is_open_is_told(rt: HostRuntime) -> Result<(), Fail> {
+    let kinds = "rtu privileged open control yes mode no location no bound no\nopen rtu privileged\n";
+    let ran = verify(rt.alloc(), RTU, OPEN)?;
+    assert_eq!(rt; ran.text.as_str(), kinds);
+    assert!(rt; ran.status == Status::Unsettled);
     assert!(rt; is_fresh(&ran.hw));
     Ok(())
 }

@@ -111,7 +111,7 @@ kind_again Hybrid (suc (suc zero)) l = refl
 kind_again Hybrid (suc (suc (suc zero))) l = refl
 kind_again Hybrid (suc (suc (suc (suc r)))) l = absurd (omega arith)
 
-place_small : (family : Family) (n : ℕ) → n % kind_count family < kind_count family
+pub place_small : (family : Family) (n : ℕ) → n % kind_count family < kind_count family
 place_small Plain n = omega arith
 place_small Hybrid n = omega arith
 

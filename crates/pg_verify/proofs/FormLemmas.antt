@@ -38,15 +38,15 @@ use Rattle.pg_verify.proofs.CloseLemmas.{Closed, open_closed}
 
 -- ---- the number of a finding
 
-record IsKindAt (family : Family) (k : Kind) (place : ℕ) : Type 0 where
-  small : place < kind_count family
-  is : slice_index_or (kinds_of family) place kind.Privileged ≡ k
+pub record IsKindAt (family : Family) (k : Kind) (place : ℕ) : Type 0 where
+  pub small : place < kind_count family
+  pub is : slice_index_or (kinds_of family) place kind.Privileged ≡ k
 
 kind_at : (family : Family) (k : Kind) (place n : ℕ) → ◌≡◌ {A = Option ℕ} (Some n) (Some place) → IsKindAt family k n →
     IsKindAt family k place
 kind_at family k place n e h = subst (λ x. IsKindAt family k x) (same_Some n place e) h
 
-kind_placed : (family : Family) (k : Kind) (place : ℕ) → kind_place family k ≡ Some place → IsKindAt family k place
+pub kind_placed : (family : Family) (k : Kind) (place : ℕ) → kind_place family k ≡ Some place → IsKindAt family k place
 kind_placed Plain kind.Privileged place e =
     kind_at Plain kind.Privileged place 0 e (record { small = omega arith; is = refl })
 kind_placed Plain kind.Control place e =
@@ -81,11 +81,11 @@ split : (family : Family) (n instr place : ℕ) → place < kind_count family �
 split Plain n instr place l e = record { instr_is = omega arith; place_is = omega arith }
 split Hybrid n instr place l e = record { instr_is = omega arith; place_is = omega arith }
 
-record IsNamed (d : Desc) (name : List ℕ) (instr : ℕ) : Type 0 where
-  in_range : instr < length d.instrs
-  name_is : name ≡ name_of d instr
+pub record IsNamed (d : Desc) (name : List ℕ) (instr : ℕ) : Type 0 where
+  pub in_range : instr < length d.instrs
+  pub name_is : name ≡ name_of d instr
 
-named_is : (d : Desc) (name : List ℕ) (instr : ℕ) → instr_named d name ≡ Some instr → IsNamed d name instr
+pub named_is : (d : Desc) (name : List ℕ) (instr : ℕ) → instr_named d name ≡ Some instr → IsNamed d name instr
 named_is d name instr e =
     let test : List ℕ → Bool = λ n. bytes_eq n name in
     let names : List (List ℕ) = instr_names d.instrs in

@@ -16,3 +16,4 @@ pub mod FindingReach
 pub mod TakeLemmas
 mod KeepLemmas
 mod FeedLemmas
+pub mod MissingLemmas

@@ -1,6 +1,6 @@
 -- *verify-exact*: a text is not refused exactly where it is the one spelling of a valid certificate.
-use Rattle.std.specs.Prelude.{◌≡◌, ⊤, ℕ, ◌*◌, ◌≤◌, List, length, map, Some, Ok, slice_get}
-use Rattle.std.specs.List.{All}
+use Rattle.std.specs.Prelude.{◌≡◌, ⊤, ℕ, ◌*◌, ◌<◌, ◌≤◌, List, length, map, Some, Ok, Err, slice_get}
+use Rattle.std.specs.List.{All, Contains}
 use Rattle.pg_word.specs.Sparse.{IsCellList}
 use Rattle.pg_ast.specs.declared.tree.Instr.{Instr}
 use Rattle.pg_ast.specs.declared.tree.Desc.{Desc}
@@ -14,10 +14,11 @@ use Rattle.pg_cert.specs.declared.cert.Finding.{Finding}
 use Rattle.pg_cert.specs.declared.cert.Finding.TheVariants as finding
 use Rattle.pg_cert.specs.declared.cert.Cert.{Cert}
 use Rattle.pg_cert.specs.declared.line.Heading.{Heading}
-use Rattle.pg_cert.specs.Verdicts.{kind_count, mark_of}
+use Rattle.pg_cert.specs.Verdicts.{kinds_of, kind_count, mark_of}
 use Rattle.pg_cert.specs.Lines.{IsLine}
 use Rattle.pg_cert.specs.Texts.{instr_of, kind_of, cert_lines, cert_text}
 use Rattle.pg_cert.specs.Validity.{IsValidCert}
+use Rattle.pg_verify.specs.declared.fault.VerifyFault.TheVariants as fault
 use Rattle.pg_verify.specs.Reader.{state_of, Mark, Refuted, Shown, Spent, Progress}
 use Rattle.pg_verify.specs.Feeding.{verified, kept, most_bytes}
 
@@ -77,3 +78,16 @@ abbrev pub TakenTextsTell : Type 0
 TakenTextsTell =
     (d : Desc) (family : Family) (bytes : List ℕ) (p : Progress) → IsValid d → verified d family bytes ≡ Ok p →
     AreTold d family p.marks
+
+-- ---- what is missing
+
+-- a finding is asked for: there is an instruction of this number, and the kind is one of the family
+pub record IsAsked (d : Desc) (family : Family) (instr : ℕ) (kind : Kind) : Type 0 where
+  pub there : instr < length d.instrs
+  pub among : Contains (kinds_of family) kind
+
+-- a finding that is told to be missing is asked for
+abbrev pub MissingFindingsAreAsked : Type 0
+MissingFindingsAreAsked =
+    (d : Desc) (family : Family) (bytes : List ℕ) (instr : ℕ) (kind : Kind) →
+    verified d family bytes ≡ Err (fault.Missing instr kind) → IsAsked d family instr kind

@@ -50,7 +50,8 @@ pub enum VerifyFault {
     /// The step on this line of a spent log is not worth its place or is one too many; or the log below this header has too few.
     #[error("line {0}: the budget is not spent so")]
     BadSpent(u32),
-    /// The finding of this instruction and this kind is due, and a later one, or the end, stands in its place.
+    /// The finding of this instruction and this kind is due, and a later one, or the end, stands in its place. There is an
+    /// instruction of this number, and the kind is one of the family that is asked about.
     #[error("a finding is missing")]
     Missing(usize, Kind),
     /// This header is of a finding that was given before.

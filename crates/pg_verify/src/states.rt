@@ -193,15 +193,15 @@ fn draw(
 #[tactic(auto, unfolding(crate::specs::Taking::after_state_line))]
 pub fn take_part(
     alloc: Global,
-    open: &mut Opened,
+    opened: &mut Opened,
     line: u32,
     part: StatePart<'_>,
 ) -> Result<(), VerifyFault>
     requires { IsRowPart part }
-    ensures told { IsTold (after_state_line line (with_part part.entry) (open_of open.old)) (open_of open.new) result }
-    ensures few { numbered (open_of open.new) ≤ numbered (open_of open.old) + 1 }
+    ensures told { IsTold (after_state_line line (with_part part.entry) (open_of opened.old)) (open_of opened.new) result }
+    ensures few { numbered (open_of opened.new) ≤ numbered (open_of opened.old) + 1 }
 {
-    match open {
+    match opened {
         Opened::Showing(_, drawing) => draw(alloc, drawing, line, part),
         Opened::Fresh => Err(VerifyFault::Grammar(line)),
         Opened::Between => Err(VerifyFault::Grammar(line)),

@@ -74,12 +74,12 @@ fn add_spent_step(
 
 /// A line that adds a step. The number of clauses of the log that is open, if one is, is below `2^32 - 1`.
 #[tactic(auto, unfolding(crate::specs::Taking::after_step))]
-pub fn take_step(open: &mut Opened, line: u32, step: &Step) -> Result<(), VerifyFault>
-    requires room { numbered (open_of open.old) + 1 < 2 ^ 32 }
-    ensures told { IsTold (after_step line step.now (open_of open.old)) (open_of open.new) result }
-    ensures few { numbered (open_of open.new) ≤ numbered (open_of open.old) + 1 }
+pub fn take_step(opened: &mut Opened, line: u32, step: &Step) -> Result<(), VerifyFault>
+    requires room { numbered (open_of opened.old) + 1 < 2 ^ 32 }
+    ensures told { IsTold (after_step line step.now (open_of opened.old)) (open_of opened.new) result }
+    ensures few { numbered (open_of opened.new) ≤ numbered (open_of opened.old) + 1 }
 {
-    match open {
+    match opened {
         Opened::Refuting(_, checker) => add_step(checker, line, step),
         Opened::Spending(_, budget, count, checker) => {
             add_spent_step(checker, line, *budget, *count, step)?;
@@ -107,15 +107,15 @@ fn remove(checker: &mut Checker, line: u32, numbers: &[u32]) -> Result<(), Verif
 /// A line that takes clauses away, where that may be.
 #[tactic(auto, unfolding(crate::specs::Taking::after_remove))]
 pub fn take_removal(
-    open: &mut Opened,
+    opened: &mut Opened,
     line: u32,
     removes: bool,
     numbers: &[u32],
 ) -> Result<(), VerifyFault>
-    ensures told { IsTold (after_remove line removes numbers.now (open_of open.old)) (open_of open.new) result }
-    ensures few { numbered (open_of open.new) ≤ numbered (open_of open.old) + 1 }
+    ensures told { IsTold (after_remove line removes numbers.now (open_of opened.old)) (open_of opened.new) result }
+    ensures few { numbered (open_of opened.new) ≤ numbered (open_of opened.old) + 1 }
 {
-    match open {
+    match opened {
         Opened::Refuting(_, checker) => {
             if removes {
                 remove(checker, line, numbers)

@@ -3,11 +3,13 @@
 //! A verifier is fed the bytes of a text, in parts as they come, and then finished; or it is handed whole lines. Whatever the
 //! parts are, it answers what `verified` says of the whole text. Once it has refused it answers the same refusal.
 
-ghost use Rattle.std.specs.Prelude.{◌≡◌, ◌≢◌, IfErr, OnOk, IsOk, Ok, Err};
+ghost use Rattle.std.specs.Prelude.{◌≡◌, ◌≢◌, ℕ, IfErr, OnOk, IsOk, Ok, Err};
+ghost use Rattle.pg_type.specs.declared.kind.Kind.{Kind as Kinds};
 ghost use Rattle.pg_cert.specs.declared.cert.Family.TheVariants.{Plain, Hybrid};
-ghost use Rattle.pg_verify.specs.declared.fault.VerifyFault.TheVariants.{Memory};
+ghost use Rattle.pg_verify.specs.declared.fault.VerifyFault.TheVariants.{Memory, Missing};
 ghost use Rattle.pg_verify.specs.Taking.{then_take};
 ghost use Rattle.pg_verify.specs.Feeding.{begun, fed, lined, finished, verified_whole, IsAnswer};
+ghost use Rattle.pg_verify.specs.Verified.{IsAsked};
 
 use crate::fault::VerifyFault;
 use crate::reading::{CERT_BYTES, Reading};
@@ -116,10 +118,11 @@ impl<'m> Verifier<'m> {
 }
 
 /// The report of a whole text, in which the kinds of Theorem 1 are asked about, or why it is refused. That it is too long is
-/// told before all else.
+/// told before all else. A finding that is told to be missing is of an instruction that exists, and of a kind of Theorem 1.
 #[tactic(auto, unfolding(crate::specs::Feeding::verified))]
 pub fn verify(alloc: Global, machine: &Machine, bytes: &[u8]) -> Result<Report, VerifyFault>
-    ensures { IsAnswer (verified_whole machine.now.desc Plain bytes.now) result }
+    ensures answer { IsAnswer (verified_whole machine.now.desc Plain bytes.now) result }
+    ensures asked { (instr : ℕ) (kind : Kinds) → result ≡ Err (Missing instr kind) → IsAsked machine.now.desc Plain instr kind }
 {
     if bytes.len() > CERT_BYTES as usize {
         return Err(VerifyFault::Long);
