@@ -55,7 +55,7 @@ module _ (d : Desc) (i : Instr) where
 
 -- ---- certificates
 
-instr_within : (family : Family) (n findings instrs : ℕ) → findings ≡ instrs * kind_count family → n < findings →
+pub instr_within : (family : Family) (n findings instrs : ℕ) → findings ≡ instrs * kind_count family → n < findings →
     instr_of family n < instrs
 instr_within Plain n findings instrs e l = omega arith
 instr_within Hybrid n findings instrs e l = omega arith

@@ -40,7 +40,6 @@ use Rattle.pg_type.specs.declared.kind.Kind.TheVariants.{Privileged, Control, Mo
 use Rattle.pg_type.specs.Kinds.{Shows}
 use Rattle.pg_type.specs.Listed.{state_of}
 use Rattle.pg_cert.specs.declared.cert.Family.{Family}
-use Rattle.pg_cert.specs.declared.cert.Family.TheVariants.{Plain, Hybrid}
 use Rattle.pg_cert.specs.declared.cert.Finding.{Finding}
 use Rattle.pg_cert.specs.declared.cert.Finding.TheVariants as finding
 use Rattle.pg_cert.specs.declared.cert.Cert.{Cert}
@@ -51,6 +50,7 @@ use Rattle.pg_cert.specs.Lines.{most_budget, most_variable, most_number, ascend,
 use Rattle.pg_cert.specs.Verdicts.{kind_count}
 use Rattle.pg_cert.specs.Texts.{row_lines, rows_before, state_lines, act_line, found_of, body_lines, instr_of, kind_of, named_lines, finding_lines, findings_lines, cert_lines}
 use Rattle.pg_cert.specs.Validity.{may_remove, IsActUnder, IsValidFinding, IsValidCert}
+use Rattle.pg_cert.proofs.Fits.{instr_within}
 use Rattle.pg_cert.specs.InRange.{IsNumbered, IsFindingNumbered}
 
 -- ---- steps
@@ -330,11 +330,6 @@ module _ (d : Desc) (shape : IsShape (shape_of d)) where
   end_line : IsLine (shape_of d) End
   unfolding is_line
   end_line = refl
-
-  instr_within : (family : Family) (n findings instrs : ℕ) → findings ≡ instrs * kind_count family → n < findings →
-      instr_of family n < instrs
-  instr_within Plain n findings instrs e l = omega arith
-  instr_within Hybrid n findings instrs e l = omega arith
 
   module _ (question : Instr → Kind → List (List ℤ)) (heading : Heading) (cert : Cert) (valid : IsValidCert question heading d cert)
       (numbered : (n : ℕ) (f : Finding) (i : Instr) → slice_get cert.findings n ≡ Some f →

@@ -22,11 +22,10 @@ use Rattle.pg_cert.specs.declared.line.Line.{Line}
 use Rattle.pg_cert.specs.declared.line.Line.TheVariants as line
 use Rattle.pg_cert.specs.Lines.{most_budget}
 use Rattle.pg_cert.specs.Verdicts.{kind_count, mark_of}
-use Rattle.pg_cert.specs.Texts.{rows_before, act_line, family_of, instr_of, kind_of, name_of, findings_lines}
+use Rattle.pg_cert.specs.Texts.{rows_before, act_line, family_of, instr_of, kind_of, name_of, findings_lines, AreListed}
 use Rattle.pg_cert.specs.Validity.{may_remove, IsActUnder, IsValidFinding}
 use Rattle.pg_verify.specs.Reader.{Drawn, Pair, NoState, FirstSize, FirstState, SecondSize, BothStates, Open, Fresh, Between, Refuting, Showing, Spending, Ended, Mark, Progress}
 use Rattle.pg_verify.specs.Feeding.{kept}
-use Rattle.pg_verify.specs.Verified.{AreListed}
 
 -- ---- states
 

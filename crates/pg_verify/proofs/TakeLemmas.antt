@@ -19,12 +19,12 @@ use Rattle.pg_cert.specs.declared.line.Heading.{Heading}
 use Rattle.pg_cert.specs.declared.line.Line.TheVariants as line
 use Rattle.pg_cert.specs.Verdicts.{kind_count, mark_of}
 use Rattle.pg_cert.specs.Lines.{line_text}
-use Rattle.pg_cert.specs.Texts.{family_of, instr_of, kind_of, finding_lines, findings_lines, cert_lines, lines_text, cert_text}
+use Rattle.pg_cert.specs.Texts.{family_of, instr_of, kind_of, finding_lines, findings_lines, cert_lines, lines_text, cert_text, AreListed}
 use Rattle.pg_cert.specs.Validity.{may_remove, IsValidFinding}
 use Rattle.pg_verify.specs.Reader.{Open, Fresh, Between, Ended, Mark, Progress}
 use Rattle.pg_verify.specs.Taking.{then_take, misplaced, missing, with_open, closed, ended, after_end, same_family, after_first, after_form}
 use Rattle.pg_verify.specs.Feeding.{most_bytes, begun, fed, finished, verified, kept}
-use Rattle.pg_verify.specs.Verified.{AreListed, IsValidOf, IsTaken}
+use Rattle.pg_verify.specs.Verified.{IsValidOf, IsTaken}
 use Rattle.pg_verify.proofs.ReachLemmas.{spot, Fits, fits_front, fits_back, Reaches, reaches_none, reaches_then, reaches_cons}
 use Rattle.pg_verify.proofs.FindingReach.{IsReady, instr_small, finding_reaches}
 

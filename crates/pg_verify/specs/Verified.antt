@@ -1,7 +1,6 @@
 -- *verify-exact*: a text is not refused exactly where it is the one spelling of a valid certificate.
 use Rattle.std.specs.Prelude.{◌≡◌, ⊤, ℕ, ◌*◌, ◌<◌, ◌≤◌, List, length, map, Some, Ok, Err, slice_get}
 use Rattle.std.specs.List.{All, Contains}
-use Rattle.pg_word.specs.Sparse.{IsCellList}
 use Rattle.pg_ast.specs.declared.tree.Instr.{Instr}
 use Rattle.pg_ast.specs.declared.tree.Desc.{Desc}
 use Rattle.pg_meaning.specs.States.{State, shape_of}
@@ -10,23 +9,15 @@ use Rattle.pg_type.specs.declared.kind.Kind.{Kind}
 use Rattle.pg_type.specs.Kinds.{Shows}
 use Rattle.pg_ask.specs.Question.{question}
 use Rattle.pg_cert.specs.declared.cert.Family.{Family}
-use Rattle.pg_cert.specs.declared.cert.Finding.{Finding}
-use Rattle.pg_cert.specs.declared.cert.Finding.TheVariants as finding
 use Rattle.pg_cert.specs.declared.cert.Cert.{Cert}
 use Rattle.pg_cert.specs.declared.line.Heading.{Heading}
 use Rattle.pg_cert.specs.Verdicts.{kinds_of, kind_count, mark_of}
 use Rattle.pg_cert.specs.Lines.{IsLine}
-use Rattle.pg_cert.specs.Texts.{instr_of, kind_of, cert_lines, cert_text}
+use Rattle.pg_cert.specs.Texts.{instr_of, kind_of, cert_lines, cert_text, AreListed}
 use Rattle.pg_cert.specs.Validity.{IsValidCert}
 use Rattle.pg_verify.specs.declared.fault.VerifyFault.TheVariants as fault
 use Rattle.pg_verify.specs.Reader.{state_of, Mark, Refuted, Shown, Spent, Progress}
 use Rattle.pg_verify.specs.Feeding.{verified, kept, most_bytes}
-
--- the cells of states are listed in the one way. That they are within the size is part of what a listed state is
-abbrev pub AreListed : Finding → Type 0
-AreListed (finding.Refuted acts) = ⊤
-AreListed (finding.Shown s t) = IsCellList s.cells × IsCellList t.cells
-AreListed (finding.Spent k steps) = ⊤
 
 -- a certificate of the description that is valid for its questions, each line of which is in range
 pub record IsValidOf (heading : Heading) (d : Desc) (cert : Cert) : Type 0 where
