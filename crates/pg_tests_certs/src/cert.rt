@@ -124,12 +124,7 @@ fn each_family_has_its_own_first_line_and_kinds(rt: HostRuntime) -> Result<(), F
     let table: [(&str, &str, Told, Told); 6] = [
         (NONE, "pgcert 2\nend\n", Ok(Verdict::Accepted), first),
         (NONE, "pghybrid 1\nend\n", first, Ok(Verdict::Accepted)),
-        (
-            NONE,
-            "pghybrid 2\nend\n",
-            first,
-            Err(VerifyFault::Version),
-        ),
+        (NONE, "pghybrid 2\nend\n", first, Err(VerifyFault::Version)),
         (RTU, HYBRID, first, Ok(Verdict::Accepted)),
         (RTU, "pghybrid 1\nend\n", first, missing),
         (RTU, foreign, first, Err(VerifyFault::Grammar(2))),

@@ -11,12 +11,16 @@ use std::test::Fail;
 const SPENT: &str = "finding rtu privileged spent 1\ns 26 74 76 0 6 11 0\n";
 
 /// One step more, of the second clause and the step before.
-const SPENT_TWO: &str = "finding rtu privileged spent 2\ns 26 74 76 0 6 11 0\ns -10 26 76 0 2 852 0\n";
+const SPENT_TWO: &str =
+    "finding rtu privileged spent 2\ns 26 74 76 0 6 11 0\ns -10 26 76 0 2 852 0\n";
 
-/// The same step twice, and one step more than the budget has.
-const SAME_TWICE: &str = "finding rtu privileged spent 2\ns 26 74 76 0 6 11 0\ns 26 74 76 0 6 11 0\n";
+/// The same step twice.
+const SAME_TWICE: &str =
+    "finding rtu privileged spent 2\ns 26 74 76 0 6 11 0\ns 26 74 76 0 6 11 0\n";
 
-const ONE_MORE: &str = "finding rtu privileged spent 1\ns 26 74 76 0 6 11 0\ns -10 26 76 0 2 852 0\n";
+/// One step more than the budget has.
+const ONE_MORE: &str =
+    "finding rtu privileged spent 1\ns 26 74 76 0 6 11 0\ns -10 26 76 0 2 852 0\n";
 
 /// Of the question of the kind `control` the sixth clause is `-76 27`, and the eleventh `77 76 75`.
 const SPENT_CONTROL: &str = "finding rtu control spent 1\ns 27 75 77 0 6 11 0\n";
