@@ -1,7 +1,7 @@
 -- All findings of a machine, in order, are a certificate.
-use Rattle.std.proofs.Common.{◌≡◌, ℕ, zero, suc, ◌+◌, ◌*◌, ◌<◌, ◌≤◌, ◌⊎◌, inl, inr, true, List, [], ◌∷◌, ◌++◌, length, get_or, All, None, Some, refl, sym, ap, subst, ◌∙◌, arith}
+use Rattle.std.proofs.Common.{◌≡◌, ℕ, zero, suc, ◌*◌, ◌<◌, ◌≤◌, ◌⊎◌, inl, inr, true, List, [], ◌∷◌, ◌++◌, length, get_or, All, None, Some, refl, sym, ap, subst, ◌∙◌, arith}
 use Rattle.std.specs.Prelude.{slice_get}
-use Rattle.std.proofs.lemmas.Option.{same_Some, slice_get_within, slice_get-get_or, slice_get_cases}
+use Rattle.std.proofs.lemmas.Option.{same_Some, slice_get-get_or, slice_get_cases}
 use Rattle.pg_ast.specs.declared.tree.Instr.{Instr}
 use Rattle.pg_ast.specs.declared.tree.Desc.{Desc}
 use Rattle.pg_valid.specs.Valid.{IsValid}
@@ -16,7 +16,7 @@ use Rattle.pg_cert.specs.Texts.{AreListed, instr_of, kind_of, heading_of, family
 use Rattle.pg_cert.specs.Validity.{may_remove, IsValidCert}
 use Rattle.pg_cert.proofs.Fits.{instr_within}
 use Rattle.pg_cert.proofs.InRange.{cert_in_range}
-use Rattle.pg_classify.specs.Classified.{IsFound, IsFoundAt, AreFound, IsClassified}
+use Rattle.pg_classify.specs.Classified.{IsFoundAt, AreFound, IsClassified}
 
 -- ---- one more
 

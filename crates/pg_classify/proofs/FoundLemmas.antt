@@ -1,5 +1,6 @@
 -- What the answers of the solver are as findings.
-use Rattle.std.proofs.Common.{◌≡◌, ℕ, suc, ◌+◌, ◌^◌, ◌<◌, ◌≤◌, max, true, ℤ, List, [], ◌∷◌, ◌++◌, length, map, All, refl, sym, ap, subst, ◌∙◌, arith, length-append}
+use Rattle.std.specs.Prelude.{Result, Ok, Err, IfOk}
+use Rattle.std.proofs.Common.{◌≡◌, ℕ, suc, ◌+◌, ◌^◌, ◌<◌, ◌≤◌, ℤ, List, [], ◌∷◌, ◌++◌, length, map, All, refl, sym, ap, subst, arith, length-append}
 use Rattle.pg_word.specs.declared.sparse.Sparse.{Sparse}
 use Rattle.pg_ast.specs.declared.tree.Instr.{Instr}
 use Rattle.pg_ast.specs.declared.tree.Desc.{Desc}
@@ -18,12 +19,16 @@ use Rattle.pg_cert.specs.declared.cert.Finding.{Finding}
 use Rattle.pg_cert.specs.declared.cert.Finding.TheVariants.{Refuted, Shown, Spent}
 use Rattle.pg_cert.specs.declared.line.Heading.{Heading}
 use Rattle.pg_cert.specs.declared.line.Heading.TheVariants.{PlainTwo}
-use Rattle.pg_cert.specs.Lines.{most_budget, most_variable, most_number}
+use Rattle.pg_cert.specs.Lines.{most_budget}
 use Rattle.pg_cert.specs.Texts.{AreListed}
-use Rattle.pg_cert.specs.Validity.{may_remove, IsActUnder, IsValidFinding}
+use Rattle.pg_cert.specs.Validity.{IsActUnder, IsValidFinding}
 use Rattle.pg_cert.specs.InRange.{IsNumbered}
 use Rattle.pg_cert.proofs.InRange.{trimmed_may_stand}
-use Rattle.pg_classify.specs.Classified.{SpendsBudget, IsFound}
+use Rattle.pg_classify.specs.Classified.{IsFound}
+
+pub IfOk-weaker : {X E : Type 0} (P Q : X → Type 0) (r : Result X E) → ((x : X) → P x → Q x) → IfOk r P → IfOk r Q
+IfOk-weaker P Q (Ok x) f h = f x h
+IfOk-weaker P Q (Err e) f h = h
 
 -- ---- numbers
 

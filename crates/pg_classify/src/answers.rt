@@ -35,12 +35,7 @@ fn log_of(alloc: Global, steps: StepList) -> Result<ActList, AllocError>
 }
 
 /// The finding of steps that close: their log, trimmed. The error is want of memory.
-fn refuted(
-    alloc: Global,
-    cnf: &Cnf,
-    budget: u32,
-    steps: StepList,
-) -> Result<Finding, AllocError>
+fn refuted(alloc: Global, cnf: &Cnf, budget: u32, steps: StepList) -> Result<Finding, AllocError>
     requires closed { IsRefuted cnf.now.clauses budget steps }
     requires most { budget ≤ most_budget }
     ensures { IfOk result (λ f. (d : Desc) (i : Instr) (kind : Kinds) → IsFound cnf.now.clauses budget d i kind f) }

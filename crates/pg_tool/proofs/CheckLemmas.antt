@@ -18,6 +18,7 @@ use Rattle.pg_report.specs.Verdicts.{DoMarkWordsFit, verdict_text}
 use Rattle.pg_verify.specs.Reader.{Mark as KeptMark}
 use Rattle.pg_verify.specs.Feeding.{most_bytes, verified, kept}
 use Rattle.pg_verify.specs.Verified.{IsTaken}
+use Rattle.pg_verify.proofs.SpellLemmas.{taken_texts_spell}
 use Rattle.pg_verify.proofs.TakeLemmas.{valid_texts_are_taken}
 use Rattle.pg_tool.specs.declared.status.Status.{Status}
 use Rattle.pg_tool.specs.Certificates.{IsCertificate}
@@ -61,10 +62,12 @@ module _ (d : Desc) (budget : ℕ) (bytes : List ℕ) (report : Report) (valid :
       valid_texts_are_taken d (heading_of Plain) h.cert valid
       (record { valid = h.found.valid; in_range = h.found.in_range; listed = h.found.listed })
       (subst (λ bs. length bs ≤ most_bytes) h.text few) in
+      let verified_so : verified d Plain bytes ≡ Ok taken.progress =
+      ap (verified d Plain) h.text ∙ ap (λ f. verified d f (cert_text d (heading_of Plain) h.cert)) (sym h.found.of_family) ∙ taken.taken in
       record {
         progress = taken.progress;
-        taken = ap (verified d Plain) h.text ∙ ap (λ f. verified d f (cert_text d (heading_of Plain) h.cert)) (sym h.found.of_family)
-            ∙ taken.taken;
+        taken = verified_so;
+        spelled = taken_texts_spell d Plain bytes taken.progress verified_so;
         kept = record {
           family = h.family ∙ sym h.found.of_family ∙ sym taken.family;
           marks = ap (map kept) h.marks ∙ kept_marks h.cert.findings ∙ sym taken.marks;

@@ -69,7 +69,7 @@ fn prepare_check<F: Shelf>(
         Ok(machine) => machine,
         Err(stop) => return Err(stop),
     };
-    match checked(alloc, machine, words.budget.get()) {
+    match checked(alloc, machine, words.budget.clauses()) {
         Ok(plan) => Ok(plan),
         Err(_) => Err(Stop::Memory),
     }
