@@ -20,7 +20,6 @@ use Rattle.pg_symex.proofs.RunLaw.{all_run_right}
 use Rattle.pg_type.specs.declared.kind.Kind.{Kind}
 use Rattle.pg_symex.specs.There.{AreBits}
 use Rattle.pg_ask.specs.declared.unknowns.Unknowns.{Unknowns}
-use Rattle.pg_ask.specs.declared.ends.End.{End}
 use Rattle.pg_ask.specs.declared.ends.BothEnds.{BothEnds}
 use Rattle.pg_ask.specs.Unknowns.{unknowns_made}
 use Rattle.pg_ask.specs.There.{AreUnknowns, AreEnd}
