@@ -20,7 +20,6 @@ use Rattle.pg_symex.proofs.RunLaw.{all_run_right}
 use Rattle.pg_type.specs.declared.kind.Kind.{Kind}
 use Rattle.pg_symex.specs.There.{AreBits}
 use Rattle.pg_ask.specs.declared.unknowns.Unknowns.{Unknowns}
-use Rattle.pg_ask.specs.declared.ends.End.{End}
 use Rattle.pg_ask.specs.declared.ends.BothEnds.{BothEnds}
 use Rattle.pg_ask.specs.Unknowns.{unknowns_made}
 use Rattle.pg_ask.specs.There.{AreUnknowns, AreEnd}
@@ -52,29 +51,33 @@ begun_step d kind n1 n2 u word t0 t1 eu ev ew ec =
     here ∙ ap of eu
 
 -- the root of runs that are what is due
-pub rooted_step : (kind : Kind) (u : Unknowns) (v : List Gate) (fits : Gate) (due : Both) (e : BothEnds) (root : Gate) (n4 n5 : List Node)
-    (cells : List Cell) → AreBoth due e n4 cells → (root, n5) ≡ root_made kind u v fits n4 cells e.first e.second →
+pub rooted_step : (kind : Kind) (u : Unknowns) (v : List Gate) (fits : Gate) (due : Both) (e : BothEnds)
+    (root : Gate) (n4 n5 : List Node) (cells : List Cell) → AreBoth due e n4 cells →
+    (root, n5) ≡ root_made kind u v fits n4 cells e.first e.second →
     IsRoot kind u v fits due root n5 cells
 rooted_step kind u v fits due e root n4 n5 cells eb er =
-    let whole : root_made kind u v fits n4 cells e.first e.second ≡ root_made kind u v fits due.nodes due.cells due.first due.second =
+    let whole : root_made kind u v fits n4 cells e.first e.second ≡
+    root_made kind u v fits due.nodes due.cells due.first due.second =
     (λ j. root_made kind u v fits (eb.nodes_are j) (eb.cells_are j) (eb.first_is j) (eb.second_is j)) in
     record { root_is = er ∙ whole; cells_are = eb.cells_are }
 
 -- the clauses of that root
-pub written_step : (kind : Kind) (u : Unknowns) (v : List Gate) (fits : Gate) (due : Both) (root : Gate) (nodes : List Node) (cells : List Cell)
-    (clauses : List (List ℤ)) → IsRoot kind u v fits due root nodes cells → clauses ≡ clauses_of nodes root →
-    AreWritten kind u v fits due clauses cells
+pub written_step : (kind : Kind) (u : Unknowns) (v : List Gate) (fits : Gate) (due : Both) (root : Gate)
+    (nodes : List Node) (cells : List Cell) (clauses : List (List ℤ)) →
+    IsRoot kind u v fits due root nodes cells → clauses ≡ clauses_of nodes root → AreWritten kind u v fits due clauses cells
 written_step kind u v fits due root nodes cells clauses r e = record {
   clauses_are = e ∙ ap (λ (m : Gate × List Node). clauses_of m.1 m.0) r.root_is;
   cells_are = r.cells_are;
 }
 
 -- what was asked
-pub drawn_step : (d : Desc) (i : Instr) (kind : Kind) (n1 n3 : List Node) (u : Unknowns) (usable : List Gate) (gate : Gate) (t0 t1 : View)
-    (cells : List Cell) (clauses : List (List ℤ)) → (u, n1) ≡ unknowns_made kind d.address (Constant ∷ []) → t0 ≡ view_for d [] [] →
+pub drawn_step : (d : Desc) (i : Instr) (kind : Kind) (n1 n3 : List Node) (u : Unknowns) (usable : List Gate)
+    (gate : Gate) (t0 t1 : View) (cells : List Cell) (clauses : List (List ℤ)) →
+    (u, n1) ≡ unknowns_made kind d.address (Constant ∷ []) → t0 ≡ view_for d [] [] →
     (let t = touch_made n1 t0 u.p in ((usable, gate), n3) ≡ fits_made d i kind u t.0 t.1) →
     t1 ≡ record t0 { cells = cells_after n1 t0.w t0.cells u.p } →
-    AreWritten kind u usable gate (both_made d i u usable n3 t1.cells) clauses cells → IsQuestionOf d i kind clauses u usable cells
+    AreWritten kind u usable gate (both_made d i u usable n3 t1.cells) clauses cells →
+    IsQuestionOf d i kind clauses u usable cells
 unfolding question_made
 drawn_step d i kind n1 n3 u usable gate t0 t1 cells clauses eu ev ef ec er =
     let q4 : Begun → (List Gate × Gate) × List Node → Both → Question = λ b f both.
@@ -132,11 +135,13 @@ pub unknowns_as_due : (kind : Kind) (a b : ℕ) (n0 n1 ns : List Node) (u : Unkn
 unknowns_as_due kind a b n0 n1 ns u ea en e = e ∙ ap (λ k. unknowns_made kind k n0) ea ∙ ap (λ k. unknowns_made kind b k) en
 
 -- what fits the instruction that was found fits the one with its number
-pub fitted_as : (d : Desc) (k : ℕ) (kind : Kind) (body : Instr) (n1 n2 n3 : List Node) (u : Unknowns) (word usable : List Gate) (gate : Gate)
+pub fitted_as : (d : Desc) (k : ℕ) (kind : Kind) (body : Instr) (n1 n2 n3 : List Node) (u : Unknowns)
+    (word usable : List Gate) (gate : Gate)
     (t0 : View) → slice_get d.instrs k ≡ Some body → (word, n2) ≡ touch_made n1 t0 u.p →
     ((usable, gate), n3) ≡ fits_made d body kind u word n2 → (i : Instr) → slice_get d.instrs k ≡ Some i →
     (let t = touch_made n1 t0 u.p in ((usable, gate), n3) ≡ fits_made d i kind u t.0 t.1)
 fitted_as d k kind body n1 n2 n3 u word usable gate t0 found ew ef i here =
     let both : Some body ≡ Some i = sym found ∙ here in
     let same : body ≡ i = cc both in
-    ef ∙ ap (λ z. fits_made d z kind u word n2) same ∙ ap (λ (m : List Gate × List Node). fits_made d i kind u m.0 m.1) ew
+    ef ∙ ap (λ z. fits_made d z kind u word n2) same
+    ∙ ap (λ (m : List Gate × List Node). fits_made d i kind u m.0 m.1) ew

@@ -35,5 +35,6 @@ pub record IsRoot (kind : Kind) (u : Unknowns) (v : List Gate) (fits : Gate) (du
 
 -- the clauses of that root, over the cells that there are then
 pub record AreWritten (kind : Kind) (u : Unknowns) (v : List Gate) (fits : Gate) (due : Both) (clauses : List (List ℤ)) (cells : List Cell) : Type 0 where
-  pub clauses_are : clauses ≡ (let root = root_made kind u v fits due.nodes due.cells due.first due.second in clauses_of root.1 root.0)
+  pub clauses_are : clauses ≡ (let root = root_made kind u v fits due.nodes due.cells due.first due.second in
+      clauses_of root.1 root.0)
   pub cells_are : cells ≡ due.cells

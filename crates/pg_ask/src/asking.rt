@@ -156,7 +156,7 @@ fn draw(
     draw_in(alloc, machine, instr, kind, &mut circuit, touched)
 }
 
-/// The same in a circuit of the constant alone.
+/// The same in a circuit of the constant alone. The error is want of memory.
 fn draw_in(
     alloc: Global,
     machine: &Machine,
@@ -208,7 +208,7 @@ fn show(
     Ok((cnf, usable))
 }
 
-/// The clauses, of what fits on. The error is want of memory.
+/// The clauses, from the gate that all of it fits. The error is want of memory.
 fn clauses(
     alloc: Global,
     machine: &Machine,

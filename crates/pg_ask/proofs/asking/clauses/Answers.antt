@@ -26,7 +26,8 @@ written-requires c = c.in_ok-root.ensures.there
 pub returns-clause-made : goal.returns-clause-made
 returns-clause-made c =
     IfOk-weaker c.written.result _ _
-    (λ cnf made i here. written_step c.args.kind c.args.u.now c.args.v.now c.args.gate _ c.in_ok-root.root c.end_so.new.circuit.nodes
+    (λ cnf made i here. written_step c.args.kind c.args.u.now c.args.v.now c.args.gate _ c.in_ok-root.root
+    c.end_so.new.circuit.nodes
     c.end_so.new.touched.cells cnf.clauses (c.in_ok-root.ensures.made i here) made)
     c.written.ensures.clauses
 

@@ -7,7 +7,8 @@ use Rattle.pg_ask.proofs.asking.draw_in.Goals as goal
 
 pub unknowns_of-requires : goal.unknowns_of-requires
 unknowns_of-requires c =
-    subst IsWidth (sym (ap (λ (s : Shape). s.a) c.shape.ensures.numbers)) (IsWidth-address c.args.machine.now.desc c.args.machine.now.valid)
+    subst IsWidth (sym (ap (λ (s : Shape). s.a) c.shape.ensures.numbers))
+    (IsWidth-address c.args.machine.now.desc c.args.machine.now.valid)
 
 pub show-requires-clause-instr : goal.show-requires-clause-instr
 show-requires-clause-instr c = c.requires.instr
@@ -25,7 +26,8 @@ show-requires-clause-unknowns c =
 
 pub show-requires-clause-begun : goal.show-requires-clause-begun
 show-requires-clause-begun c =
-    unknowns_as_due c.args.kind _ c.args.machine.now.desc.address _ _ _ _ (ap (λ (s : Shape). s.a) c.shape.ensures.numbers)
+    unknowns_as_due c.args.kind _ c.args.machine.now.desc.address _ _ _ _
+    (ap (λ (s : Shape). s.a) c.shape.ensures.numbers)
     c.requires.nodes c.in_ok-unknowns.ensures.made
 
 pub returns-clause-made : goal.returns-clause-made

@@ -10,12 +10,14 @@ pub root-requires-clause-unknowns : goal.root-requires-clause-unknowns
 root-requires-clause-unknowns c =
     unknowns_width (length c.both.new.circuit.nodes) c.args.machine.now.desc.address (length c.args.v.now) c.args.u.now
     (sym c.requires.usable.wide)
-    (unknowns_on c.args.circuit.now.nodes c.both.new.circuit.nodes _ c.args.u.now c.in_ok-ended.ensures.kept c.requires.unknowns)
+    (unknowns_on c.args.circuit.now.nodes c.both.new.circuit.nodes _ c.args.u.now c.in_ok-ended.ensures.kept
+    c.requires.unknowns)
 
 pub root-requires-clause-usable : goal.root-requires-clause-usable
 root-requires-clause-usable c =
     width_is (length c.both.new.circuit.nodes) _ c.args.v.now
-    (bits_on c.args.circuit.now.nodes c.both.new.circuit.nodes _ c.args.v.now c.in_ok-ended.ensures.kept c.requires.usable)
+    (bits_on c.args.circuit.now.nodes c.both.new.circuit.nodes _ c.args.v.now c.in_ok-ended.ensures.kept
+    c.requires.usable)
 
 pub root-requires-clause-gate : goal.root-requires-clause-gate
 root-requires-clause-gate c =
@@ -23,7 +25,8 @@ root-requires-clause-gate c =
 
 pub root-requires-clause-ends : goal.root-requires-clause-ends
 root-requires-clause-ends c =
-    ends_width (length c.both.new.circuit.nodes) _ _ _ _ c.in_ok-ended.ended (sym (ap (λ (v : View). v.w) c.in_ok-ended.ensures.view))
+    ends_width (length c.both.new.circuit.nodes) _ _ _ _ c.in_ok-ended.ended
+    (sym (ap (λ (v : View). v.w) c.in_ok-ended.ensures.view))
     (sym c.requires.usable.wide) c.in_ok-ended.ensures.there
 
 pub returns-clause-made : goal.returns-clause-made

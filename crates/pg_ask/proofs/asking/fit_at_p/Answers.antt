@@ -19,11 +19,13 @@ touch-requires-clause-width c = c.requires.unknowns.p.wide ∙ sym (ap (λ (v : 
 
 pub fit-requires-clause-unknowns : goal.fit-requires-clause-unknowns
 fit-requires-clause-unknowns c =
-    unknowns_on c.args.circuit.now.nodes c.touch.new.circuit.nodes _ c.args.u.now c.touch.ensures.grows.front c.requires.unknowns
+    unknowns_on c.args.circuit.now.nodes c.touch.new.circuit.nodes _ c.args.u.now c.touch.ensures.grows.front
+    c.requires.unknowns
 
 pub fit-requires-clause-word : goal.fit-requires-clause-word
 fit-requires-clause-word c =
-    word_bits c.args.machine.now.desc c.args.instr c.index-instrs-instr.result (length c.touch.new.circuit.nodes) _ c.in_ok-word.word
+    word_bits c.args.machine.now.desc c.args.instr c.index-instrs-instr.result (length c.touch.new.circuit.nodes) _
+    c.in_ok-word.word
     c.args.machine.now.valid
     (found_instr c.as_slice-instrs.result.now c.args.machine.now.desc.instrs c.args.instr c.index-instrs-instr.result
     c.as_slice-instrs.ensures c.requires.instr c.index-instrs-instr.is)
@@ -32,7 +34,8 @@ fit-requires-clause-word c =
 pub returns-clause-made : goal.returns-clause-made
 returns-clause-made c =
     IfOk-weaker c.fit.result _ _
-    (λ f made. fitted_as c.args.machine.now.desc c.args.instr c.args.kind c.index-instrs-instr.result c.args.circuit.now.nodes
+    (λ f made. fitted_as c.args.machine.now.desc c.args.instr c.args.kind c.index-instrs-instr.result
+    c.args.circuit.now.nodes
     c.touch.new.circuit.nodes c.fit.new.circuit.nodes c.args.u.now c.in_ok-word.word f.usable f.gate c.args.touched.now
     (found_instr c.as_slice-instrs.result.now c.args.machine.now.desc.instrs c.args.instr c.index-instrs-instr.result
     c.as_slice-instrs.ensures c.requires.instr c.index-instrs-instr.is)
@@ -45,14 +48,16 @@ returns-clause-cells c = IfOk-weaker c.fit.result _ _ (λ f made. c.in_ok-word.e
 pub returns-clause-over : goal.returns-clause-over
 returns-clause-over c =
     IfOk-weaker c.fit.result _ _
-    (λ f there. IsOver-later c.touch.new.circuit.nodes c.fit.new.circuit.nodes c.touch.new.self there.front c.touch.ensures.over)
+    (λ f there. IsOver-later c.touch.new.circuit.nodes c.fit.new.circuit.nodes c.touch.new.self there.front
+    c.touch.ensures.over)
     c.fit.ensures.there
 
 pub returns-clause-there : goal.returns-clause-there
 returns-clause-there c =
     IfOk-weaker c.fit.result _ _
     (λ f there. record {
-      front = front_then c.args.circuit.now.nodes c.touch.new.circuit.nodes c.fit.new.circuit.nodes c.touch.ensures.grows.front there.front;
+      front = front_then c.args.circuit.now.nodes c.touch.new.circuit.nodes c.fit.new.circuit.nodes
+          c.touch.ensures.grows.front there.front;
       are_bits = there.are_bits;
     })
     c.fit.ensures.there
