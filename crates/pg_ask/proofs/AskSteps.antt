@@ -1,5 +1,5 @@
 -- A question in code is the one that is defined.
-use Rattle.std.proofs.Common.{◌≡◌, ℕ, zero, suc, ℤ, List, [], ◌∷◌, length, get_or, slice_get, Some, sym, ap, ◌∙◌, subst}
+use Rattle.std.proofs.Common.{◌≡◌, ℕ, zero, suc, ℤ, List, [], ◌∷◌, length, get_or, slice_get, Some, refl, sym, ap, ◌∙◌, subst}
 use Rattle.pg_circuit.specs.declared.node.Gate.{Gate}
 use Rattle.pg_circuit.specs.declared.node.Node.{Node}
 use Rattle.pg_circuit.specs.declared.node.Node.TheVariants.{Constant}
@@ -20,13 +20,12 @@ use Rattle.pg_symex.proofs.RunLaw.{all_run_right}
 use Rattle.pg_type.specs.declared.kind.Kind.{Kind}
 use Rattle.pg_symex.specs.There.{AreBits}
 use Rattle.pg_ask.specs.declared.unknowns.Unknowns.{Unknowns}
-use Rattle.pg_ask.specs.declared.ends.End.{End}
 use Rattle.pg_ask.specs.declared.ends.BothEnds.{BothEnds}
 use Rattle.pg_ask.specs.Unknowns.{unknowns_made}
 use Rattle.pg_ask.specs.There.{AreUnknowns, AreEnd}
 use Rattle.pg_ask.specs.Fits.{fits_made}
 use Rattle.pg_ask.specs.Ends.{view_for, Both, both_made}
-use Rattle.pg_ask.specs.Ended.{AreBoth, AreEnds}
+use Rattle.pg_ask.specs.Ended.{AreBoth, AreEnds, IsRoot, AreWritten}
 use Rattle.pg_ask.specs.Question.{Begun, begun_made, Question, root_made, question_made, question}
 use Rattle.pg_ask.specs.Asked.{Decides, IsQuestionOf}
 use Rattle.pg_ask.proofs.ExactLaw.{questions-exact}
@@ -51,24 +50,51 @@ begun_step d kind n1 n2 u word t0 t1 eu ev ew ec =
     λ j. record { unknowns = u; word = bits j; nodes = nodes j; cells = cells j }) in
     here ∙ ap of eu
 
-pub asked_step : (d : Desc) (i : Instr) (kind : Kind) (n1 n2 n3 n4 n5 : List Node) (u : Unknowns) (word usable : List Gate) (gate root : Gate) (t0 t1 : View) (cells : List Cell) (e : BothEnds) → (u, n1) ≡ unknowns_made kind d.address (Constant ∷ []) → t0 ≡ view_for d [] [] →
-    (word, n2) ≡ touch_made n1 t0 u.p → t1 ≡ record t0 { cells = cells_after n1 t0.w t0.cells u.p } → ((usable, gate), n3) ≡ fits_made d i kind u word n2 → AreBoth (both_made d i u usable n3 t1.cells) e n4 cells →
-    (root, n5) ≡ root_made kind u usable gate n4 cells e.first e.second → (let q : Question = record { nodes = n5; root = root; unknowns = u; usable = usable; cells = cells } in q) ≡ question_made d i kind
+-- the root of runs that are what is due
+pub rooted_step : (kind : Kind) (u : Unknowns) (v : List Gate) (fits : Gate) (due : Both) (e : BothEnds)
+    (root : Gate) (n4 n5 : List Node) (cells : List Cell) → AreBoth due e n4 cells →
+    (root, n5) ≡ root_made kind u v fits n4 cells e.first e.second →
+    IsRoot kind u v fits due root n5 cells
+rooted_step kind u v fits due e root n4 n5 cells eb er =
+    let whole : root_made kind u v fits n4 cells e.first e.second ≡
+    root_made kind u v fits due.nodes due.cells due.first due.second =
+    (λ j. root_made kind u v fits (eb.nodes_are j) (eb.cells_are j) (eb.first_is j) (eb.second_is j)) in
+    record { root_is = er ∙ whole; cells_are = eb.cells_are }
+
+-- the clauses of that root
+pub written_step : (kind : Kind) (u : Unknowns) (v : List Gate) (fits : Gate) (due : Both) (root : Gate)
+    (nodes : List Node) (cells : List Cell) (clauses : List (List ℤ)) →
+    IsRoot kind u v fits due root nodes cells → clauses ≡ clauses_of nodes root → AreWritten kind u v fits due clauses cells
+written_step kind u v fits due root nodes cells clauses r e = record {
+  clauses_are = e ∙ ap (λ (m : Gate × List Node). clauses_of m.1 m.0) r.root_is;
+  cells_are = r.cells_are;
+}
+
+-- what was asked
+pub drawn_step : (d : Desc) (i : Instr) (kind : Kind) (n1 n3 : List Node) (u : Unknowns) (usable : List Gate)
+    (gate : Gate) (t0 t1 : View) (cells : List Cell) (clauses : List (List ℤ)) →
+    (u, n1) ≡ unknowns_made kind d.address (Constant ∷ []) → t0 ≡ view_for d [] [] →
+    (let t = touch_made n1 t0 u.p in ((usable, gate), n3) ≡ fits_made d i kind u t.0 t.1) →
+    t1 ≡ record t0 { cells = cells_after n1 t0.w t0.cells u.p } →
+    AreWritten kind u usable gate (both_made d i u usable n3 t1.cells) clauses cells →
+    IsQuestionOf d i kind clauses u usable cells
 unfolding question_made
-asked_step d i kind n1 n2 n3 n4 n5 u word usable gate root t0 t1 cells e eu ev ew ec ef eb er =
+drawn_step d i kind n1 n3 u usable gate t0 t1 cells clauses eu ev ef ec er =
     let q4 : Begun → (List Gate × Gate) × List Node → Both → Question = λ b f both.
-    (let r = root_made kind b.unknowns f.0.0 f.0.1 both.nodes both.cells both.first both.second in record { nodes = r.1; root = r.0; unknowns = b.unknowns; usable = f.0.0; cells = both.cells }) in
+    (let r = root_made kind b.unknowns f.0.0 f.0.1 both.nodes both.cells both.first both.second in
+    record { nodes = r.1; root = r.0; unknowns = b.unknowns; usable = f.0.0; cells = both.cells }) in
     let q3 : Begun → (List Gate × Gate) × List Node → Question = λ b f. q4 b f (both_made d i b.unknowns f.0.0 f.1 b.cells) in
     let q2 : Begun → Question = λ b. q3 b (fits_made d i kind b.unknowns b.word b.nodes) in
-    let b : Begun = record { unknowns = u; word = word; nodes = n2; cells = t1.cells } in
-    let both : Both = record { first = e.first; second = e.second; nodes = n4; cells = cells } in
-    let due = both_made d i u usable n3 t1.cells in
-    let both_is : both ≡ due = λ j. record { first = eb.first_is j; second = eb.second_is j; nodes = eb.nodes_are j; cells = eb.cells_are j } in
-    let made = root_made kind u usable gate n4 cells e.first e.second in
-    let nodes : n5 ≡ made.1 = ap (λ (p : Gate × List Node). p.1) er in
-    let gate_is : root ≡ made.0 = ap (λ (p : Gate × List Node). p.0) er in
-    let last : (let q : Question = record { nodes = n5; root = root; unknowns = u; usable = usable; cells = cells } in q) ≡ q4 b ((usable, gate), n3) both = λ j. record { nodes = nodes j; root = gate_is j; unknowns = u; usable = usable; cells = cells } in
-    last ∙ ap (q4 b ((usable, gate), n3)) both_is ∙ ap (q3 b) ef ∙ ap q2 (begun_step d kind n1 n2 u word t0 t1 eu ev ew ec)
+    let m = touch_made n1 t0 u.p in
+    let b : Begun = record { unknowns = u; word = m.0; nodes = m.1; cells = t1.cells } in
+    let e : q3 b ((usable, gate), n3) ≡ question_made d i kind =
+    ap (q3 b) ef ∙ ap q2 (begun_step d kind n1 m.1 u m.0 t0 t1 eu ev refl ec) in
+    record {
+      clauses_are = er.clauses_are ∙ ap (λ (q : Question). clauses_of q.nodes q.root) e;
+      unknowns = ap (λ (q : Question). q.unknowns) e;
+      usable_are = ap (λ (q : Question). q.usable) e;
+      cells_are = er.cells_are ∙ ap (λ (q : Question). q.cells) e;
+    }
 
 -- ---- the parts of a question
 
@@ -90,16 +116,6 @@ found_at (x ∷ is) (suc k) d i e = found_at is k d i e
 pub unknowns_width : (places a b : ℕ) (u : Unknowns) → a ≡ b → AreUnknowns places a u → AreUnknowns places b u
 unknowns_width places a b u e h = subst (λ k. AreUnknowns places k u) e h
 
--- what was asked
-pub question_of : (d : Desc) (i : Instr) (kind : Kind) (nodes : List Node) (root : Gate) (u : Unknowns) (usable : List Gate) (cells : List Cell) (clauses : List (List ℤ)) → clauses ≡ clauses_of nodes root →
-    (let q : Question = record { nodes = nodes; root = root; unknowns = u; usable = usable; cells = cells } in q) ≡ question_made d i kind → IsQuestionOf d i kind clauses u usable cells
-question_of d i kind nodes root u usable cells clauses ec e = record {
-  clauses_are = ec ∙ ap (λ (q : Question). clauses_of q.nodes q.root) e;
-  unknowns = ap (λ (q : Question). q.unknowns) e;
-  usable_are = ap (λ (q : Question). q.usable) e;
-  cells_are = ap (λ (q : Question). q.cells) e;
-}
-
 pub decides : (d : Desc) (k : ℕ) (i : Instr) (kind : Kind) (clauses : List (List ℤ)) → IsValid d → slice_get d.instrs k ≡ Some i → clauses ≡ question d i kind → Decides d i kind clauses
 decides d k i kind clauses valid here e = subst (λ cs. Decides d i kind cs) (sym e) (questions-exact d (all_run_right d) k i kind valid here)
 
@@ -118,10 +134,14 @@ word_bits d k i places w word valid here t e ew =
 pub unknowns_as_due : (kind : Kind) (a b : ℕ) (n0 n1 ns : List Node) (u : Unknowns) → a ≡ b → n0 ≡ ns → (u, n1) ≡ unknowns_made kind a n0 → (u, n1) ≡ unknowns_made kind b ns
 unknowns_as_due kind a b n0 n1 ns u ea en e = e ∙ ap (λ k. unknowns_made kind k n0) ea ∙ ap (λ k. unknowns_made kind b k) en
 
-pub asked_all : (d : Desc) (k : ℕ) (kind : Kind) (body : Instr) (n1 n2 n3 n4 n5 : List Node) (u : Unknowns) (word usable : List Gate) (gate root : Gate) (t0 t1 : View) (cells : List Cell) (e : BothEnds) (clauses : List (List ℤ)) → slice_get d.instrs k ≡ Some body → (u, n1) ≡ unknowns_made kind d.address (Constant ∷ []) →
-    t0 ≡ view_for d [] [] → (word, n2) ≡ touch_made n1 t0 u.p → t1 ≡ record t0 { cells = cells_after n1 t0.w t0.cells u.p } → ((usable, gate), n3) ≡ fits_made d body kind u word n2 → ((i : Instr) → slice_get d.instrs k ≡ Some i → AreBoth (both_made d i u usable n3 t1.cells) e n4 cells) →
-    (root, n5) ≡ root_made kind u usable gate n4 cells e.first e.second → clauses ≡ clauses_of n5 root → (i : Instr) → slice_get d.instrs k ≡ Some i → IsQuestionOf d i kind clauses u usable cells
-asked_all d k kind body n1 n2 n3 n4 n5 u word usable gate root t0 t1 cells e clauses found eu ev ew ec ef eb er en i here =
+-- what fits the instruction that was found fits the one with its number
+pub fitted_as : (d : Desc) (k : ℕ) (kind : Kind) (body : Instr) (n1 n2 n3 : List Node) (u : Unknowns)
+    (word usable : List Gate) (gate : Gate)
+    (t0 : View) → slice_get d.instrs k ≡ Some body → (word, n2) ≡ touch_made n1 t0 u.p →
+    ((usable, gate), n3) ≡ fits_made d body kind u word n2 → (i : Instr) → slice_get d.instrs k ≡ Some i →
+    (let t = touch_made n1 t0 u.p in ((usable, gate), n3) ≡ fits_made d i kind u t.0 t.1)
+fitted_as d k kind body n1 n2 n3 u word usable gate t0 found ew ef i here =
     let both : Some body ≡ Some i = sym found ∙ here in
     let same : body ≡ i = cc both in
-    question_of d i kind n5 root u usable cells clauses en (asked_step d i kind n1 n2 n3 n4 n5 u word usable gate root t0 t1 cells e eu ev ew ec (ef ∙ ap (λ z. fits_made d z kind u word n2) same) (eb i here) er)
+    ef ∙ ap (λ z. fits_made d z kind u word n2) same
+    ∙ ap (λ (m : List Gate × List Node). fits_made d i kind u m.0 m.1) ew

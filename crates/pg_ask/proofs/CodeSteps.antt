@@ -15,7 +15,6 @@ use Rattle.pg_vec.proofs.Kept.{front_same, front_then}
 use Rattle.pg_vec.specs.Strings.{sub_made, lt_made, mux_made, same_made}
 use Rattle.pg_cells.specs.Made.{inputs_made}
 use Rattle.pg_cells.proofs.TouchLaws.{length-gates_from}
-use Rattle.pg_word.specs.Shape.{IsShape}
 use Rattle.pg_ast.specs.declared.tree.Instr.{Instr}
 use Rattle.pg_ast.specs.declared.tree.Desc.{Desc}
 use Rattle.pg_valid.specs.Valid.{IsValid}

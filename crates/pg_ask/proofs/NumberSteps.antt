@@ -1,16 +1,12 @@
 -- Numbers under an assignment, bit by bit from the highest.
-use Rattle.std.proofs.Common.{◌≡◌, ℕ, zero, suc, ◌+◌, ◌-◌, ◌*◌, ◌^◌, ◌<◌, ◌≤◌, ◌==◌, Bool, true, false, List, [], ◌∷◌, ◌++◌, length, map, drop, get_or, refl, sym, ap, ◌∙◌, subst, arith, append_assoc, append-nil, pow_mono}
+use Rattle.std.proofs.Common.{◌≡◌, ℕ, ◌+◌, ◌-◌, ◌*◌, ◌^◌, ◌<◌, ◌≤◌, Bool, false, List, [], ◌∷◌, ◌++◌, length, drop, get_or, refl, sym, ap, ◌∙◌, subst, arith, append_assoc, append-nil, pow_mono}
 use Rattle.std.specs.Prelude.{if◌then◌else◌}
-use Rattle.std.specs.List.{All}
 use Rattle.std.proofs.lemmas.List.{drop_more, drop_all, length-drop}
 use Rattle.pg_circuit.specs.declared.node.Gate.{Gate}
 use Rattle.pg_circuit.specs.Values.{gate_value}
 use Rattle.pg_circuit.specs.Made.{constant_gate}
-use Rattle.pg_word.specs.declared.psw.Mode.{Mode}
-use Rattle.pg_word.specs.declared.psw.Mode.TheVariants.{S, U}
-use Rattle.pg_word.specs.Psw.{mode_of}
 use Rattle.pg_vec.specs.Number.{number, bit_of}
-use Rattle.pg_vec.proofs.Sums.{bit_of-if, pow-more}
+use Rattle.pg_vec.proofs.Sums.{bit_of-if}
 use Rattle.pg_vec.proofs.EachLaws.{number-below}
 use Rattle.pg_cells.specs.declared.cell.Cell.{Cell}
 use Rattle.pg_ask.specs.Means.{named_cells}

@@ -4,7 +4,6 @@ use Rattle.pg_circuit.specs.declared.node.Gate.{Gate}
 use Rattle.pg_circuit.specs.declared.node.Node.{Node}
 use Rattle.pg_circuit.specs.Nodes.{IsCircuit}
 use Rattle.pg_circuit.specs.Grown.{GrowsTo}
-use Rattle.pg_vec.proofs.Kept.{front_then}
 use Rattle.pg_cells.specs.declared.cell.Cell.{Cell}
 use Rattle.pg_cells.specs.View.{View}
 use Rattle.pg_cells.specs.Over.{IsOver}
@@ -21,13 +20,11 @@ use Rattle.pg_symex.specs.Outcome.{IsOutcome}
 use Rattle.pg_symex.proofs.RunLaw.{all_run_right}
 use Rattle.pg_ask.specs.declared.unknowns.Unknowns.{Unknowns}
 use Rattle.pg_ask.specs.declared.ends.End.{End}
-use Rattle.pg_ask.specs.declared.ends.BothEnds.{BothEnds}
 use Rattle.pg_ask.specs.Unknowns.{first_regs, second_regs}
 use Rattle.pg_ask.specs.There.{AreUnknowns, AreEnd}
-use Rattle.pg_ask.specs.Ends.{end_of, view_for, Ended, end_made, Both, both_made}
-use Rattle.pg_ask.specs.Ended.{IsEnded, AreBoth, AreEnds}
-use Rattle.pg_ask.proofs.ThereLaws.{end_on}
-use Rattle.pg_ask.proofs.BothLaws.{EndIs, end-is}
+use Rattle.pg_ask.specs.Ends.{view_for, end_made, both_made}
+use Rattle.pg_ask.specs.Ended.{IsEnded, AreBoth}
+use Rattle.pg_ask.proofs.BothLaws.{end-is}
 
 -- an instruction of a number below the count
 pub some_at : (is : List Instr) (k : ℕ) → k < length is → (i : Instr) × (slice_get is k ≡ Some i)

@@ -1,5 +1,5 @@
 -- The states of a question that was asked, as its fields have it.
-use Rattle.std.proofs.Common.{◌≡◌, ℕ, ◌<◌, ◌≤◌, Bool, true, ℤ, List, length, slice_get, Some, refl, sym, ap, ◌∙◌, subst, arith}
+use Rattle.std.proofs.Common.{◌≡◌, ℕ, ◌≤◌, Bool, true, ℤ, List, length, slice_get, Some, sym, ap, ◌∙◌, subst, arith}
 use Rattle.std.specs.List.{All}
 use Rattle.std.proofs.lemmas.List.Elements.{All-weaker}
 use Rattle.pg_circuit.specs.declared.node.Gate.{Gate}
@@ -13,7 +13,6 @@ use Rattle.pg_cells.proofs.ConsistentLaws.{cells-whole}
 use Rattle.pg_cnf.specs.Truth.{clauses_true}
 use Rattle.pg_ast.specs.declared.tree.Instr.{Instr}
 use Rattle.pg_ast.specs.declared.tree.Desc.{Desc}
-use Rattle.pg_meaning.specs.States.{State}
 use Rattle.pg_valid.specs.Valid.{IsValid}
 use Rattle.pg_valid.proofs.ValidFacts.{IsShape-of_valid}
 use Rattle.pg_type.specs.declared.kind.Kind.{Kind}

@@ -1,5 +1,5 @@
 -- Two runs of one body over one storage, and that they end as a kind asks, as a gate.
-use Rattle.std.specs.Prelude.{ℕ, true, false, List, []}
+use Rattle.std.specs.Prelude.{true, List, []}
 use Rattle.pg_circuit.specs.declared.node.Gate.{Gate}
 use Rattle.pg_circuit.specs.declared.node.Node.{Node}
 use Rattle.pg_circuit.specs.Made.{constant_gate, not_gate, and_made, xor_made}
@@ -15,7 +15,7 @@ use Rattle.pg_type.specs.declared.kind.Kind.{Kind}
 use Rattle.pg_type.specs.declared.kind.Kind.TheVariants.{Privileged, Control, ModeDep, Location, Bound, UControl, ULocation, UBound}
 use Rattle.pg_symex.specs.declared.regs.Regs.{Regs}
 use Rattle.pg_symex.specs.Flow.{SymRun}
-use Rattle.pg_symex.specs.Exprs.{bit_0, with_made}
+use Rattle.pg_symex.specs.Exprs.{bit_0}
 use Rattle.pg_symex.specs.Body.{run_made}
 use Rattle.pg_ask.specs.declared.unknowns.Unknowns.{Unknowns}
 use Rattle.pg_ask.specs.declared.ends.End.{End}

@@ -1,5 +1,5 @@
 -- What a question means: the pairs of states that values of its nodes stand for, and which pairs have values.
-use Rattle.std.specs.Prelude.{◌≡◌, ◌↔◌, ℕ, ◌^◌, ◌<◌, Bool, true, List, [], length, map, take, slice_get, Some, All}
+use Rattle.std.specs.Prelude.{◌≡◌, ℕ, ◌^◌, ◌<◌, Bool, true, List, [], length, map, take, slice_get, Some, All}
 use Rattle.pg_circuit.specs.Nodes.{input_count, IsCircuit}
 use Rattle.pg_circuit.specs.Values.{gate_value, values_of, IsThere}
 use Rattle.pg_vec.specs.Number.{number}
@@ -13,10 +13,8 @@ use Rattle.pg_word.specs.declared.psw.Psw.{Psw}
 use Rattle.pg_word.specs.Psw.{mode_of, window_len_of}
 use Rattle.pg_ast.specs.declared.tree.Instr.{Instr}
 use Rattle.pg_ast.specs.declared.tree.Desc.{Desc}
-use Rattle.pg_meaning.specs.States.{State}
 use Rattle.pg_valid.specs.Valid.{IsValid}
 use Rattle.pg_type.specs.declared.kind.Kind.{Kind}
-use Rattle.pg_type.specs.Kinds.{Shows}
 use Rattle.pg_symex.specs.Numbers.{entry_psw}
 use Rattle.pg_symex.specs.There.{AreBits}
 use Rattle.pg_pairs.specs.Pair.{Pair, PairShows}

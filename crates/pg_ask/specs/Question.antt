@@ -1,5 +1,5 @@
 -- *QuestionClauses*: what the question of an instruction and a kind is made of, and its clauses.
-use Rattle.std.specs.Prelude.{ℕ, true, ℤ, List, [], ◌∷◌}
+use Rattle.std.specs.Prelude.{ℤ, List, [], ◌∷◌}
 use Rattle.pg_circuit.specs.declared.node.Gate.{Gate}
 use Rattle.pg_circuit.specs.declared.node.Node.{Node}
 use Rattle.pg_circuit.specs.declared.node.Node.TheVariants.{Constant}

@@ -1,5 +1,5 @@
 -- Gates of a question that are there, of the widths that are wanted.
-use Rattle.std.specs.Prelude.{◌≡◌, ℕ, List, length}
+use Rattle.std.specs.Prelude.{ℕ, List, length}
 use Rattle.pg_circuit.specs.declared.node.Gate.{Gate}
 use Rattle.pg_circuit.specs.declared.node.Node.{Node}
 use Rattle.pg_circuit.specs.Values.{IsThere}

@@ -1,14 +1,21 @@
 //! Questions: the clauses that two states show a kind of an instruction.
 
-ghost use Rattle.std.specs.Prelude.{◌≡◌, ◌<◌, ◌^◌, [], length, slice_get, Some, IfOk};
+ghost use Rattle.std.specs.Prelude.{◌≡◌, ◌∷◌, ◌<◌, ◌^◌, List, [], length, slice_get, Some, IfOk, OnOk};
+ghost use Rattle.pg_circuit.specs.declared.node.Node.{Node};
+ghost use Rattle.pg_circuit.specs.declared.node.Node.TheVariants.{Constant};
 ghost use Rattle.pg_circuit.specs.Values.{IsThere};
+ghost use Rattle.pg_cnf.specs.Encoded.{clauses_of};
 ghost use Rattle.pg_ast.specs.declared.tree.Instr.{Instr as Instrs};
+ghost use Rattle.pg_cells.specs.Made.{touch_made, cells_after};
 ghost use Rattle.pg_cells.specs.Over.{IsOver};
 ghost use Rattle.pg_symex.specs.There.{AreBits};
-ghost use Rattle.pg_ask.specs.There.{AreUnknowns, LeavesGate};
-ghost use Rattle.pg_ask.specs.Ended.{AreEnds};
+ghost use Rattle.pg_ask.specs.There.{AreUnknowns, LeavesBits, LeavesGate};
+ghost use Rattle.pg_ask.specs.Unknowns.{unknowns_made};
+ghost use Rattle.pg_ask.specs.Fits.{fits_made};
+ghost use Rattle.pg_ask.specs.Ends.{view_for, both_made};
+ghost use Rattle.pg_ask.specs.Ended.{AreEnds, IsRoot, AreWritten};
 ghost use Rattle.pg_ask.specs.Question.{root_made, question};
-ghost use Rattle.pg_ask.specs.Asked.{IsAsked, Decides};
+ghost use Rattle.pg_ask.specs.Asked.{IsAsked, IsQuestionOf, Decides};
 
 use crate::ends::{BothEnds, both, ends};
 use crate::fits::{Fits, fit};
@@ -105,37 +112,13 @@ pub fn ask<'m>(
     ensures kind { IfOk result (λ a. a.kind ≡ kind) }
 {
     let shape = machine.shape();
-    let mut circuit = Circuit::new(alloc)?;
     let mut touched = Touched::new(alloc, shape.w, shape.a);
-    let unknowns = unknowns_of(alloc, &mut circuit, kind, shape.a)?;
-    let word = touched.touch(&mut circuit, &unknowns.p)?;
-    let instrs = machine.desc.instrs.as_slice();
-    let body = &instrs[instr];
-    let fits = fit(alloc, &mut circuit, machine, body, kind, &unknowns, &word)?;
-    let Fits { usable, gate } = fits;
-    let ended = both(
-        alloc,
-        machine,
-        instr,
-        &mut circuit,
-        &mut touched,
-        &unknowns,
-        &usable,
-    )?;
-    let root = root(
-        alloc,
-        &mut circuit,
-        &touched,
-        kind,
-        &unknowns,
-        &usable,
-        gate,
-        &ended,
-    )?;
-    if circuit.len() >= NODES_AT_MOST {
-        return Err(AllocError);
-    }
-    let cnf = encode(alloc, &circuit, root)?;
+    let drawn = draw(alloc, machine, instr, kind, &mut touched)?;
+    let Drawn {
+        cnf,
+        unknowns,
+        usable,
+    } = drawn;
     Ok(Asked {
         machine,
         instr,
@@ -147,8 +130,175 @@ pub fn ask<'m>(
     })
 }
 
+/// What is kept of a question beside the touched cells.
+#[derive(Drop)]
+struct Drawn {
+    cnf: Cnf,
+    unknowns: Unknowns,
+    usable: Bits,
+}
+
+/// The question, over no touched cell, in a circuit of its own. The error is want of memory.
+fn draw(
+    alloc: Global,
+    machine: &Machine,
+    instr: usize,
+    kind: Kind,
+    touched: &mut Touched,
+) -> Result<Drawn, AllocError>
+    requires instr { instr < length machine.now.desc.instrs }
+    requires view { touched.old ≡ view_for machine.now.desc [] [] }
+    requires over { (nodes : List Node) → IsOver nodes touched.old }
+    ensures made { IfOk result (λ q. (i : Instrs) → slice_get machine.now.desc.instrs instr ≡ Some i → IsQuestionOf machine.now.desc i kind q.cnf.clauses q.unknowns q.usable touched.new.cells) }
+    ensures variables { IfOk result (λ q. q.cnf.variables < 2 ^ 29) }
+{
+    let mut circuit = Circuit::new(alloc)?;
+    draw_in(alloc, machine, instr, kind, &mut circuit, touched)
+}
+
+/// The same in a circuit of the constant alone. The error is want of memory.
+fn draw_in(
+    alloc: Global,
+    machine: &Machine,
+    instr: usize,
+    kind: Kind,
+    circuit: &mut Circuit,
+    touched: &mut Touched,
+) -> Result<Drawn, AllocError>
+    requires instr { instr < length machine.now.desc.instrs }
+    requires nodes { circuit.old.nodes ≡ Constant ∷ [] }
+    requires view { touched.old ≡ view_for machine.now.desc [] [] }
+    requires over { (nodes : List Node) → IsOver nodes touched.old }
+    ensures made { IfOk result (λ q. (i : Instrs) → slice_get machine.now.desc.instrs instr ≡ Some i → IsQuestionOf machine.now.desc i kind q.cnf.clauses q.unknowns q.usable touched.new.cells) }
+    ensures variables { IfOk result (λ q. q.cnf.variables < 2 ^ 29) }
+{
+    let unknowns = unknowns_of(alloc, circuit, kind, machine.shape().a)?;
+    let pair = show(alloc, machine, instr, kind, circuit, touched, &unknowns)?;
+    let (cnf, usable) = pair;
+    Ok(Drawn {
+        cnf,
+        unknowns,
+        usable,
+    })
+}
+
+/// The clauses, and how many cells are usable, of unknowns that are all that was made so far. The error is want of memory.
+fn show(
+    alloc: Global,
+    machine: &Machine,
+    instr: usize,
+    kind: Kind,
+    circuit: &mut Circuit,
+    touched: &mut Touched,
+    u: &Unknowns,
+) -> Result<(Cnf, Bits), AllocError>
+    requires instr { instr < length machine.now.desc.instrs }
+    requires view { touched.old ≡ view_for machine.now.desc [] [] }
+    requires over { IsOver circuit.old.nodes touched.old }
+    requires unknowns { AreUnknowns (length circuit.old.nodes) machine.now.desc.address u.now }
+    requires begun { (u.now, circuit.old.nodes) ≡ unknowns_made kind machine.now.desc.address (Constant ∷ []) }
+    ensures made { IfOk result (λ q. (i : Instrs) → slice_get machine.now.desc.instrs instr ≡ Some i → IsQuestionOf machine.now.desc i kind q.0.clauses u.now q.1 touched.new.cells) }
+    ensures variables { IfOk result (λ q. q.0.variables < 2 ^ 29) }
+{
+    let fits = fit_at_p(alloc, machine, instr, kind, circuit, touched, u)?;
+    let Fits { usable, gate } = fits;
+    let cnf = clauses(
+        alloc, machine, instr, kind, circuit, touched, u, &usable, gate,
+    )?;
+    Ok((cnf, usable))
+}
+
+/// The clauses, from the gate that all of it fits. The error is want of memory.
+fn clauses(
+    alloc: Global,
+    machine: &Machine,
+    instr: usize,
+    kind: Kind,
+    circuit: &mut Circuit,
+    touched: &mut Touched,
+    u: &Unknowns,
+    v: &Bits,
+    gate: Gate,
+) -> Result<Cnf, AllocError>
+    requires instr { instr < length machine.now.desc.instrs }
+    requires view { touched.old ≡ view_for machine.now.desc touched.old.cells [] }
+    requires over { IsOver circuit.old.nodes touched.old }
+    requires unknowns { AreUnknowns (length circuit.old.nodes) machine.now.desc.address u.now }
+    requires usable { AreBits (length circuit.old.nodes) machine.now.desc.address v.now }
+    requires gate { IsThere (length circuit.old.nodes) gate }
+    ensures made { IfOk result (λ cnf. (i : Instrs) → slice_get machine.now.desc.instrs instr ≡ Some i → AreWritten kind u.now v.now gate (both_made machine.now.desc i u.now v.now circuit.old.nodes touched.old.cells) cnf.clauses touched.new.cells) }
+    ensures variables { IfOk result (λ cnf. cnf.variables < 2 ^ 29) }
+{
+    let root = end_so(alloc, machine, instr, kind, circuit, touched, u, v, gate)?;
+    written(alloc, circuit, root)
+}
+
 /// How many nodes a circuit has at most whose clauses are written.
 const NODES_AT_MOST: usize = 1 << 29;
+
+/// The clauses that say that the root is true. The error is want of memory; a circuit of 2^29 nodes is more than there is room
+/// for.
+fn written(alloc: Global, circuit: &Circuit, root: Gate) -> Result<Cnf, AllocError>
+    requires { IsThere (length circuit.now.nodes) root }
+    ensures clauses { IfOk result (λ cnf. cnf.clauses ≡ clauses_of circuit.now.nodes root) }
+    ensures variables { IfOk result (λ cnf. cnf.variables < 2 ^ 29) }
+{
+    if circuit.len() >= NODES_AT_MOST {
+        return Err(AllocError);
+    }
+    encode(alloc, circuit, root)
+}
+
+/// What fits, with the word at P, whose cell is touched first of all. The error is want of memory.
+fn fit_at_p(
+    alloc: Global,
+    machine: &Machine,
+    instr: usize,
+    kind: Kind,
+    circuit: &mut Circuit,
+    touched: &mut Touched,
+    u: &Unknowns,
+) -> Result<Fits, AllocError>
+    requires instr { instr < length machine.now.desc.instrs }
+    requires view { touched.old ≡ view_for machine.now.desc [] [] }
+    requires over { IsOver circuit.old.nodes touched.old }
+    requires unknowns { AreUnknowns (length circuit.old.nodes) machine.now.desc.address u.now }
+    ensures made { IfOk result (λ f. (i : Instrs) → slice_get machine.now.desc.instrs instr ≡ Some i → let t = touch_made circuit.old.nodes touched.old u.now.p in ((f.usable, f.gate), circuit.new.nodes) ≡ fits_made machine.now.desc i kind u.now t.0 t.1) }
+    ensures cells { OnOk result (touched.new ≡ record touched.old { cells = cells_after circuit.old.nodes touched.old.w touched.old.cells u.now.p }) }
+    ensures over { OnOk result (IsOver circuit.new.nodes touched.new) }
+    ensures there { IfOk result (λ f. LeavesBits circuit.old.nodes circuit.new.nodes machine.now.desc.address f.usable) }
+    ensures gate { IfOk result (λ f. IsThere (length circuit.new.nodes) f.gate) }
+{
+    let word = touched.touch(circuit, &u.p)?;
+    let instrs = machine.desc.instrs.as_slice();
+    fit(alloc, circuit, machine, &instrs[instr], kind, u, &word)
+}
+
+/// All of it, from what fits on: the gate that it does, that both runs end as the kind asks, and that the touched cells are
+/// those of one storage. The error is want of memory.
+fn end_so(
+    alloc: Global,
+    machine: &Machine,
+    instr: usize,
+    kind: Kind,
+    circuit: &mut Circuit,
+    touched: &mut Touched,
+    u: &Unknowns,
+    v: &Bits,
+    gate: Gate,
+) -> Result<Gate, AllocError>
+    requires instr { instr < length machine.now.desc.instrs }
+    requires view { touched.old ≡ view_for machine.now.desc touched.old.cells [] }
+    requires over { IsOver circuit.old.nodes touched.old }
+    requires unknowns { AreUnknowns (length circuit.old.nodes) machine.now.desc.address u.now }
+    requires usable { AreBits (length circuit.old.nodes) machine.now.desc.address v.now }
+    requires gate { IsThere (length circuit.old.nodes) gate }
+    ensures made { IfOk result (λ root. (i : Instrs) → slice_get machine.now.desc.instrs instr ≡ Some i → IsRoot kind u.now v.now gate (both_made machine.now.desc i u.now v.now circuit.old.nodes touched.old.cells) root circuit.new.nodes touched.new.cells) }
+    ensures there { IfOk result (λ root. IsThere (length circuit.new.nodes) root) }
+{
+    let ended = both(alloc, machine, instr, circuit, touched, u, v)?;
+    root(alloc, circuit, touched, kind, u, v, gate, &ended)
+}
 
 /// All of it: what fits, that both runs end as the kind asks, and that the touched cells are those of one storage. The error
 /// is want of memory.

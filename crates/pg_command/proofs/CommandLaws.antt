@@ -10,6 +10,7 @@ use Rattle.pg_command.specs.Line.{commands, line}
 use Rattle.pg_command.specs.Reads.{HoldsOne}
 use Rattle.pg_command.specs.declared.ask.Request.{Request}
 use Rattle.pg_command.specs.declared.ask.Request.TheVariants as request
+use Rattle.pg_command.proofs.CheckLaws.{check_asks, check_holds}
 use Rattle.pg_command.proofs.PrintLaws.{print_asks, print_holds}
 use Rattle.pg_command.proofs.RunningLaws.{run_asks, running_holds}
 use Rattle.pg_command.proofs.VerifyLaws.{verify_asks, verify_holds}
@@ -36,12 +37,15 @@ pub all_hold : EachHolds (built line).subs
 all_hold = (
   running_holds (codes "bare"),
   (
-    verify_holds,
+    check_holds,
     (
-      running_holds (codes "run"),
+      verify_holds,
       (
-        print_holds,
-        tt,
+        running_holds (codes "run"),
+        (
+          print_holds,
+          tt,
+        ),
       ),
     ),
   ),
@@ -51,12 +55,15 @@ pub all_ask : AllAsk commands
 all_ask = (
   (λ rows h. made request.Bare _ (run_asks rows h)),
   (
-    (λ rows h. made request.Verify _ (verify_asks rows h)),
+    (λ rows h. made request.Check _ (check_asks rows h)),
     (
-      (λ rows h. made request.Run _ (run_asks rows h)),
+      (λ rows h. made request.Verify _ (verify_asks rows h)),
       (
-        (λ rows h. made request.Print _ (print_asks rows h)),
-        tt,
+        (λ rows h. made request.Run _ (run_asks rows h)),
+        (
+          (λ rows h. made request.Print _ (print_asks rows h)),
+          tt,
+        ),
       ),
     ),
   ),

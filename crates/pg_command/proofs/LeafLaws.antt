@@ -1,5 +1,5 @@
 -- A command without subcommands that takes its words has a value of each argument that is required.
-use Rattle.std.proofs.Common.{◌≡◌, ◌∙◌, ◌&&◌, ◌||◌, ap, subst, sym, refl, cond, Bool, true, false, not, true≢false, List, [], ◌∷◌, Option, Some, None, unwrap_or}
+use Rattle.std.proofs.Common.{◌≡◌, ◌∙◌, ◌&&◌, ◌||◌, ◌⊎◌, ap, subst, sym, inl, inr, refl, cond, Bool, true, false, not, true≢false, List, [], ◌∷◌, Option, Some, None, unwrap_or}
 use Rattle.std.specs.Prelude.{find, fold, option_and_then, slice_get}
 use Rattle.std.specs.Option.{option_map_or, is_some}
 use Rattle.std.specs.List.{list_any}
@@ -79,13 +79,16 @@ found_fits rules id (x ∷ rows) r fits e = go (bytes_eq x.id id) refl e (λ res
         subst (λ (y : Row). Fits rules y × (bytes_eq y.id id ≡ true)) same (fits.0, is)
     go false is e rec = rec e
 
-given_value : (rules : List Rule) (rows : List Row) (a : Rule) → arg_by_id rules a.id ≡ Some a → AllFit rules rows → is_given a.id rows ≡ true → IsGiven a rows
-given_value rules rows a own fits given = go (find (λ r. bytes_eq r.id a.id) rows) (λ r e. found_fits rules a.id rows r fits e) refl given
+-- the argument has no row, or a value that passed its parser
+abbrev pub MayBeGiven : Rule → List Row → Type 0
+MayBeGiven a rows = (find (λ r. bytes_eq r.id a.id) rows ≡ None) ⊎ IsGiven a rows
+
+one_value : (rules : List Rule) (rows : List Row) (a : Rule) → arg_by_id rules a.id ≡ Some a → AllFit rules rows → MayBeGiven a rows
+one_value rules rows a own fits = go (find (λ r. bytes_eq r.id a.id) rows) (λ r e. found_fits rules a.id rows r fits e) refl
   where
-    go : (o : Option Row) → ((r : Row) → o ≡ Some r → Fits rules r × (bytes_eq r.id a.id ≡ true)) → find (λ r. bytes_eq r.id a.id) rows ≡ o
-        → option_map_or (λ r. explicit_source r.source) o false ≡ true → IsGiven a rows
-    go None of is there = absurd (true≢false (sym there))
-    go (Some r) of is there =
+    go : (o : Option Row) → ((r : Row) → o ≡ Some r → Fits rules r × (bytes_eq r.id a.id ≡ true)) → find (λ r. bytes_eq r.id a.id) rows ≡ o → MayBeGiven a rows
+    go None of is = inl is
+    go (Some r) of is = inr (
         let got = of r refl in
         let same : r.id ≡ a.id = (bytes_eq-Decides r.id a.id).0 got.1 in
         let f = got.0 a (ap (arg_by_id rules) same ∙ own) in
@@ -95,7 +98,11 @@ given_value rules rows a own fits given = go (find (λ r. bytes_eq r.id a.id) ro
           passes = f.passes;
           is_first = ap (option_and_then (λ (x : Row). slice_get x.values 0)) is ∙ first;
           is_one = ap (option_and_then row_text) is ∙ ap (Rattle.std.specs.Prelude.option_map (read_as r.reading)) first ∙ ap (λ how. Some (read_as how f.first)) f.reading;
-        }
+        })
+
+given_value : (rows : List Row) (a : Rule) → MayBeGiven a rows → is_given a.id rows ≡ true → IsGiven a rows
+given_value rows a (inl none) given = absurd (true≢false (sym given ∙ ap (λ o. option_map_or (λ (r : Row). explicit_source r.source) o false) none))
+given_value rows a (inr value) given = value
 
 -- so it has a text
 pub has_text : (a : Rule) (rows : List Row) → IsGiven a rows → HasText a.id rows
@@ -118,16 +125,27 @@ sound_level s names words has below none =
     let r = no_fault _ _ q.1 in
     record { words_pass = p.0; below_passes = q.0; last_passes = r.0; is_checked = (no_fault _ _ r.1).1 }
 
+leaf_fits : (s : Shape) (words : List Text) → AreSingle s.rules s.rules → IsSound s [] words false [] → AllFit s.rules (rows_after s.rules [] words)
+leaf_fits s words single sound =
+    let end = (walk s.rules [] nothing_held words).held in
+    let walked = walk_fits s (walk_from nothing_held) words single sound.words_pass tt in
+    let fits = settle_fits s.rules s.args_override_self end single sound.last_passes walked in
+    subst (AllFit s.rules) (sym (no_defaults s.rules s.rules (settled s.rules end).rows single)) fits
+
+-- each argument has no row, or a value that passed its parser
+pub leaf_may : (s : Shape) (words : List Text) → AreSingle s.rules s.rules → level_fault s [] nothing_held words false [] ≡ []
+    → (a : Rule) → arg_by_id s.rules a.id ≡ Some a → MayBeGiven a (rows_after s.rules [] words)
+leaf_may s words single none a own =
+    one_value s.rules (rows_after s.rules [] words) a own (leaf_fits s words single (sound_level s [] words false [] none))
+
+-- and a value, where it is required
 pub leaf_given : (s : Shape) (words : List Text) → AreSingle s.rules s.rules → level_fault s [] nothing_held words false [] ≡ []
     → (a : Rule) → arg_by_id s.rules a.id ≡ Some a → a.required ≡ true → IsGiven a (rows_after s.rules [] words)
 leaf_given s words single none a own required =
     let sound = sound_level s [] words false [] none in
-    let end = (walk s.rules [] nothing_held words).held in
-    let walked = walk_fits s (walk_from nothing_held) words single sound.words_pass tt in
-    let fits = settle_fits s.rules s.args_override_self end single sound.last_passes walked in
-    let rows : AllFit s.rules (finished s.rules end) = subst (AllFit s.rules) (sym (no_defaults s.rules s.rules (settled s.rules end).rows single)) fits in
+    let rows = rows_after s.rules [] words in
     let checked = check_passes _ _ _ sound.is_checked in
-    given_value s.rules (finished s.rules end) a own rows (required_given _ s.rules (finished s.rules end) a own (none_missing s.subcommand_negates_reqs _ checked.1) required)
+    given_value rows a (leaf_may s words single none a own) (required_given _ s.rules rows a own (none_missing s.subcommand_negates_reqs _ checked.1) required)
 
 wanted : (needs has : Bool) → needs ≡ true → (not has && needs) ≡ false → has ≡ true
 wanted needs true is e = refl

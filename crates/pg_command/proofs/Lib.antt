@@ -1,4 +1,5 @@
 mod AnswerLaws
+mod CheckLaws
 mod LeafLaws
 mod LineLaws
 mod NumberLaws

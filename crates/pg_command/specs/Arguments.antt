@@ -1,5 +1,6 @@
 -- The arguments that commands are made of: their rules, their values, and what they hold once their words were taken.
-use Rattle.std.specs.Prelude.{◌≡◌, ◌≤◌, ℕ, List, Option, Some, true, is_some, option_and_then}
+use Rattle.std.specs.Prelude.{◌≡◌, ◌≤◌, ◌⊎◌, ℕ, List, Option, Some, None, true, is_some, option_and_then}
+use Rattle.std.specs.Option.{option_map_or}
 use Rattle.std.specs.Str.Parse.{IsNumeral, digits_value, without_leading_plus}
 use Rattle.clap.specs.Walk.{Row, Rule, Text, first_of, one_of}
 use Rattle.clap.specs.Simple.{new_rule}
@@ -11,9 +12,17 @@ use Rattle.clap.specs.declared.builder.value_parser.ValueParser.{ValueParser}
 abbrev pub place : Text → Rule
 place name = record (new_rule name) { required = true }
 
+-- a text after `--name`, which has to be there
+abbrev pub named : Text → Rule
+named name = record (new_rule name) { long = Some name; required = true }
+
 -- a number after `--name`, which has to be there and to pass the parser
 abbrev pub number : Text → ValueParser → Rule
 number name numbers = record (new_rule name) { long = Some name; parser = Some numbers; required = true }
+
+-- a number after `--name`, which may be left out, and has to pass the parser where it is there
+abbrev pub option : Text → ValueParser → Rule
+option name numbers = record (new_rule name) { long = Some name; parser = Some numbers }
 
 -- ---- values
 
@@ -28,6 +37,10 @@ with_text id rows make = option_and_then make (first_of id rows)
 abbrev pub with_number : {X : Type 0} → Text → List Row → (ℕ → Option X) → Option X
 with_number id rows make = option_and_then (λ text. make (number_of text)) (one_of id rows)
 
+-- the number that the argument gives, and else the other
+abbrev pub number_or : Text → ℕ → List Row → ℕ
+number_or id other rows = option_map_or number_of (one_of id rows) other
+
 -- ---- what they hold
 
 -- the argument has a value
@@ -41,3 +54,7 @@ pub record HasNumber (id : Text) (least most : ℕ) (rows : List Row) : Type 0 w
   pub is_numeral : IsNumeral 10 (without_leading_plus text)
   pub is_least : least ≤ number_of text
   pub is_most : number_of text ≤ most
+
+-- the argument has no value, or a number of the range
+abbrev pub MayHaveNumber : Text → ℕ → ℕ → List Row → Type 0
+MayHaveNumber id least most rows = (one_of id rows ≡ None) ⊎ HasNumber id least most rows

@@ -1,6 +1,7 @@
 pub mod Arguments
 pub mod Asked
 pub mod Bare
+pub mod Check
 pub mod Entries
 pub mod Line
 pub mod Print

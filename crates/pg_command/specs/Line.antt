@@ -3,6 +3,7 @@ use Rattle.std.specs.Prelude.{List, [], ◌∷◌, map, true, false, codes}
 use Rattle.clap.specs.Simple.{App, Shape, new_shape}
 use Rattle.pg_command.specs.Entries.{Entry}
 use Rattle.pg_command.specs.Bare.{bare}
+use Rattle.pg_command.specs.Check.{check}
 use Rattle.pg_command.specs.Verify.{verify}
 use Rattle.pg_command.specs.Run.{run}
 use Rattle.pg_command.specs.Print.{print}
@@ -11,6 +12,7 @@ use Rattle.pg_command.specs.Print.{print}
 abbrev pub commands : List Entry
 commands =
     bare
+    ∷ check
     ∷ verify
     ∷ run
     ∷ print

@@ -1,7 +1,7 @@
 //! The arguments that commands are made of: how `clap` is told of one, and how its value is read.
 //!
-//! A parse that succeeds has given each argument of the command a value, and each number passed its range. What is read
-//! here requires that of the matches, and takes the values without a test.
+//! A parse that succeeds has given each argument that has to be there a value, and each number passed its range. What is
+//! read here requires that of the matches, and takes the values without a test.
 ghost use Rattle.std.specs.Prelude.{◌≡◌, IfOk, Some, false, string_bytes};
 ghost use Rattle.clap.specs.Words.{found_of, rows_of, rule_of, first_of};
 ghost use Rattle.pg_command.specs.Arguments as spec;
@@ -17,6 +17,22 @@ pub(crate) fn place<'a>(alloc: Global, name: &'a str) -> Arg<'a>
     ensures local { result.global ≡ false }
 {
     Arg::new(alloc, name).required(true)
+}
+
+/// A text after `--name`, which has to be there.
+pub(crate) fn named<'a>(alloc: Global, name: &'a str) -> Arg<'a>
+    ensures rule { rule_of result ≡ spec.named name.entry.now }
+    ensures local { result.global ≡ false }
+{
+    Arg::new(alloc, name).long(name).required(true)
+}
+
+/// A number after `--name`, which may be left out, and has to pass the parser where it is there.
+pub(crate) fn option<'a>(alloc: Global, name: &'a str, numbers: ValueParser<'a>) -> Arg<'a>
+    ensures rule { rule_of result ≡ spec.option name.entry.now numbers.entry }
+    ensures local { result.global ≡ false }
+{
+    Arg::new(alloc, name).long(name).value_parser(numbers)
 }
 
 /// A number after `--name`, which has to be there and to pass the parser.

@@ -1,6 +1,7 @@
 //! What a command line asks for, and why there is nothing that it asks for.
 //!
 //! Contracts see a request as plain data: the names in it as their bytes, and the numbers as what they are.
+use crate::check::CheckWords;
 use crate::print::PrintWords;
 use crate::running::RunWords;
 use crate::verify::VerifyWords;
@@ -10,6 +11,8 @@ use crate::verify::VerifyWords;
 pub enum Request {
     /// `bare`: run an image on a bare machine.
     Bare(RunWords),
+    /// `check`: classify each instruction of a description, and save the certificate.
+    Check(CheckWords),
     /// `verify`: check a certificate against a description.
     Verify(VerifyWords),
     /// `run`: run an image as a guest under a monitor.

@@ -7,8 +7,8 @@
 //! for a version, so a user who asks for either is refused like one who mistypes a command.
 //!
 //! A request is handed out only where the line takes the words, and a refusal only where it does not. That a
-//! line which was taken has each of its arguments, and numbers within their bounds, is proved of `clap`'s
-//! rules and not tested again, so the only other answer is that there was no memory.
+//! line which was taken has each argument that has to be there, and numbers within their bounds, is proved
+//! of `clap`'s rules and not tested again, so the only other answer is that there was no memory.
 //!
 //! A command is a module of its own, as [`print`](PrintWords): what it adds to the line, and what its arguments ask for. A
 //! command more is such a module in the code, in the definitions and among the laws, each named in its `Lib.antt`; a variant
@@ -26,6 +26,7 @@ ghost use Rattle.pg_command.specs.declared.ask.Fault.TheVariants.{Memory, Refuse
 mod arguments;
 mod ask;
 mod bare;
+mod check;
 mod line;
 mod print;
 mod run;
@@ -34,12 +35,13 @@ mod values;
 mod verify;
 
 pub use ask::{Fault, Request};
+pub use check::CheckWords;
 use clap::error::ErrorKind;
 use line::{asked, command_line};
 pub use print::PrintWords;
 pub use running::RunWords;
 use std::alloc::Global;
-pub use values::{FileName, Grant, Steps};
+pub use values::{Budget, FileName, Grant, Steps};
 pub use verify::VerifyWords;
 
 /// What the words ask for, of which the first is the program's name.

@@ -9,7 +9,7 @@ ghost use Rattle.pg_command.specs.Asked.{named_as};
 ghost use Rattle.pg_command.specs.Reads.{HoldsCommand};
 
 use crate::ask::Request;
-use crate::{bare, print, run, verify};
+use crate::{bare, check, print, run, verify};
 use clap::{ArgMatches, Command};
 use std::alloc::{AllocError, Global};
 
@@ -23,7 +23,8 @@ pub(crate) fn command_line<'a>(alloc: Global) -> Result<Command<'a>, AllocError>
         .disable_version_flag(true)
         .subcommand_required(true);
     let with_bare = bare::added(alloc, program)?;
-    let with_verify = verify::added(alloc, with_bare)?;
+    let with_check = check::added(alloc, with_bare)?;
+    let with_verify = verify::added(alloc, with_check)?;
     let with_run = run::added(alloc, with_verify)?;
     print::added(alloc, with_run)
 }
@@ -35,6 +36,9 @@ pub(crate) fn asked(alloc: Global, matches: &ArgMatches<'_>) -> Result<Request, 
 {
     if let Some(found) = matches.subcommand_matches("bare") {
         return bare::asked(alloc, found);
+    }
+    if let Some(found) = matches.subcommand_matches("check") {
+        return check::asked(alloc, found);
     }
     if let Some(found) = matches.subcommand_matches("verify") {
         return verify::asked(alloc, found);

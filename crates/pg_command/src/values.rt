@@ -105,3 +105,39 @@ impl Steps {
         self.count
     }
 }
+
+/// How many clauses a solver may learn for a question: 1 to 1,000,000.
+#[derive(Drop)]
+pub struct Budget {
+    clauses: u32,
+}
+
+impl Model for Budget {
+    ghost use Rattle.std.specs.Prelude.{◌≤◌, ℕ};
+
+    ghost Value = { ℕ };
+
+    ghost view = { λ budget. budget.clauses };
+
+    ghost invariant = { λ budget. (1 ≤ budget.clauses) × (budget.clauses ≤ 1000000) };
+}
+
+impl Budget {
+    /// The budget of so many clauses.
+    pub(crate) fn new(clauses: u32) -> Budget
+        requires least { 1 ≤ clauses }
+        requires most { clauses ≤ 1000000 }
+        ensures { result ≡ clauses }
+    {
+        Budget { clauses }
+    }
+
+    /// The number of clauses.
+    pub fn clauses(&self) -> u32
+        ensures clauses { result ≡ self.now }
+        ensures least { 1 ≤ self.now }
+        ensures most { self.now ≤ 1000000 }
+    {
+        self.clauses
+    }
+}

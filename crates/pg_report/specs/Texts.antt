@@ -79,6 +79,9 @@ refusal_text (Open name) = codes "open " ++ name_text name ++ codes " rule" ++ 1
 abbrev pub usage_bare : List ℕ
 usage_bare = codes "pgv bare DESC IMAGE --grant G --steps N" ++ 10 ∷ []
 
+abbrev pub usage_check : List ℕ
+usage_check = codes "pgv check DESC --cert FILE [--budget K]" ++ 10 ∷ []
+
 abbrev pub usage_verify : List ℕ
 usage_verify = codes "pgv verify DESC CERT" ++ 10 ∷ []
 
@@ -90,4 +93,4 @@ usage_print = codes "pgv print DESC" ++ 10 ∷ []
 
 -- one line for each command
 unfoldable pub usage_text : List ℕ
-usage_text = usage_bare ++ usage_verify ++ usage_run ++ usage_print
+usage_text = usage_bare ++ usage_check ++ usage_verify ++ usage_run ++ usage_print

@@ -39,7 +39,8 @@ pub fn put_usage<S: Sink>(out: &mut S) -> Result<(), Failed>
 {
     put_text(
         out,
-        b"pgv bare DESC IMAGE --grant G --steps N\npgv verify DESC CERT\n\
+        b"pgv bare DESC IMAGE --grant G --steps N\n\
+          pgv check DESC --cert FILE [--budget K]\npgv verify DESC CERT\n\
           pgv run DESC IMAGE --grant G --steps N\npgv print DESC\n",
     )
 }

@@ -10,4 +10,5 @@ pub mod RunLemmas
 pub mod PartLemmas
 pub mod VerdictMeanings
 pub mod VerifyLemmas
+pub mod CheckLemmas
 pub mod OneState

@@ -16,6 +16,7 @@ use Rattle.pg_command.specs.declared.ask.Request.TheVariants as request
 use Rattle.pg_command.specs.declared.running.RunWords.{RunWords}
 use Rattle.pg_command.specs.declared.print.PrintWords.{PrintWords}
 use Rattle.pg_command.specs.declared.verify.VerifyWords.{VerifyWords}
+use Rattle.pg_command.specs.declared.check.CheckWords.{CheckWords}
 use Rattle.pg_read.specs.declared.fault.DescFault.{DescFault}
 use Rattle.pg_read.specs.declared.fault.DescFault.TheVariants as read_fault
 use Rattle.pg_read.specs.Answer.{most_desc_bytes, IsAnswer}
@@ -40,6 +41,7 @@ use Rattle.pg_tool.specs.Run.{GuestRun, RunDue}
 use Rattle.pg_tool.specs.Print.{PrintDue}
 use Rattle.pg_tool.specs.Certificates.{CertDue}
 use Rattle.pg_tool.specs.Verify.{VerifyDue}
+use Rattle.pg_tool.specs.Check.{CheckDue}
 use Rattle.pg_tool.specs.Asking.{WordsRefused, command_of, command_or_none, command_for}
 use Rattle.pg_tool.specs.Plans.{lone_run}
 use Rattle.pg_tool.proofs.BareLemmas as bare
@@ -240,6 +242,11 @@ one-run files r = one-of (RunDue r (Some files)) (bind (desc_answer files r.desc
 one-print : (files : Files) (p : PrintWords) → IsOne (PrintDue p (Some files))
 one-print files p = one-of (DescDue (Some files) p.desc) (desc_answer files p.desc) (only-desc files p.desc)
 
+-- ---- `check`
+
+one-check : (files : Files) (c : CheckWords) → IsOne (CheckDue c (Some files))
+one-check files c = one-of (DescDue (Some files) c.desc) (desc_answer files c.desc) (only-desc files c.desc)
+
 -- ---- `verify`
 
 one-verify : (files : Files) (v : VerifyWords) → IsOne (VerifyDue v (Some files))
@@ -252,6 +259,7 @@ one-verify files v =
 
 one-command : (files : Files) (asked : Request) → IsOne ((command_of asked).due (Some files))
 one-command files (request.Bare b) = one-bare files b
+one-command files (request.Check c) = one-check files c
 one-command files (request.Verify v) = one-verify files v
 one-command files (request.Run r) = one-run files r
 one-command files (request.Print p) = one-print files p

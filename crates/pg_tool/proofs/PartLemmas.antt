@@ -22,6 +22,7 @@ use Rattle.pg_tool.specs.declared.refusal.Refusal.TheVariants.{Line}
 use Rattle.pg_tool.specs.declared.refusal.Stop.{Stop}
 use Rattle.pg_tool.specs.declared.refusal.Stop.TheVariants as stop
 use Rattle.pg_tool.specs.Answering.{Comes}
+use Rattle.pg_verify.proofs.SpellLemmas.{taken_texts_spell}
 use Rattle.pg_tool.specs.Certificates.{told_of_verifying, IsCertificate, CertTextDue, CertDue}
 use Rattle.pg_tool.specs.FileSteps.{Faulty, HoldsWithin, FromFile}
 use Rattle.pg_tool.specs.Parts.{HoldsUpTo, HoldsFront, IsFed, IsStopOf}
@@ -123,7 +124,8 @@ all_fed d told name at p h k =
     }
 
 answer_ok : (due : Reader) (report : Report) → IsAnswer due (Ok report) → (d : Desc) (bytes : List ℕ) → due ≡ verified d Plain bytes → IsCertificate d bytes report
-answer_ok (Ok p) report h d bytes e = record { progress = p; taken = sym e; kept = h }
+answer_ok (Ok p) report h d bytes e =
+    record { progress = p; taken = sym e; kept = h; spelled = taken_texts_spell d Plain bytes p (sym e) }
 answer_ok (Err f) report h d bytes e = absurd h
 
 -- want of memory is not told

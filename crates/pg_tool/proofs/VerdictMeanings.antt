@@ -1,5 +1,5 @@
 -- What the marks of a certificate say, and what follows of the verdict of them.
-use Rattle.std.proofs.Common.{◌≡◌, ℕ, zero, suc, ◌+◌, ◌*◌, ◌/◌, ◌%◌, ◌<◌, ◌≤◌, Bool, true, false, not, cond, ◌||◌, List, [], ◌∷◌, All, length, get_or, drop, Option, None, Some, Ok, ◌⊎◌, inl, inr, refl, sym, ap, subst, ◌∙◌, arith, slice_get}
+use Rattle.std.proofs.Common.{◌≡◌, ℕ, zero, suc, ◌+◌, ◌*◌, ◌/◌, ◌%◌, ◌<◌, ◌≤◌, Bool, true, false, not, cond, ◌||◌, List, [], ◌∷◌, All, length, map, get_or, drop, Option, None, Some, Ok, ◌⊎◌, inl, inr, refl, sym, ap, subst, ◌∙◌, arith, slice_get}
 use Rattle.std.specs.Prelude.{◌==◌, nat_lt, position, unwrap_or, if◌then◌else◌}
 use Rattle.std.proofs.lemmas.Bool.{eqb-true, eqb-false, and_parts, lt-ltb, ltb-true}
 use Rattle.std.specs.List.{position_or_len}
@@ -20,6 +20,7 @@ use Rattle.pg_type.proofs.KindLaws.{privileged-exactly}
 use Rattle.pg_symex.proofs.RunLaw.{all_run_right}
 use Rattle.pg_ask.proofs.ExactLaw.{questions-exact}
 use Rattle.pg_cert.specs.declared.cert.Family.TheVariants.{Plain}
+use Rattle.pg_cert.specs.declared.cert.Cert.{Cert}
 use Rattle.pg_cert.specs.declared.cert.Finding.{Finding}
 use Rattle.pg_cert.specs.declared.cert.Finding.TheVariants as finding
 use Rattle.pg_cert.specs.declared.report.Mark.{Mark}
@@ -33,13 +34,13 @@ use Rattle.pg_word.specs.declared.sparse.Sparse.{Sparse}
 use Rattle.pg_word.specs.Sparse.{IsCellList}
 use Rattle.pg_cert.proofs.Fits.{shown_fit}
 use Rattle.pg_cert.specs.Texts.{instr_of, kind_of, cert_text, AreListed}
-use Rattle.pg_cert.specs.Validity.{IsValidFinding}
+use Rattle.pg_cert.specs.Validity.{IsValidFinding, IsValidCert}
 use Rattle.pg_verify.specs.Reader.{Progress, Mark as KeptMark}
 use Rattle.pg_verify.specs.Reader as reader
 use Rattle.pg_verify.specs.Feeding.{verified, drawn_of, kept, IsReportOf}
 use Rattle.pg_verify.specs.Verified.{Spells, AreTold, IsTaken}
 use Rattle.pg_verify.proofs.SpellLemmas.{taken_texts_spell}
-use Rattle.pg_verify.proofs.TellLemmas.{taken_texts_tell}
+use Rattle.pg_verify.proofs.TellLemmas.{taken_texts_tell, closed_refutes}
 use Rattle.pg_verify.proofs.TakeLemmas.{valid_texts_are_taken}
 use Rattle.pg_verify.proofs.StepLemmas.{same_ok}
 use Rattle.pg_report.specs.Verdicts.{DoMarkWordsFit, shown_place}
@@ -400,13 +401,16 @@ module _ (d : Desc) (ms : List Mark) (h : AllSay d (plain_report ms)) where
       by None ea (Some k) eb = unsettled_means k ea eb
       by None ea None eb = accepted_means eb
 
--- what the verdict of a text that is not refused means
-pub verdict_means : (d : Desc) (bytes : List ℕ) (p : Progress) (report : Report) → IsValid d → verified d Plain bytes ≡ Ok p → IsReportOf p report → VerdictMeans d report
-verdict_means d bytes p report valid taken is =
-    let h : AllSay d report = all_say d bytes p report valid taken is in
-    let plain : AllSay d (plain_report report.marks) = subst (λ f. AllSay d (record { family = f; marks = report.marks })) h.plain h in
+means_of : (d : Desc) (report : Report) → AllSay d report → VerdictMeans d report
+means_of d report h =
+    let plain : AllSay d (plain_report report.marks) =
+    subst (λ f. AllSay d (record { family = f; marks = report.marks })) h.plain h in
     let means : VerdictMeans d (plain_report report.marks) = record { means = plain_means d report.marks plain } in
     subst (λ f. VerdictMeans d (record { family = f; marks = report.marks })) (sym h.plain) means
+
+-- what the verdict of a text that is not refused means
+pub verdict_means : (d : Desc) (bytes : List ℕ) (p : Progress) (report : Report) → IsValid d → verified d Plain bytes ≡ Ok p → IsReportOf p report → VerdictMeans d report
+verdict_means d bytes p report valid taken is = means_of d report (all_say d bytes p report valid taken is)
 
 -- ---- what can be put
 
@@ -447,3 +451,41 @@ module _ (d : Desc) (bytes : List ℕ) (p : Progress) (report : Report) (valid :
 
   pub marks_fit : All (DoMarkWordsFit d.word) report.marks
   marks_fit = λ n m l. mark_fits n (get_or report.marks n m) (slice_get-get_or report.marks n m l)
+
+-- ---- a valid certificate at hand
+
+finding_says : (d : Desc) → IsValid d → (heading : Heading) (k : ℕ) (i : Instr) (kind : Kind) (f : Finding) →
+    slice_get d.instrs k ≡ Some i → IsValidFinding (question d i kind) heading d i kind f → Says d i kind (mark_of f)
+unfolding IsValidFinding
+finding_says d valid heading k i kind (finding.Refuted acts) at h = λ s t shows.
+    let there = (questions-exact d (all_run_right d) k i kind valid at).1 (s, t, shows) in
+    closed_refutes (question d i kind) acts h.0 there.0 there.1
+finding_says d valid heading k i kind (finding.Shown s t) at h = h
+finding_says d valid heading k i kind (finding.Spent n steps) at h = record { some = h.0; steps = steps; spent = h.2 }
+
+module _ (d : Desc) (valid : IsValid d) (heading : Heading) (cert : Cert) (report : Report)
+    (certified : IsValidCert (question d) heading d cert) (plain : cert.family ≡ Plain) (family : report.family ≡ Plain)
+    (marks : report.marks ≡ map mark_of cert.findings) where
+  finding_at : (n : ℕ) (m : Mark) (i : Instr) (o : Option Finding) → slice_get cert.findings n ≡ o →
+      option_map mark_of o ≡ Some m → slice_get d.instrs (n / 5) ≡ Some i → Says d i (kind_of Plain n) m
+  finding_at n m i None eo e at = absurd (cc)
+  finding_at n m i (Some f) eo e at =
+      let at_own : slice_get d.instrs (instr_of cert.family n) ≡ Some i = ap (λ x. slice_get d.instrs (instr_of x n)) plain ∙ at in
+      subst (λ x. Says d i (kind_of x n) m) plain
+      (subst (λ x. Says d i (kind_of cert.family n) x) (same_Some (mark_of f) m e)
+      (finding_says d valid heading (instr_of cert.family n) i (kind_of cert.family n) f at_own (certified.each n f i eo at_own)))
+
+  certificate_says : AllSay d report
+  certificate_says = record {
+    plain = family;
+    whole = ap length marks ∙ length-map cert.findings mark_of ∙ certified.whole ∙ ap (λ x. length d.instrs * kind_count x) plain;
+    each = λ n m i e at. finding_at n m i (slice_get cert.findings n) refl
+        (sym (slice_get-map mark_of cert.findings n) ∙ ap (λ ms. slice_get ms n) (sym marks) ∙ e) at;
+  }
+
+  -- what its verdict means
+  pub certificate_means : VerdictMeans d report
+  certificate_means = means_of d report certificate_says
+
+  pub certificate_whole : length report.marks ≡ length d.instrs * kind_count report.family
+  certificate_whole = certificate_says.whole ∙ ap (λ x. length d.instrs * kind_count x) (sym family)

@@ -11,6 +11,7 @@ use Rattle.pg_tool.specs.Bare.{bare_command}
 use Rattle.pg_tool.specs.Run.{run_command}
 use Rattle.pg_tool.specs.Print.{print_command}
 use Rattle.pg_tool.specs.Verify.{verify_command}
+use Rattle.pg_tool.specs.Check.{check_command}
 
 -- words that are refused come to that and nothing else
 abbrev pub WordsRefused : Step Refusal ⊥
@@ -31,6 +32,7 @@ no_command = record {
 -- a line for each command
 abbrev pub command_of : Request → Command
 command_of (request.Bare b) = bare_command b
+command_of (request.Check c) = check_command c
 command_of (request.Verify v) = verify_command v
 command_of (request.Run r) = run_command r
 command_of (request.Print p) = print_command p

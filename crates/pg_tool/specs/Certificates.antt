@@ -11,6 +11,7 @@ use Rattle.pg_verify.specs.declared.fault.VerifyFault.{VerifyFault}
 use Rattle.pg_verify.specs.declared.fault.VerifyFault.TheVariants as verify_fault
 use Rattle.pg_verify.specs.Reader.{Progress}
 use Rattle.pg_verify.specs.Feeding.{most_bytes, verified, IsReportOf}
+use Rattle.pg_verify.specs.Verified.{Spells}
 use Rattle.pg_report.specs.declared.line.RefusalLine.TheVariants.{Certificate}
 use Rattle.pg_report.specs.declared.line.CertificateLine.{CertificateLine}
 use Rattle.pg_report.specs.declared.line.CertificateLine.TheVariants as told_line
@@ -42,11 +43,12 @@ told_of_verifying d (verify_fault.Extra n) = Some (told_line.Extra n)
 told_of_verifying d (verify_fault.BadDelete n) = Some (told_line.Delete n)
 told_of_verifying d verify_fault.Memory = None
 
--- bytes that are a certificate of a description, of which this is kept
+-- bytes that are the text of a valid certificate of a description, of whose marks this is the report
 pub record IsCertificate (d : Desc) (text : List ℕ) (report : Report) : Type 0 where
   pub progress : Progress
   pub taken : verified d Plain text ≡ Ok progress
   pub kept : IsReportOf progress report
+  pub spelled : Spells d Plain text progress
 
 -- bytes that are none: their fault is the one that is told
 pub record IsNoCertificate (d : Desc) (text : List ℕ) (shown : CertificateLine) : Type 0 where

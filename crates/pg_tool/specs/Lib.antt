@@ -16,6 +16,7 @@ pub mod Bare
 pub mod Run
 pub mod Print
 pub mod Verify
+pub mod Check
 pub mod Asking
 pub mod Answering
 pub mod CanRuns

@@ -12,7 +12,7 @@
 //! - `status`: how a command ends. `refusal`, `stop`: why one goes no further, and how that is told.
 //! - `described`, `imaged`, `load`: bytes and files to machines and images. `certified`: files to certificates. `room`: more
 //!   cells than there are.
-//! - `bare`, `verify`, `run`, `print`: the commands.
+//! - `bare`, `check`, `verify`, `run`, `print`: the commands.
 //! - `laws`: what is due for told files is one thing.
 #![tactic(auto)]
 
@@ -27,6 +27,7 @@ ghost use Rattle.pg_tool.specs.World.{CanCount, SavesOnly, around, output};
 
 mod bare;
 mod certified;
+mod check;
 mod described;
 mod imaged;
 pub mod laws;
@@ -40,6 +41,7 @@ mod stop;
 mod verify;
 
 use crate::bare::carry_bare;
+use crate::check::carry_check;
 use crate::print::carry_print;
 use crate::refusal::Stop;
 use crate::run::carry_run;
@@ -111,6 +113,7 @@ fn carry<F: Shelf, S: Sink, H: Hardware>(
 {
     match request {
         Request::Bare(words) => carry_bare(alloc, words, shelf, out, hw),
+        Request::Check(words) => carry_check(alloc, words, shelf, out, hw),
         Request::Verify(words) => carry_verify(alloc, words, shelf, out, hw),
         Request::Run(words) => carry_run(alloc, words, shelf, out, hw),
         Request::Print(words) => carry_print(alloc, words, shelf, out, hw),

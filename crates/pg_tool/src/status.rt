@@ -6,6 +6,9 @@
 
 ghost use Rattle.std.specs.Prelude.{◌≡◌};
 ghost use Rattle.pg_tool.specs.Codes.{code_of};
+ghost use Rattle.pg_tool.specs.Verify.{verdict_status};
+
+use pg_cert::Verdict;
 
 /// How a command ended. The program ends with its number.
 #[derive(Clone, Copy, Debug, PartialEq, Eq)]
@@ -56,5 +59,16 @@ impl Status {
             Status::Memory => 10,
             Status::Missing => 11,
         }
+    }
+}
+
+/// The status of a verdict.
+pub(crate) fn status_of(verdict: Verdict) -> Status
+    ensures { result ≡ verdict_status verdict }
+{
+    match verdict {
+        Verdict::Accepted => Status::Done,
+        Verdict::Refused(_) => Status::Refused,
+        Verdict::Unsettled(..) => Status::Unsettled,
     }
 }

@@ -9,7 +9,7 @@ ghost use Rattle.pg_report.specs.Verdicts.{DoMarkWordsFit};
 ghost use Rattle.pg_tool.specs.Answering.{Comes, OnlyReads};
 ghost use Rattle.pg_tool.specs.Commands.{Carries};
 ghost use Rattle.pg_tool.specs.Plans.{judged};
-ghost use Rattle.pg_tool.specs.Verify.{VerifyDue, verdict_status, verify_command};
+ghost use Rattle.pg_tool.specs.Verify.{VerifyDue, verify_command};
 ghost use Rattle.pg_tool.specs.World.{around, output};
 
 mod plan;
@@ -17,9 +17,8 @@ mod plan;
 use crate::certified::load_certificate;
 use crate::load::load_machine;
 use crate::refusal::Stop;
-use crate::status::Status;
+use crate::status::{Status, status_of};
 use crate::stop::stopped;
-use pg_cert::Verdict;
 use pg_command::VerifyWords;
 use pg_edge::{Shelf, Sink};
 use pg_hw::Hardware;
@@ -71,16 +70,5 @@ fn prepare_verify<F: Shelf>(
     match load_certificate(alloc, &machine, &words.cert, shelf) {
         Ok(report) => Ok(VerifyPlan { machine, report }),
         Err(stop) => Err(stop),
-    }
-}
-
-/// The status of a verdict.
-fn status_of(verdict: Verdict) -> Status
-    ensures { result ≡ verdict_status verdict }
-{
-    match verdict {
-        Verdict::Accepted => Status::Done,
-        Verdict::Refused(_) => Status::Refused,
-        Verdict::Unsettled(..) => Status::Unsettled,
     }
 }

@@ -1,4 +1,3 @@
-use Rattle.std.proofs.Common.{ap}
 use Rattle.pg_vec.proofs.Kept.{front_then}
 use Rattle.pg_ask.proofs.ThereLaws.{bits_on, unknowns_on, end_on}
 use Rattle.pg_ask.proofs.RunSteps.{both_step, regs_first, regs_second}

@@ -2,7 +2,6 @@ use Rattle.std.proofs.Common.{◌∙◌, sym, ap, subst}
 use Rattle.pg_cells.specs.View.{View}
 use Rattle.pg_cells.specs.Over.{IsOver}
 use Rattle.pg_vec.proofs.Kept.{all_there_later}
-use Rattle.pg_ask.specs.Ends.{view_for}
 use Rattle.pg_ask.proofs.RunSteps.{run_over, ended_step, view_end, end_leaves}
 use Rattle.pg_ask.proofs.ends.end_of.Goals as goal
 

@@ -2,7 +2,7 @@ use Rattle.std.proofs.Common.{◌∙◌, true, length, refl, sym, ap, subst}
 use Rattle.pg_circuit.specs.declared.node.Gate.{Gate}
 use Rattle.pg_circuit.specs.Made.{constant_gate, and_made}
 use Rattle.pg_word.specs.declared.shape.Shape.{Shape}
-use Rattle.pg_vec.proofs.Kept.{front_same, front_then, there_later, all_there_later}
+use Rattle.pg_vec.proofs.Kept.{front_then}
 use Rattle.pg_symex.specs.There.{AreBits}
 use Rattle.pg_ask.specs.There.{AreUnknowns}
 use Rattle.pg_ask.proofs.ThereLaws.{bits_on, unknowns_on}

@@ -1,4 +1,4 @@
-use Rattle.std.proofs.Common.{ℕ, ◌≤◌, Bool, true, false, List, length, sym, subst, arith}
+use Rattle.std.proofs.Common.{◌≤◌, Bool, true, false, List, length, sym, subst, arith}
 use Rattle.pg_circuit.specs.declared.node.Gate.{Gate}
 use Rattle.pg_ask.proofs.NumberSteps.{number_room}
 use Rattle.pg_ask.proofs.states.number.Goals as goal

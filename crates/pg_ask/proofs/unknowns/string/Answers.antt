@@ -1,4 +1,4 @@
-use Rattle.std.proofs.Common.{◌∙◌, List, length, subst, sym, ap}
+use Rattle.std.proofs.Common.{◌∙◌, List, subst, sym, ap}
 use Rattle.pg_circuit.specs.declared.node.Gate.{Gate}
 use Rattle.pg_word.specs.Bits.{IsWidth}
 use Rattle.pg_ask.proofs.CodeSteps.{string_width, string_there}

@@ -1,0 +1,3 @@
+pub mod FoundLemmas
+pub mod CountLemmas
+pub mod AllLemmas

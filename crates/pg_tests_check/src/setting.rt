@@ -1,0 +1,67 @@
+//! What `check` and `verify` are run on.
+
+use pg_edge::{MemShelf, MemSink};
+use pg_rig::Rig;
+use pg_tool::{Status, tool};
+use std::alloc::{AllocError, Global};
+use std::test::Fail;
+
+/// The head of every description here.
+pub const HEAD: &str = "machine { word 32; address 8; size 64; }\n";
+
+/// How many bytes a file may hold.
+const ROOM: usize = 1 << 20;
+
+/// How a command ended, and what it wrote.
+#[derive(Drop)]
+pub struct Ran {
+    pub status: Status,
+    pub text: String,
+}
+
+/// The files `d`, which holds a description, and `c`, which is empty; with the calls that fail, and how much each does before.
+pub fn files(alloc: Global, desc: &str, failing: Vec<(u64, usize)>) -> Result<MemShelf, Fail> {
+    let mut files = Vec::new(alloc);
+    files.push((text(alloc, "d")?, desc.as_bytes().to_vec(alloc)?))?;
+    files.push((text(alloc, "c")?, Vec::new(alloc)))?;
+    Ok(MemShelf::new(alloc, files, ROOM, failing)?)
+}
+
+/// Runs the words on these files.
+pub fn run(
+    alloc: Global,
+    words: &[&str],
+    shelf: &mut MemShelf,
+    failing: Vec<(u64, usize)>,
+) -> Result<Ran, Fail> {
+    let mut given = Vec::new(alloc);
+    for word in words {
+        given.push(text(alloc, word)?)?;
+    }
+    let mut out = MemSink::new(alloc, 16_384, failing)?;
+    let mut hw = Rig::new(alloc);
+    let status = tool(alloc, &given, shelf, &mut out, &mut hw);
+    match str::from_utf8(out.bytes()) {
+        Ok(written) => Ok(Ran {
+            status,
+            text: text(alloc, written)?,
+        }),
+        Err(_) => Err("what is written is text".into()),
+    }
+}
+
+/// Checks a description, with this budget.
+pub fn check(alloc: Global, shelf: &mut MemShelf, budget: &str) -> Result<Ran, Fail> {
+    let words = ["pgv", "check", "d", "--cert", "c", "--budget", budget];
+    run(alloc, &words, shelf, Vec::new(alloc))
+}
+
+/// Verifies the certificate that was saved.
+pub fn verify(alloc: Global, shelf: &mut MemShelf) -> Result<Ran, Fail> {
+    run(alloc, &["pgv", "verify", "d", "c"], shelf, Vec::new(alloc))
+}
+
+/// A text of one's own.
+fn text(alloc: Global, given: &str) -> Result<String, AllocError> {
+    String::from_str(alloc, given)
+}
