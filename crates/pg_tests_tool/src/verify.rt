@@ -74,7 +74,8 @@ fn a_machine_without_instructions_is_accepted(rt: HostRuntime) -> Result<(), Fai
 
 #[test]
 fn what_is_open_is_told(rt: HostRuntime) -> Result<(), Fail> {
-    let kinds = "rtu privileged open control yes mode no location no bound no\nopen rtu privileged\n";
+    let kinds =
+        "rtu privileged open control yes mode no location no bound no\nopen rtu privileged\n";
     let ran = verify(rt.alloc(), RTU, OPEN)?;
     assert_eq!(rt; ran.text.as_str(), kinds);
     assert!(rt; ran.status == Status::Unsettled);
