@@ -16,9 +16,9 @@ fn asked(alloc: Global, line: &str) -> Result<Result<Request, Fault>, AllocError
     }
 }
 
-/// Lines that are taken, with the command, the grant and the steps that they ask for. The description is `d`, and the
-/// image or the certificate, where the command has one, `i` or `c`.
-const TAKEN: [(&str, &str, u32, u64); 11] = [
+/// Lines that are taken, with the command, the grant, and the steps or the budget that they ask for. The description is
+/// `d`, and the image or the certificate, where the command has one, `i` or `c`.
+const TAKEN: [(&str, &str, u32, u64); 18] = [
     ("pgv|bare|d|i|--grant|8|--steps|0", "bare", 8, 0),
     (
         "pgv|bare|--steps=1000000|d|--grant=8|i",
@@ -34,6 +34,18 @@ const TAKEN: [(&str, &str, u32, u64); 11] = [
         7,
     ),
     ("pgv|bare|d|i|--grant|+008|--steps|00", "bare", 8, 0),
+    ("pgv|check|d|--cert|c", "check", 0, 20_000),
+    ("x|check|--cert=c|--|d", "check", 0, 20_000),
+    ("pgv|check|--budget|1|--cert|c|d", "check", 0, 1),
+    (
+        "pgv|check|d|--budget=1000000|--cert=c",
+        "check",
+        0,
+        1_000_000,
+    ),
+    ("pgv|check|d|--cert|c|--budget|20001", "check", 0, 20_001),
+    ("pgv|check|d|--cert|c|--budget|+007", "check", 0, 7),
+    ("pgv|check|--cert|c|d|--budget=019999", "check", 0, 19_999),
     ("pgv|verify|d|c", "verify", 0, 0),
     ("x|verify|d|--|c", "verify", 0, 0),
     ("pgv|run|d|i|--grant|8|--steps|3", "run", 8, 3),
@@ -49,10 +61,16 @@ const TAKEN: [(&str, &str, u32, u64); 11] = [
 
 #[test]
 fn lines_that_are_taken(rt: HostRuntime) -> Result<(), Fail> {
-    for (line, command, grant, steps) in TAKEN {
+    for (line, command, grant, number) in TAKEN {
         let (name, words) = match asked(rt.alloc(), line)? {
             Ok(Request::Bare(words)) => ("bare", Some(words)),
             Ok(Request::Run(words)) => ("run", Some(words)),
+            Ok(Request::Check(words)) => {
+                assert!(rt; words.desc.as_str() == "d", "{line}");
+                assert!(rt; words.cert.as_str() == "c", "{line}");
+                assert!(rt; u64::from(words.budget.clauses()) == number, "{line}");
+                ("check", None)
+            }
             Ok(Request::Verify(words)) => {
                 assert!(rt; words.desc.as_str() == "d", "{line}");
                 assert!(rt; words.cert.as_str() == "c", "{line}");
@@ -69,7 +87,7 @@ fn lines_that_are_taken(rt: HostRuntime) -> Result<(), Fail> {
             assert!(rt; words.desc.as_str() == "d", "{line}");
             assert!(rt; words.image.as_str() == "i", "{line}");
             assert!(rt;
-                (words.grant.cells(), words.steps.count()) == (grant, steps),
+                (words.grant.cells(), words.steps.count()) == (grant, number),
                 "{line}"
             );
         }
@@ -78,7 +96,7 @@ fn lines_that_are_taken(rt: HostRuntime) -> Result<(), Fail> {
 }
 
 /// Lines that are refused.
-const REFUSED: [&str; 44] = [
+const REFUSED: [&str; 59] = [
     "pgv",
     "pgv|verify",
     "pgv|--help",
@@ -106,6 +124,21 @@ const REFUSED: [&str; 44] = [
     "pgv|bare|d|i|--grant=8|--steps=-1",
     "pgv|bare|d|i|--grant=8|--steps=1e3",
     "pgv|bare|d|i|--grant=8|--steps",
+    "pgv|bare|d|i|--grant=8|--steps=0|--budget=7",
+    "pgv|check",
+    "pgv|check|d",
+    "pgv|check|--cert|c",
+    "pgv|check|d|c",
+    "pgv|check|d|--cert",
+    "pgv|check|d|e|--cert|c",
+    "pgv|check|d|--cert=c|--cert=c",
+    "pgv|check|d|--cert=c|--budget=0",
+    "pgv|check|d|--cert=c|--budget=1000001",
+    "pgv|check|d|--cert=c|--budget=-1",
+    "pgv|check|d|--cert=c|--budget|",
+    "pgv|check|d|--cert=c|--budget",
+    "pgv|check|d|--cert=c|--budget=7|--budget=7",
+    "pgv|check|d|--cert=c|--steps=3",
     "pgv|run",
     "pgv|run|d|i|--grant=1|--steps=3",
     "pgv|run|d|i|--grant=1048576|--steps=3",

@@ -54,7 +54,8 @@ fn words_that_are_not_taken_show_the_usage(rt: HostRuntime) -> Result<(), Fail> 
     assert!(rt; ran.status == Status::Words);
     assert_eq!(rt;
         ran.text.as_str(),
-        "pgv bare DESC IMAGE --grant G --steps N\npgv verify DESC CERT\n\
+        "pgv bare DESC IMAGE --grant G --steps N\n\
+          pgv check DESC --cert FILE [--budget K]\npgv verify DESC CERT\n\
           pgv run DESC IMAGE --grant G --steps N\npgv print DESC\n"
     );
     assert!(rt; is_fresh(&ran.hw));
