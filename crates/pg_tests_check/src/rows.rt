@@ -19,28 +19,38 @@ svc privileged no control no mode no location no bound no
 lr privileged yes control yes mode no location no bound no
 ";
 
-const HALF: &str = "instr half \"00000111_.......k_xxxxxxxx_yyyyyyyy\" { if (mode & k) { trap; } mem[x] = mem[y]; }\n";
+const HALF: &str =
+    "instr half \"00000111_.......k_xxxxxxxx_yyyyyyyy\" { if (mode & k) { trap; } mem[x] = mem[y]; }\n";
 
 /// A description behind the head, and what is found of it: the whole text where it is accepted, and else its first lines.
-type Row = (&'static str, &'static str, Status);
+type Row<'a> = (&'a str, &'a str, Status);
 
 /// What is written begins as the row says, and `verify` of what was saved writes the same.
-fn expect(rt: &impl Abort, alloc: Global, rows: &[Row]) -> Result<(), Fail> {
+fn expect(rt: &impl Abort, alloc: Global, rows: &[Row<'_>]) -> Result<(), Fail> {
     for row in rows {
         let desc = format!(in alloc; "{HEAD}{}", row.0)?;
         let mut shelf = files(alloc, desc.as_str(), Vec::new(alloc))?;
         let checked = check(alloc, &mut shelf, "20000")?;
-        assert!(rt; checked.text.as_str().starts_with(row.1), "{} {}", row.0, checked.text);
+        assert!(rt;
+            checked.text.as_str().starts_with(row.1),
+            "{} {}",
+            row.0,
+            checked.text
+        );
         assert!(rt; checked.status == row.2, "{}", row.0);
         let again = verify(alloc, &mut shelf)?;
-        assert!(rt; again.text.as_str() == checked.text.as_str(), "again {}", row.0);
+        assert!(rt;
+            again.text.as_str() == checked.text.as_str(),
+            "again {}",
+            row.0
+        );
         assert!(rt; again.status == checked.status, "again {}", row.0);
     }
     Ok(())
 }
 
 /// The same of bodies, each of an instruction `i` with a field `a` of 8 bits.
-fn expect_bodies(rt: &impl Abort, alloc: Global, rows: &[Row]) -> Result<(), Fail> {
+fn expect_bodies(rt: &impl Abort, alloc: Global, rows: &[Row<'_>]) -> Result<(), Fail> {
     for row in rows {
         let instr = format!(in alloc;
             "{HEAD}instr i \"00000110_................_aaaaaaaa\" {{ {} }}\n",
@@ -48,10 +58,19 @@ fn expect_bodies(rt: &impl Abort, alloc: Global, rows: &[Row]) -> Result<(), Fai
         )?;
         let mut shelf = files(alloc, instr.as_str(), Vec::new(alloc))?;
         let checked = check(alloc, &mut shelf, "20000")?;
-        assert!(rt; checked.text.as_str().starts_with(row.1), "{} {}", row.0, checked.text);
+        assert!(rt;
+            checked.text.as_str().starts_with(row.1),
+            "{} {}",
+            row.0,
+            checked.text
+        );
         assert!(rt; checked.status == row.2, "{}", row.0);
         let again = verify(alloc, &mut shelf)?;
-        assert!(rt; again.text.as_str() == checked.text.as_str(), "again {}", row.0);
+        assert!(rt;
+            again.text.as_str() == checked.text.as_str(),
+            "again {}",
+            row.0
+        );
     }
     Ok(())
 }

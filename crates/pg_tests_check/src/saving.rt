@@ -10,7 +10,8 @@ use std::test::Fail;
 const EMPTY: &str = "pgcert 2\nend\n";
 
 /// Whether a product distributes over a sum: the search goes on for long.
-const DIST: &str = "instr dist \"00001000_aaaaaaaa_bbbbbbbb_cccccccc\" { let x = cut(mem[a], 15, 0); let y = cut(mem[b], 15, 0); let z = cut(mem[c], 15, 0); if (mode & ~((x * (y + z)) == ((x * y) + (x * z)))) { pc = 0:8; } }\n";
+const DIST: &str =
+    "instr dist \"00001000_aaaaaaaa_bbbbbbbb_cccccccc\" { let x = cut(mem[a], 15, 0); let y = cut(mem[b], 15, 0); let z = cut(mem[c], 15, 0); if (mode & ~((x * (y + z)) == ((x * y) + (x * z)))) { pc = 0:8; } }\n";
 
 /// Whether the file of the certificate has these bytes.
 fn has(shelf: &MemShelf, bytes: &[u8]) -> bool {
