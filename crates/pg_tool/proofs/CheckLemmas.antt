@@ -12,17 +12,15 @@ use Rattle.pg_cert.specs.Texts.{heading_of, cert_text, DoFindingWordsFit}
 use Rattle.pg_cert.specs.Verdicts.{kind_count, mark_of, verdict_of}
 use Rattle.pg_cert.proofs.Fits.{cert_fits}
 use Rattle.pg_command.specs.declared.check.CheckWords.{CheckWords}
-use Rattle.pg_edge.specs.Shelf.{Files, HasOldOrFront, SameBut}
+use Rattle.pg_edge.specs.Shelf.{Files, SameBut}
 use Rattle.pg_edge.specs.Told.{BothTold}
 use Rattle.pg_report.specs.Verdicts.{DoMarkWordsFit, verdict_text}
-use Rattle.pg_verify.specs.Reader.{Mark as KeptMark}
 use Rattle.pg_verify.specs.Feeding.{most_bytes, verified, kept}
 use Rattle.pg_verify.specs.Verified.{IsTaken}
 use Rattle.pg_verify.proofs.SpellLemmas.{taken_texts_spell}
 use Rattle.pg_verify.proofs.TakeLemmas.{valid_texts_are_taken}
-use Rattle.pg_tool.specs.declared.status.Status.{Status}
 use Rattle.pg_tool.specs.Certificates.{IsCertificate}
-use Rattle.pg_tool.specs.Check.{IsChecked, HoldsNow, HoldsAtMost, CheckEnds, CheckUnsaved}
+use Rattle.pg_tool.specs.Check.{IsChecked, CheckEnds}
 use Rattle.pg_tool.specs.Meaning.{VerdictMeans}
 use Rattle.pg_tool.specs.Verify.{verdict_status}
 use Rattle.pg_tool.specs.World.{World}
@@ -83,10 +81,18 @@ both_told None (Some y) P Q p q = p
 both_told (Some x) None P Q p q = p
 both_told (Some x) (Some y) P Q p q = (p, q)
 
--- no file differs from itself
-pub same_but : (name : List ℕ) (told : Option Files) → BothTold told told (SameBut name)
-same_but name None = tt
-same_but name (Some files) = λ other differs. refl
+-- what a call says of the files that it was lent, under the name and the bytes that it was handed
+pub others_there : (was lent now : Option Files) (name given : List ℕ) → lent ≡ was → given ≡ name →
+    BothTold lent now (SameBut given) → BothTold was now (SameBut name)
+others_there was lent now name given e f h =
+    subst (λ w. BothTold w now (SameBut name)) e (subst (λ n. BothTold lent now (SameBut n)) f h)
+
+pub saved_there : (was lent now : Option Files) (name given bytes handed : List ℕ) → lent ≡ was → given ≡ name → handed ≡ bytes →
+    BothTold lent now (λ x y. y given ≡ Some handed) → BothTold was now (λ x y. y name ≡ Some bytes)
+saved_there was lent now name given bytes handed e f k h =
+    subst (λ w. BothTold w now (λ x y. y name ≡ Some bytes)) e
+    (subst (λ n. BothTold lent now (λ x y. y n ≡ Some bytes)) f
+    (subst (λ b. BothTold lent now (λ x y. y given ≡ Some b)) k h))
 
 module _ (c : CheckWords) (d : Desc) (old new : World) (bytes : List ℕ) (report : Report) (valid : IsValid d)
     (h : IsChecked d c.budget bytes report) (others : BothTold old.files new.files (SameBut c.cert)) (hw : new.hw ≡ old.hw) where
@@ -101,14 +107,5 @@ module _ (c : CheckWords) (d : Desc) (old new : World) (bytes : List ℕ) (repor
     meaning = checked_means d c.budget bytes report valid h;
     again = checked_again d c.budget bytes report valid h;
     saved = both_told old.files new.files (λ was now. now c.cert ≡ Some bytes) (SameBut c.cert) saved others;
-    hw = hw;
-  }
-
-  pub check_unsaved : BothTold old.files new.files (HasOldOrFront c.cert bytes) → CheckUnsaved c d old new
-  check_unsaved left = record {
-    bytes = bytes;
-    report = report;
-    checked = h;
-    left = both_told old.files new.files (HasOldOrFront c.cert bytes) (SameBut c.cert) left others;
     hw = hw;
   }
