@@ -56,11 +56,11 @@ class Judge:
             yield f"status {ended.status} of a search that can save"
             return
         saved = after.get(search.saved)
-        if {**before, search.saved: saved} != after:
-            yield f"other files than the saved one were changed: {sorted(before)} to {sorted(after)}"
         if saved is None:
             yield "nothing is saved"
             return
+        if {**before, search.saved: saved} != after:
+            yield f"other files than the saved one were changed: {sorted(before)} to {sorted(after)}"
         try:
             told = read_verdict(ended.output, search.description)
         except Strange as strange:
@@ -70,7 +70,7 @@ class Judge:
         yield from self.of_certificate(search, ended, saved, verify)
 
     def of_verdict(self, search: Search, told: Told, status: int) -> Iterator[str]:
-        """The conclusion follows from the answers, the status from it, the pairs show what they are to, and no answer is wrong."""
+        """The conclusion follows from the answers, the status from that, pairs show what they are to, no answer is wrong."""
         machine = Machine(search.description)
         conclusion, kinds = concluded(told.answers)
         if told.conclusion != conclusion or tuple(kind for kind, _ in told.shown) != kinds:

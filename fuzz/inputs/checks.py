@@ -14,50 +14,56 @@ from pgvmodel.reader import read
 from pgvmodel.validity import LEAST_SIZE
 
 GUARDS = (
-    "", "", "", "if mode { trap; }", "if mode { trap; }", "if mode { trap; }", "if mode { trap; }", "if mode { trap; } else { }",
-    "if ~mode { trap; }", "if (mode & c) { trap; }", "if (mode | c) { trap; }", "if (mode ^ c) { trap; }", "if c { trap; }",
-    "if (mode == 1:1) { trap; }", "if mode { if c { trap; } }", "if mode { let g = mem[~0:$A]; }",
-    "if mode { mem[~0:$A] = 0:$W; }", "if mode { let g = mem[x]; }", "if ~mode { let g = mem[x]; }",
-    "if ~mode { let g = mem[~0:$A]; }", "if (x == y) { trap; }", "let g = mem[x];", "if (bound < x) { trap; }",
-    "if (rel == 0:$A) { trap; }", "if (pc == 0:$A) { trap; }", "if mode { trap; trap; }", "if mode { mode = 0:1; trap; }",
-    "trap;", "if (x < y) { if mode { trap; } }", "if sel(c, mode, ~mode) { trap; }", "if (mem[x] == 0:$W) { trap; }",
-    "if (ext(mode, $W) < mem[pc]) { trap; }", "if mode { } else { trap; }", "if ((mode + 1:1) == 0:1) { trap; }",
+    "", "", "", "if mode { trap; }", "if mode { trap; }", "if mode { trap; }", "if mode { trap; }",
+    "if mode { trap; } else { }", "if ~mode { trap; }", "if (mode & c) { trap; }", "if (mode | c) { trap; }",
+    "if (mode ^ c) { trap; }", "if c { trap; }", "if (mode == 1:1) { trap; }", "if mode { if c { trap; } }",
+    "if mode { let g = mem[~0:$A]; }", "if mode { mem[~0:$A] = 0:$W; }", "if mode { let g = mem[x]; }",
+    "if ~mode { let g = mem[x]; }", "if ~mode { let g = mem[~0:$A]; }", "if (x == y) { trap; }", "let g = mem[x];",
+    "if (bound < x) { trap; }", "if (rel == 0:$A) { trap; }", "if (pc == 0:$A) { trap; }", "if mode { trap; trap; }",
+    "if mode { mode = 0:1; trap; }", "trap;", "if (x < y) { if mode { trap; } }", "if sel(c, mode, ~mode) { trap; }",
+    "if (mem[x] == 0:$W) { trap; }", "if (ext(mode, $W) < mem[pc]) { trap; }", "if mode { } else { trap; }",
+    "if ((mode + 1:1) == 0:1) { trap; }",
 )
 """Begins: guards, what is nearly one, and traps that rest on other things. c is a field of one bit, no ~0 is usable."""
 
 MIDDLES = (
-    "", "", "", "mem[x] = ext(mode, $W);", "mem[x] = ext(rel, $W);", "mem[x] = ext(bound, $W);", "mem[x] = ext(pc, $W);",
-    "mem[x] = mem[y];", "mem[x] = (mem[x] + mem[y]);", "mem[x] = ext((rel - rel), $W);", "mem[x] = ext((bound & 0:$A), $W);",
-    "mem[x] = (ext(rel, $W) >> $A:6);", "mem[x] = (ext(bound, $W) >> ($A - 1):6);", "mem[x] = ext(cut(bound, $T, $T), $W);",
-    "mem[x] = ext(cut(rel, $T, $T), $W);", "mem[x] = ext(rel, $W); mem[x] = 0:$W;", "mem[x] = ext(mode, $W); mem[y] = 0:$W;",
-    "mem[rel] = 0:$W;", "let t = mem[rel];", "let t = mem[bound];", "let t = mem[(bound - 1:$A)];", "mem[bound] = mem[x];",
+    "", "", "", "mem[x] = ext(mode, $W);", "mem[x] = ext(rel, $W);", "mem[x] = ext(bound, $W);",
+    "mem[x] = ext(pc, $W);", "mem[x] = mem[y];", "mem[x] = (mem[x] + mem[y]);", "mem[x] = ext((rel - rel), $W);",
+    "mem[x] = ext((bound & 0:$A), $W);", "mem[x] = (ext(rel, $W) >> $A:6);", "mem[x] = (ext(bound, $W) >> ($A - 1):6);",
+    "mem[x] = ext(cut(bound, $T, $T), $W);", "mem[x] = ext(cut(rel, $T, $T), $W);",
+    "mem[x] = ext(rel, $W); mem[x] = 0:$W;", "mem[x] = ext(mode, $W); mem[y] = 0:$W;", "mem[rel] = 0:$W;",
+    "let t = mem[rel];", "let t = mem[bound];", "let t = mem[(bound - 1:$A)];", "mem[bound] = mem[x];",
     "let t = mem[(rel + bound)];", "if (bound == 3:$A) { pc = y; }", "if (rel == 2:$A) { pc = y; }", "let t = mem[pc];",
     "if ((rel == 0:$A) & (bound == 3:$A)) { pc = 0:$A; }", "if (rel < y) { let t = mem[~0:$A]; }",
     "if (bound < y) { let t = mem[~0:$A]; }", "if (rel < y) { trap; } else { let t = mem[~0:$A]; }",
     "if (mode & (x < y)) { trap; } else { let t = mem[~0:$A]; }", "mem[(x + ext(mode, $A))] = 0:$W;",
-    "mem[(x ^ (rel & 1:$A))] = mem[y];", "if (mem[x] == ext(rel, $W)) { pc = y; }", "if (mem[x] == ext(mode, $W)) { pc = y; }",
-    "if (mem[x] == ext(bound, $W)) { trap; }", "mem[x] = (ext(rel, $W) ^ ext(bound, $W));", "mem[x] = sext(mode, $W);",
+    "mem[(x ^ (rel & 1:$A))] = mem[y];", "if (mem[x] == ext(rel, $W)) { pc = y; }",
+    "if (mem[x] == ext(mode, $W)) { pc = y; }", "if (mem[x] == ext(bound, $W)) { trap; }",
+    "mem[x] = (ext(rel, $W) ^ ext(bound, $W));", "mem[x] = sext(mode, $W);",
     "mem[x] = (ext(rel, $W) + ext(bound, $W));", "if ((rel + bound) == x) { pc = y; }", "if (bound < rel) { pc = y; }",
-    "if ((rel + bound) < rel) { pc = y; }", "if (x < bound) { let t = mem[x]; }", "if (x < bound) { mem[x] = 0:$W; } else { trap; }",
-    "let t = mem[x]; if (x < bound) { } else { pc = y; }", "if (pc < bound) { } else { mode = ~mode; rel = x; pc = rel; }",
-    "mem[pc] = ext(mode, $W);", "mem[pc] = (mem[pc] | ext(mode, $W));", "if (bound == 0:$A) { pc = y; mode = ~mode; }",
+    "if ((rel + bound) < rel) { pc = y; }", "if (x < bound) { let t = mem[x]; }",
+    "if (x < bound) { mem[x] = 0:$W; } else { trap; }", "let t = mem[x]; if (x < bound) { } else { pc = y; }",
+    "if (pc < bound) { } else { mode = ~mode; rel = x; pc = rel; }", "mem[pc] = ext(mode, $W);",
+    "mem[pc] = (mem[pc] | ext(mode, $W));", "if (bound == 0:$A) { pc = y; mode = ~mode; }",
     "mem[x] = ext(sel(mode, rel, rel), $W);", "mem[x] = ext(sel(mode, y, y), $W);", "mem[x] = (ext(mode, $W) * 2:$W);",
-    "mem[x] = ((ext(mode, $W) * 2:$W) & 1:$W);", "let t = cut(mem[x], $T, 0); mem[t] = ext(mode, $W);", "pc = mem_low;",
+    "mem[x] = ((ext(mode, $W) * 2:$W) & 1:$W);", "let t = cut(mem[x], $T, 0); mem[t] = ext(mode, $W);", "pc = cut(mem[x], $T, 0);",
     "let u = (mode == mode); if u { } else { pc = rel; }", "mem[x] = cat(rel, cut(mem[y], $R, 0));",
     "if (rel == $Q:$A) { pc = y; }", "if ((rel + 1:$A) == $Q:$A) { pc = y; }", "if (rel == ~0:$A) { pc = y; }",
     "if (bound == ~0:$A) { pc = y; }", "if (bound == 1:$A) { pc = y; }", "if (pc == ($Q - 1):$A) { pc = bound; }",
-    "let t = mem[($Q - 1):$A]; pc = bound;", "let t = mem[($Q - 1):$A]; pc = rel;", "let t = mem[($Q - 2):$A]; pc = rel;",
-    "let t = mem[1:$A]; if (rel < 2:$A) { } else { pc = y; }", "mem[x] = ext(rel, $W); if mode { trap; }",
+    "let t = mem[($Q - 1):$A]; pc = bound;", "let t = mem[($Q - 1):$A]; pc = rel;",
+    "let t = mem[($Q - 2):$A]; pc = rel;", "let t = mem[1:$A]; if (rel < 2:$A) { } else { pc = y; }",
+    "mem[x] = ext(rel, $W); if mode { trap; }",
 )
 """Middles: what tells of the control registers or seems to, and what does not."""
 
 ENDS = (
-    "", "", "", "mode = 1:1;", "mode = 0:1;", "mode = mode;", "mode = ~mode;", "mode = (mode & c);", "mode = (mode | 1:1);",
-    "rel = rel;", "rel = y;", "rel = (rel + 0:$A);", "bound = bound;", "bound = (bound - 1:$A);", "bound = y; bound = bound;",
-    "mode = ~mode; mode = mode;", "pc = y;", "pc = rel;", "pc = bound;", "pc = (pc + rel);", "pc = (pc + ext(mode, $A));",
-    "pc = (pc + 1:$A);", "if c { rel = y; }", "if (y < bound) { bound = y; }", "if mode { mode = 0:1; }", "if mode { mode = 1:1; }",
-    "if ~mode { rel = x; }", "if mode { } else { pc = y; }", "trap;", "if mode { trap; }", "rel = y; trap;", "rel = y; let e = mem[~0:$A];",
-    "rel = l; bound = b;", "if mode { trap; } rel = x; bound = y;", "mode = 1:1; pc = y;", "if (rel == x) { rel = x; }",
+    "", "", "", "mode = 1:1;", "mode = 0:1;", "mode = mode;", "mode = ~mode;", "mode = (mode & c);",
+    "mode = (mode | 1:1);", "rel = rel;", "rel = y;", "rel = (rel + 0:$A);", "bound = bound;",
+    "bound = (bound - 1:$A);", "bound = y; bound = bound;", "mode = ~mode; mode = mode;", "pc = y;", "pc = rel;",
+    "pc = bound;", "pc = (pc + rel);", "pc = (pc + ext(mode, $A));", "pc = (pc + 1:$A);", "if c { rel = y; }",
+    "if (y < bound) { bound = y; }", "if mode { mode = 0:1; }", "if mode { mode = 1:1; }", "if ~mode { rel = x; }",
+    "if mode { } else { pc = y; }", "trap;", "if mode { trap; }", "rel = y; trap;", "rel = y; let e = mem[~0:$A];",
+    "rel = x; bound = y;", "if mode { trap; } rel = x; bound = y;", "mode = 1:1; pc = y;", "if (rel == x) { rel = x; }",
     "if (bound == x) { } else { bound = bound; }", "if (rel == x) { } else { rel = x; }", "bound = (bound | 0:$A);",
 )
 """Ends, most of which assign a register."""
@@ -111,7 +117,7 @@ def _filled(shape: tree.Description, body: str) -> str:
     }
     for name, number in named.items():
         body = body.replace(name, str(number))
-    return body.replace("pc = mem_low;", f"pc = cut(mem[x], {address - 1}, 0);").replace("rel = l; bound = b;", "rel = x; bound = y;")
+    return body
 
 
 def pieced_body(rng: Random) -> str:

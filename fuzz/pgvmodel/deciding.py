@@ -54,7 +54,7 @@ class Solver:
             return Decision(Answer.NEVER)
         pair = _states(found)
         if not shows(machine, number, kind, *pair):
-            raise AssertionError(f"the formula of {kind} of instruction {number} has a solution that does not show it: {pair}")
+            raise AssertionError(f"a solution for {kind} of instruction {number} does not show it: {pair}")
         return Decision(Answer.SHOWN, pair)
 
     def _solved(self, text: str) -> list[int] | None:
