@@ -14,7 +14,6 @@ sys.dont_write_bytecode = True  # before the modules of this folder are read, so
 from judging import Ended, Judge
 from pgvmodel.command import Search
 from pgvmodel.deciding import Answer, Solver
-from pgvmodel.machine import Machine
 from pgvmodel.pairs import BOUND, CONTROL, KINDS, LOCATION, MODE, PRIVILEGED
 from pgvmodel.questions import Questions
 from pgvmodel.reader import read
@@ -165,7 +164,7 @@ def wrong_rows(solver: Solver) -> list[str]:
         description = read(described(row))
         check(description)
         judge = Judge(solver, Questions())
-        found = {kind: judge.decided(Machine(description), 0, kind).answer for kind in KINDS}
+        found = {kind: judge.decided(description, 0, kind).answer for kind in KINDS}
         told = {kind for kind, answer in found.items() if answer is Answer.SHOWN}
         if told != row.shown or Answer.UNDECIDED in found.values():
             wrong.append(f"{row.body}: {sorted(told)}, and not {sorted(row.shown)}")

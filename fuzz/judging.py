@@ -2,12 +2,13 @@
 
 from collections import Counter
 from collections.abc import Callable, Iterator, Mapping
-from dataclasses import dataclass, field
-from pathlib import Path
+from functools import lru_cache
+from os.path import normpath
 from random import Random
 from typing import NamedTuple
 
 from inputs.pairs import PairFinder
+from pgvmodel import tree
 from pgvmodel.command import Search, answer
 from pgvmodel.deciding import Answer, Decision, Solver
 from pgvmodel.machine import Machine, State
@@ -42,24 +43,30 @@ Verify = Callable[[bytes, bytes], Ended]
 """Runs `verify` of a description's text and a certificate."""
 
 
-@dataclass
+MOST_KEPT = 256
+"""Decisions that are kept; some lists ask of one description often."""
+
+
 class Judge:
     """Decides questions for itself. `counts` has what was compared, over all runs that were judged."""
 
-    solver: Solver | None
-    questions: Questions
-    counts: Counter[str] = field(default_factory=Counter)
+    def __init__(self, solver: Solver | None, questions: Questions) -> None:
+        self.solver = solver
+        self.questions = questions
+        self.counts: Counter[str] = Counter()
+        self.decided = lru_cache(MOST_KEPT)(self._decided)
 
     def complaints(self, search: Search, ended: Ended, before: Files, after: Files, verify: Verify) -> Iterator[str]:
         """What is wrong with a run, in words; nothing where it is one of those that may be."""
         if ended.status not in (ACCEPTED, REFUSED, UNSETTLED):
             yield f"status {ended.status} of a search that can save"
             return
-        saved = after.get(search.saved)
+        place = normpath(search.saved)
+        saved = after.get(place)
         if saved is None:
             yield "nothing is saved"
             return
-        if {**before, search.saved: saved} != after:
+        if {**before, place: saved} != after:
             yield f"other files than the saved one were changed: {sorted(before)} to {sorted(after)}"
         try:
             told = read_verdict(ended.output, search.description)
@@ -91,19 +98,20 @@ class Judge:
         self.counts[told] += 1
         if told == OPEN:
             return
-        decided = self.decided(machine, number, kind)
+        decided = self.decided(machine.description, number, kind)
         self.counts["undecided" if decided.answer is Answer.UNDECIDED else "decided"] += 1
         if decided.answer is Answer.SHOWN and not is_shown(kind, told):
             yield f"{question} {told}, and these show it: {decided.pair}"
         if decided.answer is Answer.NEVER and is_shown(kind, told):
             yield f"{question} {told}, and nothing can show it"
 
-    def decided(self, machine: Machine, number: int, kind: str) -> Decision:
+    def _decided(self, description: tree.Description, number: int, kind: str) -> Decision:
         """By the solver; what it says can't be shown is tried all the same. By trying alone where there is none."""
+        machine = Machine(description)
         decided = self.solver.decided(machine, number, kind) if self.solver else Decision(Answer.UNDECIDED)
         if decided.answer is Answer.SHOWN:
             return decided
-        finder = PairFinder(Random(f"{number} {kind}"), machine.description)
+        finder = PairFinder(Random(f"{number} {kind}"), description)
         pair = next(filter(None, (finder.found(number, kind) for _ in range(1 if self.solver else ROUNDS_OF_TRIES))), None)
         if pair is None:
             return decided

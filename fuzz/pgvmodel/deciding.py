@@ -17,6 +17,9 @@ from pgvmodel.pairs import shows
 SECONDS = 10
 """A question that takes the solver longer is left undecided."""
 
+MORE_SECONDS = 5
+"""What the solver has beyond that to stop by itself."""
+
 _FOUND = re.compile(r"#x[0-9a-f]+|#b[01]+")
 
 Pair = tuple[State, State]
@@ -59,8 +62,9 @@ class Solver:
 
     def _solved(self, text: str) -> list[int] | None:
         """The numbers that the formula asks for; none where it has no solution, and None where the solver does not know."""
+        most = self.seconds + MORE_SECONDS
         try:
-            ended = subprocess.run(self.words, input=text, capture_output=True, text=True, timeout=self.seconds + 5, check=False)
+            ended = subprocess.run(self.words, input=text, capture_output=True, text=True, timeout=most, check=False)
         except subprocess.TimeoutExpired:
             return None
         answer, _, values = ended.stdout.partition("\n")
