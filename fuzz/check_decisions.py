@@ -1,20 +1,27 @@
 #!/usr/bin/env python3
 """Small bodies beside the kinds that can be shown of them, worked out by hand; and verdicts that are not quite right.
 
-Needs a solver, z3. Ends with 0 where the model decides all of them so.
+Needs a solver, z3. Ends with 0 where the model decides all of them so. With `--tries N`, so many random pairs of states are
+also put into the formulas of random bodies, which are to have a solution just where the model's machine finds a kind shown.
 """
 
+import argparse
 import shutil
 import sys
 from pathlib import Path
+from random import Random
 from typing import NamedTuple
 
 sys.dont_write_bytecode = True  # before the modules of this folder are read, so that it holds sources only
 
+from inputs.case import DESCRIPTION_FILE
+from inputs.checks import any_bodies, hard, pieced
+from inputs.pairs import PairFinder
 from judging import Ended, Judge
 from pgvmodel.command import Search
 from pgvmodel.deciding import Answer, Solver
-from pgvmodel.pairs import BOUND, CONTROL, KINDS, LOCATION, MODE, PRIVILEGED
+from pgvmodel.machine import Machine
+from pgvmodel.pairs import BOUND, CONTROL, KINDS, LOCATION, MODE, PRIVILEGED, shows
 from pgvmodel.questions import Questions
 from pgvmodel.reader import read
 from pgvmodel.validity import check
@@ -209,15 +216,37 @@ def wrong_verdicts(solver: Solver) -> list[str]:
     return [name for name, is_so in checks.items() if not is_so]
 
 
+def wrong_tries(solver: Solver, count: int) -> list[str]:
+    """Random pairs of which a formula says another thing than the machine."""
+    wrong = []
+    shown = 0
+    for i in range(count):
+        rng = Random(f"tries {i}")
+        description = read(rng.choice([any_bodies, any_bodies, pieced, hard])(rng).files[DESCRIPTION_FILE])
+        machine = Machine(description)
+        number, kind = rng.randrange(len(description.instructions)), rng.choice(KINDS)
+        finder = PairFinder(rng, description)
+        pair = rng.random() < 0.5 and finder.found(number, kind) or finder.pair(number, kind)
+        is_shown = shows(machine, number, kind, *pair)
+        shown += is_shown
+        if solver.is_shown_by(machine, number, kind, pair) != is_shown:
+            wrong.append(f"try {i}: {kind} of instruction {number} is {'' if is_shown else 'not '}shown by {pair}")
+    return [*wrong, f"{count} tries, {shown} shown, {len(wrong)} wrong"] if count else wrong
+
+
 def main() -> int:
+    parser = argparse.ArgumentParser(description=__doc__, formatter_class=argparse.RawDescriptionHelpFormatter)
+    parser.add_argument("--tries", type=int, default=0, metavar="N", help="random pairs (default: %(default)s)")
+    count = parser.parse_args().tries
     program = shutil.which("z3")
     if program is None:
         print("check_decisions: no program z3", file=sys.stderr)
         return 2
     solver = Solver(Path(program))
     wrong = [*wrong_rows(solver), *wrong_verdicts(solver)]
-    print("\n".join([*wrong, f"{len(ROWS)} rows, {len(wrong)} wrong"]))
-    return WRONG if wrong else GOOD
+    tried = wrong_tries(solver, count)
+    print("\n".join([*wrong, f"{len(ROWS)} rows, {len(wrong)} wrong", *tried]))
+    return WRONG if wrong or len(tried) > 1 else GOOD
 
 
 if __name__ == "__main__":

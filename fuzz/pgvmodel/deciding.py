@@ -60,8 +60,15 @@ class Solver:
             raise AssertionError(f"a solution for {kind} of instruction {number} does not show it: {pair}")
         return Decision(Answer.SHOWN, pair)
 
-    def _solved(self, text: str) -> list[int] | None:
-        """The numbers that the formula asks for; none where it has no solution, and None where the solver does not know."""
+    def is_shown_by(self, machine: Machine, number: int, kind: str, pair: Pair) -> bool:
+        """Whether the formula has a solution for these states, whose windows are equal."""
+        return bool(self._solved(Formula(machine, number, kind).text_of(*pair), [1]))
+
+    def _solved(self, text: str, unasked: list[int] | None = None) -> list[int] | None:
+        """The numbers that the formula asks for, or `unasked` where it asks for none.
+
+        None of them where it has no solution, and None where the solver does not know.
+        """
         most = self.seconds + MORE_SECONDS
         try:
             ended = subprocess.run(self.words, input=text, capture_output=True, text=True, timeout=most, check=False)
@@ -69,7 +76,7 @@ class Solver:
             return None
         answer, _, values = ended.stdout.partition("\n")
         if answer == "sat":
-            return [int("0" + found[1:], 0) for found in _FOUND.findall(values)]
+            return [int("0" + found[1:], 0) for found in _FOUND.findall(values)] or unasked
         if answer == "unsat":
             return []
         if answer in ("unknown", "timeout"):

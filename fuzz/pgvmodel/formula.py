@@ -9,7 +9,7 @@ from collections.abc import Sequence
 from typing import NamedTuple
 
 from pgvmodel import tree
-from pgvmodel.machine import SUPERVISOR, USER, Machine
+from pgvmodel.machine import SUPERVISOR, USER, Machine, State, window
 from pgvmodel.pairs import BOUND, CONTROL, LOCATION, MODE, PRIVILEGED
 
 LEAST_CELLS = 2
@@ -229,6 +229,16 @@ class Formula:
         """The formula, and what is asked of its solution: the numbers of `asked`, in that order."""
         asked = " ".join(term.text for term in self.asked())
         return "\n".join([*self.script.lines, "(check-sat)", f"(get-value ({asked}))"]) + "\n"
+
+    def text_of(self, first: State, second: State) -> str:
+        """The formula with these states put in, whose windows are equal: it has a solution where they show the kind."""
+        given = [f"(= {self.p.text} {number(first.psw.p, self.p.width).text})"]
+        for side, (cells, psw) in zip(self.sides, ((state.cells, state.psw) for state in (first, second))):
+            numbers = zip((side.size, *side.registers), (len(cells), psw.mode, psw.l, psw.b))
+            given += [f"(= {term.text} {number(value, term.width).text})" for term, value in numbers]
+        for address, word in enumerate(window(first)):
+            given.append(f"(= (cell {number(address, self.p.width).text}) {number(word, self.description.word).text})")
+        return "\n".join([*self.script.lines, *(f"(assert {condition})" for condition in given), "(check-sat)"]) + "\n"
 
     def asked(self) -> list[Term]:
         """P, of either side the size, the mode, l and b, and each touched address with its word."""
