@@ -127,6 +127,12 @@ ROWS = (
     Row(NARROW, "let t = mem[(bound - 1:4)];", {PRIVILEGED, BOUND}),
     Row(NARROW, "mem[rel] = mem[rel];", {PRIVILEGED, LOCATION}),
     Row(NARROW, "mem[pc] = mem[pc];", {PRIVILEGED}),
+    # What is shifted by the width or more is 0, however wide the number of places is.
+    Row(NARROW, "if ((mode << x) < mode) { pc = y; }", {PRIVILEGED, MODE}),
+    Row(NARROW, "if ((mode << 16:8) == 1:1) { pc = y; }", {PRIVILEGED}),
+    Row(NARROW, "if ((rel >> 256:16) == 1:4) { pc = y; }", {PRIVILEGED}),
+    Row(NARROW, "if ((rel >> 2:16) == 1:4) { pc = y; }", {PRIVILEGED, LOCATION}),
+    Row(NARROW, "if ((bound << 4:3) == 0:4) { pc = y; } else { pc = bound; }", {PRIVILEGED}),
     # Two traps of different causes are no two observations that count, and none is done.
     Row(NARROW, "if (rel < y) { trap; } else { let t = mem[15:4]; }", {PRIVILEGED}),
     Row(NARROW, "if mode { trap; } else { if c { trap; } else { let t = mem[15:4]; } }", {PRIVILEGED}),
