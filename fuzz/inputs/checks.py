@@ -1,6 +1,7 @@
 """Descriptions for `check`: of bodies that are put together from pieces, and of any."""
 
 import re
+from dataclasses import replace
 from random import Random
 
 from inputs import certificates
@@ -176,7 +177,21 @@ def any_bodies(rng: Random) -> Case:
         description = random_description(rng, shape, count, manners)
     if rng.random() < 0.4:
         description = with_near_miss(rng, description)
-    return checking(description, rng.choice([None, 1, 10, 100, 500, 2000]))
+    return checking(with_tellers(rng, description), rng.choice([None, 1, 10, 100, 500, 2000]))
+
+
+def with_tellers(rng: Random, description: tree.Description) -> tree.Description:
+    """Half of the instructions end with a jump that tells of a control register, or with a change of one."""
+    pc, mode, rel, bound = map(tree.Register, tree.REGISTERS)
+    tellers = [
+        tree.Assign("pc", bound),
+        tree.Assign("pc", tree.Binary("+", pc, rel)),
+        tree.Assign("pc", tree.Select(mode, pc, bound)),
+        tree.If(mode, (tree.Assign("pc", pc),)),
+        tree.If(tree.Binary("<", rel, pc), (tree.Assign("mode", tree.Not(mode)),)),
+    ]
+    told = (replace(it, body=(*it.body, rng.choice(tellers))) if rng.random() < 0.5 else it for it in description.instructions)
+    return replace(description, instructions=tuple(told))
 
 
 def as_for_certificates(rng: Random) -> Case:
