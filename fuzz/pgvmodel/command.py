@@ -19,10 +19,10 @@ from pgvmodel.words import Request, request
 
 USAGE = (
     "pgv bare DESC IMAGE --grant G --steps N\n"
+    "pgv check DESC --cert FILE [--budget K]\n"
     "pgv verify DESC CERT\n"
     "pgv run DESC IMAGE --grant G --steps N\n"
     "pgv print DESC\n"
-    "pgv check DESC --cert FILE [--budget K]\n"
 )
 
 DONE, OPEN = ACCEPTED, UNSETTLED
