@@ -196,15 +196,18 @@ ROUNDS = (
     ListRound("certificate-lines", certificates.odd_lines),
     ListRound("log-lines", certificates.odd_logs),
     ListRound("certificate-fronts", certificates.fronts),
+    ListRound("line-shapes", command_lines.shapes),
+    ListRound("line-numbers", command_lines.numbers),
+    ListRound("refusals", command_lines.refusals),
+    RandomRound("random-words", command_lines.random_line),
+)
+
+SEARCH_ROUNDS = (
     ListRound("check-pieces", checks.listed),
     RandomRound("checks", checks.pieced),
     RandomRound("hard-checks", checks.hard),
     RandomRound("any-checks", checks.any_bodies),
     RandomRound("other-checks", checks.as_for_certificates),
-    ListRound("line-shapes", command_lines.shapes),
-    ListRound("line-numbers", command_lines.numbers),
-    ListRound("refusals", command_lines.refusals),
-    RandomRound("random-words", command_lines.random_line),
 )
 
 LONG_ROUNDS = (
