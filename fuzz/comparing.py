@@ -6,13 +6,15 @@ import shutil
 import subprocess
 import traceback
 from collections import Counter
-from collections.abc import Iterable, Iterator, Mapping
+from collections.abc import Iterable, Iterator, Mapping, Sequence
 from dataclasses import dataclass, field
 from pathlib import Path
 from typing import NamedTuple
 
-from inputs.case import Case
-from pgvmodel.command import CERTIFICATE, DESCRIPTION, IMAGE, answer
+from inputs.case import CERTIFICATE_FILE, DESCRIPTION_FILE, Case
+from judging import Ended, Judge, counted
+from pgvmodel.command import CERTIFICATE, DESCRIPTION, IMAGE, Search, answer
+from pgvmodel.deciding import Solver
 from pgvmodel.questions import NotModelled, Questions
 
 SECONDS = 120
@@ -46,6 +48,11 @@ class Outcome(NamedTuple):
         return f"{self.status} {words[0].decode()}" if self.status in REFUSED_FILES and words else str(self.status)
 
 
+def _failed() -> Outcome:
+    """The outcome of a model that failed."""
+    return Outcome(None, b"", traceback.format_exc().encode())
+
+
 def _shortened(text: bytes) -> str:
     """A text's begin, or the end of a traceback."""
     if text.startswith(b"Traceback"):
@@ -69,29 +76,37 @@ class Tally:
     differences: int = 0
     not_modelled: int = 0
     seen: Counter[str] = field(default_factory=Counter)
+    judged: Counter[str] = field(default_factory=Counter)
     kept: list[Difference] = field(default_factory=list)
 
 
 class Comparison:
     """Compares the program with the model, in a folder of its own."""
 
-    def __init__(self, program: Path, folder: Path, questions: Questions) -> None:
+    def __init__(self, program: Path, folder: Path, questions: Questions, solver: Solver | None = None) -> None:
         self.program = program
         self.questions = questions
+        self.judge = Judge(solver, questions)
         self.folder = folder
         self.files = folder / "files"
+        self.again = folder / "again"
         self.placed: Mapping[str, bytes] | None = None
 
     def round(self, name: str, cases: Iterable[Case]) -> Tally:
         """Runs all cases of a round, but those that are not modelled."""
         tally = Tally()
+        self.judge.counts = tally.judged
         for case in cases:
             self.place(case.files)
             model = self.by_model(case)
             if model is None:
                 tally.not_modelled += 1
                 continue
-            program = self.by_program(case)
+            may_save = case.words[:1] == ("check",)
+            before = self.found() if may_save else {}
+            program = self.by_program(case.words, self.files)
+            if may_save:
+                model = self.judged(model, program, before)
             tally.runs += 1
             tally.seen[model.label()] += 1
             if model != program:
@@ -112,6 +127,11 @@ class Comparison:
             path.mkdir() if name.endswith("/") else path.write_bytes(content)
         self.placed = files
 
+    def found(self) -> dict[str, bytes | None]:
+        """What stands where the program runs; None for a folder."""
+        paths = sorted(self.files.rglob("*"))
+        return {str(path.relative_to(self.files)): path.read_bytes() if path.is_file() else None for path in paths}
+
     def load(self, name: str) -> bytes:
         """The file of a name, as the program finds it; the empty name is that of none."""
         if not name:
@@ -119,20 +139,55 @@ class Comparison:
         with open(os.path.join(self.files, name), "rb") as file:
             return file.read()
 
-    def by_model(self, case: Case) -> Outcome | None:
+    def can_save(self, name: str) -> bool:
+        """Whether a file can be written where the program runs; it is left as it is."""
+        path = os.path.join(self.files, name)
+        try:
+            is_new = not os.path.lexists(path)
+            with open(path, "ab"):
+                pass
+            if is_new:
+                os.remove(path)
+        except OSError:
+            return False
+        return bool(name)
+
+    def by_model(self, case: Case) -> Outcome | Search | None:
         """None where the model has no answer."""
         try:
-            return Outcome(*answer(case.words, self.load, self.questions), b"")
+            answered = answer(case.words, self.load, self.questions, self.can_save)
         except NotModelled:
             return None
         except Exception:  # a fault of the model is a difference too, and its input is wanted
-            return Outcome(None, b"", traceback.format_exc().encode())
+            return _failed()
+        return answered if isinstance(answered, Search) else Outcome(*answered, b"")
 
-    def by_program(self, case: Case) -> Outcome:
+    def judged(self, model: Outcome | Search, program: Outcome, before: Mapping[str, bytes | None]) -> Outcome:
+        """What the model has to say of a run that may have saved: the same outcome, where nothing is wrong with it."""
+        after = self.found()
+        self.placed = None
+        if not isinstance(model, Search):
+            return model if before == after or model.errors else model._replace(errors=b"files were changed")
+        ended = Ended(program.status, program.output)
+        try:
+            complaints = list(self.judge.complaints(model, ended, before, after, self.verified))
+        except Exception:
+            return _failed()
+        return Outcome(None, b"", "\n".join(complaints).encode()) if complaints else program._replace(errors=b"")
+
+    def verified(self, description: bytes, certificate: bytes) -> Ended:
+        """How the program's `verify` ends, on these texts in a folder of their own."""
+        self.again.mkdir(exist_ok=True)
+        (self.again / DESCRIPTION_FILE).write_bytes(description)
+        (self.again / CERTIFICATE_FILE).write_bytes(certificate)
+        program = self.by_program(("verify", DESCRIPTION_FILE, CERTIFICATE_FILE), self.again)
+        return Ended(program.status, program.output + program.errors)
+
+    def by_program(self, words: Sequence[str], folder: Path) -> Outcome:
         try:
             ended = subprocess.run(
-                [self.program, *case.words],
-                cwd=self.files,
+                [self.program, *words],
+                cwd=folder,
                 stdin=subprocess.DEVNULL,
                 capture_output=True,
                 timeout=SECONDS,
@@ -159,6 +214,8 @@ def report(name: str, tally: Tally) -> Iterator[str]:
     if tally.not_modelled:
         seen += f"; not modelled: {tally.not_modelled}"
     yield f"{name:20} {tally.runs:6} runs {tally.differences:4} differences  {seen}"
+    if tally.judged:
+        yield f"{'':20} {counted(tally.judged)}"
     for difference in tally.kept:
         yield f"  {difference.folder}"
         yield f"    program: {difference.program.told()}"

@@ -4,7 +4,7 @@ from collections.abc import Callable, Iterator
 from dataclasses import dataclass
 from random import Random
 
-from inputs import certificates, command_lines, depths, large, limits, lines, patterns, windows
+from inputs import certificates, checks, command_lines, depths, large, limits, lines, patterns, windows
 from inputs.case import Case, printing, running
 from inputs.descriptions import ANY_MANNER, MOSTLY_PLAIN, PLAIN_MANNERS, any_description, random_description, random_shape
 from inputs.images import ImageWriter, broken_image
@@ -200,6 +200,14 @@ ROUNDS = (
     ListRound("line-numbers", command_lines.numbers),
     ListRound("refusals", command_lines.refusals),
     RandomRound("random-words", command_lines.random_line),
+)
+
+SEARCH_ROUNDS = (
+    ListRound("check-pieces", checks.listed),
+    RandomRound("checks", checks.pieced),
+    RandomRound("hard-checks", checks.hard),
+    RandomRound("any-checks", checks.any_bodies),
+    RandomRound("other-checks", checks.as_for_certificates),
 )
 
 LONG_ROUNDS = (

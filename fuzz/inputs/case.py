@@ -35,5 +35,12 @@ def verifying(description: bytes | tree.Description, certificate: bytes) -> Case
     return Case(words, {DESCRIPTION_FILE: _text(description), CERTIFICATE_FILE: certificate})
 
 
+def checking(description: bytes | tree.Description, budget: int | None) -> Case:
+    """`check` of a description, which saves a certificate; with a budget, or with that of itself."""
+    words = ("check", DESCRIPTION_FILE, "--cert", CERTIFICATE_FILE)
+    more = () if budget is None else ("--budget", str(budget))
+    return Case((*words, *more), {DESCRIPTION_FILE: _text(description)})
+
+
 def _text(description: bytes | tree.Description) -> bytes:
     return description if isinstance(description, bytes) else printed(description)

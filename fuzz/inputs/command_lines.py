@@ -35,6 +35,7 @@ FILES = {
 
 GRANT, STEPS = ["--grant", "8"], ["--steps", "2"]
 BOTH = GRANT + STEPS
+CERT, BUDGET = ["--cert", "x"], ["--budget", "5"]
 
 NUMBER_SPELLINGS = (
     "0", "1", "2", "3", "8", "62", "63", "64", "65", "08", "0000000000000000000000000000000008", "+8", "+08", "++8",
@@ -84,10 +85,26 @@ RUN_LINES = (
 )
 """Lines behind `bare` and `run`; G and S stand for a whole option of each kind."""
 
+CHECK_LINES = (
+    "d C", "C d", "d", "C", "", "d C C", "d d C", "d C K", "K d C", "C K d", "d K", "d C K K", "d --cert", "d --cert=",
+    "d --cert x y", "d --cert=x", "d --cert --budget 5", "d --cert -- x", "-- d C", "C -- d", "C -- -x", "d -- C",
+    "d C -- K", "d --cert -x", "d --cert=-x", "d --cert=--budget", "d --cert -", "d --cert=-", "d --cert --",
+    "d --cert K", "d --cert=a=b", "d --cert==", "d --cert 5", "d --cert=x --budget=5", "d --budget 5 --cert x",
+    "d --cert x --budget", "d --cert x --budget=", "d --cert x --budget x", "d C --budget -1", "d C --grant 8",
+    "d C --steps 3", "d -cert x", "d --Cert x", "d --cer x", "d --certs x", "d -c x", "d -cx", "d --cert:x",
+    "d C --budgets 5", "d C -b 5", "d C --help", "d C -h", "help C", "d C --slice 1", "none C", "dir C", "bad C",
+    "empty C", "shape C", "d/ C", "d/x C", "none --cert dir", "bad --cert dir", "d --cert dir", "d --cert dir/x",
+    "d --cert dir/", "d --cert none/x", "d --cert d/x", "d --cert x/", "d --cert ./x", "d --cert dir/../x",
+    "d --cert ..", "d --cert .", "d --cert d", "n --cert n", "d --cert v", "n --cert v", "n C", "open C", "n C K",
+    "bad --cert bad", "none --cert none", "none --cert d", "dir --cert d", "bad --cert d", "n --cert dir K",
+    "n --cert=n K",
+)
+"""Lines behind `check`; C and K stand for a whole option each."""
+
 POOL = (
     "bare", "run", "print", "verify", "d", "i", "n", "v", "badv", "none", "open", "--grant", "--steps", "8", "2", "--grant=8",
     "--steps=3", "--grant=+9", "--steps=0", "--", "-", "", "--help", "-h", "x", "--grant=65", "+1", "63", "-1", "--slice=1",
-    "help", "bad", "badi", "dir",
+    "help", "bad", "badi", "dir", "check", "--cert", "--cert=x", "--budget", "--budget=5", "x",
 )
 
 
@@ -101,6 +118,11 @@ def shapes() -> list[Case]:
     lines += [["print", name] for name in PRINT_FILES]
     lines += [["verify", *line.split()] for line in VERIFY_LINES]
     lines += [["verify", *files] for files in (["", ""], ["n", ""], ["", "v"], [f"n{NO_UTF_8}", "v"], ["n", NO_UTF_8])]
+    lines += [["check", *_filled(line)] for line in CHECK_LINES]
+    lines += [["check", *rest] for rest in (["", *CERT], ["n", "--cert", ""], ["n", "--cert", "n" * 300])]
+    lines += [["check", *rest] for rest in ([f"n{NO_UTF_8}", *CERT], ["n", "--cert", NO_UTF_8], ["n", f"--cert=x{NO_UTF_8}"])]
+    lines += [["check", "n", "--cert", "d\u00e9"], ["check", "n", "--cert", "a b c"], ["check", "n", "--cert=", *BUDGET]]
+    lines += [[word, "n", *CERT] for word in ("Check", "chec", "checks", "CHECK", "check ", "--check", "bare", "print", "run")]
     lines += [[word, "n", "v"] for word in ("Verify", "verif", "verifys", "VERIFY", "verify ", "--verify", "check", "replay")]
     for command in ("bare", "run"):
         lines += [[command, *_filled(line)] for line in RUN_LINES]
@@ -112,9 +134,9 @@ def shapes() -> list[Case]:
 
 
 def _filled(line: str) -> Iterator[str]:
-    """The words of one of RUN_LINES."""
+    """The words of one of RUN_LINES or CHECK_LINES."""
     for word in line.split():
-        yield from {"G": GRANT, "S": STEPS}.get(word, [word])
+        yield from {"G": GRANT, "S": STEPS, "C": CERT, "K": BUDGET}.get(word, [word])
 
 
 def numbers() -> list[Case]:
@@ -126,6 +148,8 @@ def numbers() -> list[Case]:
             options += [[*GRANT, "--steps", spelling], [*GRANT, f"--steps={spelling}"]]
         for option in options:
             lines += [[command, "d", "i", *option], [command, *option, "d", "i"]]
+    for spelling in NUMBER_SPELLINGS:
+        lines += [["check", "n", *CERT, "--budget", spelling], ["check", f"--budget={spelling}", "n", *CERT]]
     return [_case(line) for line in lines]
 
 
@@ -139,15 +163,19 @@ def refusals() -> list[Case]:
         lines.append([command, "--grant", str(grant), "--steps", str(steps), "--", description, image])
     certificates = ("v", "badv", "none", "dir", "empty", "i", "d", "v/", "v/x", "")
     lines += [["verify", "--", *files] for files in product(("n", *descriptions), certificates)]
+    places = ("x", "none/x", "dir", "dir/x", "d/x", "d", "")
+    lines += [["check", f"--cert={place}", "--", description] for description, place in product(("n", *descriptions), places)]
     return [_case(line) for line in lines]
 
 
 def random_line(rng: Random) -> Case:
     """A line that is taken, with up to three edits."""
-    command = rng.choice(["bare", "run", "print", "verify"])
+    command = rng.choice(["bare", "run", "print", "verify", "check"])
     words = ["d", "i", "--grant=8", "--steps=3"] if rng.random() < 0.5 else ["d", "i", *BOTH]
     if command in ("print", "verify") and rng.random() < 0.7:
         words = ["d"] if command == "print" else ["n", "v"]
+    if command == "check" and rng.random() < 0.9:
+        words = ["n", *CERT, *rng.choice([[], BUDGET, ["--budget=7"]])]
     for _ in range(rng.choice([0, 1, 1, 2, 3])):
         words = _edited(rng, words)
     return _case([command, *words] if rng.random() < 0.95 else words)

@@ -19,17 +19,21 @@ from pgvmodel.words import Request, request
 
 USAGE = (
     "pgv bare DESC IMAGE --grant G --steps N\n"
+    "pgv check DESC --cert FILE [--budget K]\n"
     "pgv verify DESC CERT\n"
     "pgv run DESC IMAGE --grant G --steps N\n"
     "pgv print DESC\n"
 )
 
 DONE, OPEN = ACCEPTED, UNSETTLED
-WORDS, DESCRIPTION, IMAGE, CERTIFICATE, ROOM, UNREADABLE, MISSING = 3, 4, 5, 6, 7, 8, 11
+WORDS, DESCRIPTION, IMAGE, CERTIFICATE, ROOM, UNREADABLE, UNWRITABLE, MISSING = 3, 4, 5, 6, 7, 8, 9, 11
 """The statuses that are compared; `verdict` has that of a refused machine."""
 
 Load = Callable[[str], bytes]
 """The content of the file of a name; raises FileNotFoundError, or another OSError where it cannot be read."""
+
+CanSave = Callable[[str], bool]
+"""Whether a file of a name can be written; the empty name is that of none."""
 
 
 class Answer(NamedTuple):
@@ -39,7 +43,16 @@ class Answer(NamedTuple):
     output: bytes
 
 
-def answer(words: Sequence[str], load: Load, questions: Questions) -> Answer:
+class Search(NamedTuple):
+    """What `check` is asked: it may answer in more than one way, which `told.py` and `deciding.py` judge."""
+
+    text: bytes
+    description: tree.Description
+    saved: str
+    budget: int
+
+
+def answer(words: Sequence[str], load: Load, questions: Questions, can_save: CanSave = bool) -> Answer | Search:
     """What the program is to answer. The first step that refuses says so.
 
     Raises NotModelled where the answer rests on the clauses of a question, and there is no program to ask for them.
@@ -48,7 +61,7 @@ def answer(words: Sequence[str], load: Load, questions: Questions) -> Answer:
     if asked is None:
         return _told(WORDS, USAGE)
     try:
-        return _carried_out(asked, load, questions)
+        return _carried_out(asked, load, questions, can_save)
     except FileNotFoundError:
         return _told(MISSING, "")
     except OSError:
@@ -59,7 +72,7 @@ def _told(status: int, text: str) -> Answer:
     return Answer(status, text.encode())
 
 
-def _carried_out(asked: Request, load: Load, questions: Questions) -> Answer:
+def _carried_out(asked: Request, load: Load, questions: Questions, can_save: CanSave) -> Answer | Search:
     """The description, then what the command does with it."""
     try:
         text = load(asked.files[0])
@@ -69,6 +82,10 @@ def _carried_out(asked: Request, load: Load, questions: Questions) -> Answer:
         return _told(DESCRIPTION, f"description: {fault.line}\n")
     if asked.command == "print":
         return Answer(DONE, printed(description))
+    if asked.command == "check":
+        if not can_save(asked.saved):
+            return _told(UNWRITABLE, "")
+        return Search(text, description, asked.saved, asked.numbers["budget"])
     if asked.command == "verify":
         return _verified(description, load(asked.files[1]), partial(questions.clauses, text))
     return _run(asked, description, load)

@@ -1,27 +1,45 @@
 """What the words of a command line ask for."""
 
 import re
-from collections.abc import Sequence
+from collections.abc import Mapping, Sequence
+from dataclasses import dataclass, field
 from typing import NamedTuple
 
-OPTIONS = {"grant": range(2, 1_048_576), "steps": range(0, 1_000_001)}
-"""Options of `bare` and `run`, each wanted once, and what each may be: cells, and steps."""
+OPTIONS = {"grant": range(2, 1_048_576), "steps": range(0, 1_000_001), "budget": range(1, 1_000_001)}
+"""Options that have a number, and what each may be: cells, steps of a machine, and steps of a search."""
 
-FILES = {"bare": 2, "verify": 2, "run": 2, "print": 1}
-"""The commands, and how many files each names: a description, then an image or a certificate."""
+BUDGET = 20_000
+"""Steps of a search where `check` is not told how many."""
 
-RUNNING = ("bare", "run")
-"""The commands that have options."""
+
+@dataclass(frozen=True)
+class Form:
+    """How many files a command names, the options that it wants, each once, and those that may be left out."""
+
+    files: int
+    options: tuple[str, ...] = ()
+    others: Mapping[str, int] = field(default_factory=dict)
+
+
+FORMS = {
+    "bare": Form(2, ("grant", "steps")),
+    "verify": Form(2),
+    "run": Form(2, ("grant", "steps")),
+    "print": Form(1),
+    "check": Form(1, ("cert",), {"budget": BUDGET}),
+}
+"""The commands. Files are a description, then an image or a certificate; `cert` is the name of one that is written."""
 
 _DIGITS = re.compile(r"\+?0*([0-9]{1,9})")
 
 
 class Request(NamedTuple):
-    """A command, its files, and its numbers by the options' names."""
+    """A command, its files, its numbers by the options' names, and the name under which it saves, if it does."""
 
     command: str
     files: tuple[str, ...]
     numbers: dict[str, int]
+    saved: str | None = None
 
 
 class _Refused(Exception):
@@ -30,21 +48,20 @@ class _Refused(Exception):
 
 def request(words: Sequence[str]) -> Request | None:
     """What the words ask for, or None where they are refused. Bytes that are no UTF-8 are surrogates in them."""
-    if not words or words[0] not in FILES or not all(map(_is_text, words)):
+    if not words or words[0] not in FORMS or not all(map(_is_text, words)):
         return None
-    command = words[0]
-    wanted = OPTIONS if command in RUNNING else {}
+    form = FORMS[words[0]]
     try:
-        files, given = _sorted_out(words[1:], wanted)
-        numbers = {name: _number(text, wanted[name]) for name, text in given.items()}
+        files, given = _sorted_out(words[1:], (*form.options, *form.others))
+        numbers = {name: _number(text, OPTIONS[name]) for name, text in given.items() if name in OPTIONS}
     except _Refused:
         return None
-    if len(files) != FILES[command] or numbers.keys() != wanted.keys():
+    if len(files) != form.files or any(name not in given for name in form.options):
         return None
-    return Request(command, tuple(files), numbers)
+    return Request(words[0], tuple(files), {**form.others, **numbers}, given.get("cert"))
 
 
-def _sorted_out(words: Sequence[str], wanted: dict[str, range]) -> tuple[list[str], dict[str, str]]:
+def _sorted_out(words: Sequence[str], wanted: Sequence[str]) -> tuple[list[str], dict[str, str]]:
     """The files and the options' values. Behind a lone `--` all are files; `-` alone is one too."""
     files: list[str] = []
     given: dict[str, str] = {}
@@ -56,12 +73,24 @@ def _sorted_out(words: Sequence[str], wanted: dict[str, range]) -> tuple[list[st
             name, joined, value = word[2:].partition("=")
             if name not in wanted or name in given:
                 raise _Refused
-            given[name] = value if joined else next(rest, "")
-        elif word.startswith("-") and word != "-":
+            given[name] = value if joined else _behind(next(rest, "--"))
+        elif _is_dashed(word):
             raise _Refused
         else:
             files.append(word)
     return files, given
+
+
+def _behind(word: str) -> str:
+    """A word behind an option is its value, where it does not look like an option itself."""
+    if _is_dashed(word):
+        raise _Refused
+    return word
+
+
+def _is_dashed(word: str) -> bool:
+    """Whether a word begins as options do; `-` alone does not."""
+    return word.startswith("-") and word != "-"
 
 
 def _is_text(word: str) -> bool:
