@@ -3,7 +3,6 @@ pub mod DirectLemmas
 pub mod RunLemmas
 pub mod WentLemmas
 pub mod GuestLemmas
-pub mod FitLemmas
 pub mod LoadLemmas
 pub mod BaseLemmas
 pub mod PlanLemmas

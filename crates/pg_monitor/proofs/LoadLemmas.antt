@@ -25,8 +25,9 @@ use Rattle.pg_monitor.specs.declared.guest.Guest.{Guest}
 use Rattle.pg_monitor.specs.Guests.{virtual, virtuals, IsGrant, AreApart}
 use Rattle.pg_monitor.specs.Standing.{IsUnder, Stands}
 use Rattle.pg_monitor.specs.Turns.{grants_of}
-use Rattle.pg_monitor.specs.Loading.{free_base, with_words}
-use Rattle.pg_monitor.proofs.FitLemmas.{free_base-first, free_base-full}
+use Rattle.pg_alloc.specs.Fit.{free_base}
+use Rattle.pg_monitor.specs.Loading.{with_words}
+use Rattle.pg_alloc.proofs.FitLemmas.{free_base-first, free_base-full}
 use Rattle.pg_monitor.proofs.CellLemmas.{with_grant-before, cell_of}
 use Rattle.pg_monitor.proofs.RunLemmas.{virtual-own}
 use Rattle.pg_monitor.proofs.WentLemmas.{granted-state}

@@ -1,5 +1,6 @@
 -- Guests: each has a grant of the storage, and a program status word that it believes to be its machine's.
 use Rattle.std.specs.Prelude.{ℕ, ◌+◌, ◌≤◌, ◌⊎◌, List, [], ◌∷◌, map, All}
+use Rattle.pg_alloc.specs.Fit.{kept_cells}
 use Rattle.pg_meaning.specs.States.{State}
 use Rattle.pg_routine.specs.Granting.{guest_at}
 use Rattle.pg_monitor.specs.declared.guest.Guest.{Guest}
@@ -10,10 +11,6 @@ virtual cells g = guest_at cells g.base g.size g.psw
 
 abbrev pub virtuals : List ℕ → List Guest → List State
 virtuals cells gs = map (virtual cells) gs
-
--- the cells that a monitor keeps for traps: cell 0, where one is stored, and cell 1, which is loaded then
-abbrev pub kept_cells : ℕ
-kept_cells = 2
 
 -- a grant of two cells or more, behind the cells that are kept and within q
 pub record IsGrant (q : ℕ) (g : Guest) : Type 0 where

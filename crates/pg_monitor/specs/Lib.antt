@@ -5,5 +5,4 @@ pub mod Turns
 pub mod Plans
 pub mod Current
 pub mod Loading
-pub mod WorkedBases
 pub mod Monitors

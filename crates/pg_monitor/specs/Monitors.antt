@@ -3,7 +3,7 @@ use Rattle.std.specs.Prelude.{ℕ, Option}
 use Rattle.pg_ast.specs.declared.tree.Desc.{Desc}
 use Rattle.pg_monitor.specs.declared.monitor.Monitor.{Monitor}
 use Rattle.pg_monitor.specs.Turns.{grants_of}
-use Rattle.pg_monitor.specs.Loading.{free_base}
+use Rattle.pg_alloc.specs.Fit.{free_base}
 
 -- the machine that a monitor's hardware is, and each of its guests believes to have
 abbrev pub desc_of : Monitor → Desc

@@ -14,7 +14,6 @@
 //! - `monitor`: the monitor, how it takes a storage, and how it loads a guest into it (`loading`).
 //! - `dispatching`: turns of guests, one, many and by a plan, and what a change of guest is.
 //! - `turning`: turns of the guest that runs: bursts of direct steps, and steps that are interpreted.
-//! - `laws`: where the grant of a new guest is placed.
 //!
 //! Nothing here names a hardware but by its trait, nor rests on more of it than the clauses say.
 #![tactic(auto)]
@@ -22,7 +21,6 @@
 mod dispatching;
 mod fault;
 mod guest;
-pub mod laws;
 mod loading;
 mod monitor;
 mod turning;

@@ -1,4 +1,4 @@
-//! Tests of the machine and of what runs guests on it: `pg_word`, `pg_hw`, `pg_routine`, `pg_monitor`.
+//! Tests of the machine and of what runs guests on it: `pg_word`, `pg_hw`, `pg_routine`, `pg_alloc`, `pg_monitor`.
 //!
 //! They stand in a crate of their own, since a crate with tests is proved twice. Each public call is made once on its happy
 //! path, where memory is ample; the values that are compared were worked out by hand. The hardware is `Idle`, the smallest
@@ -7,10 +7,13 @@
 //! - `words`: program status words, windows, numbers of n bits.
 //! - `hardware`: a hardware that is poked, loaded, stepped, switched on and run.
 //! - `routine`: a guest's composed program status word, and its interpreted steps.
+//! - `grants`: grants that are placed and released.
 //! - `monitor`: a monitor with a guest, its turns and plans.
 //! - `setting`: the machine without instructions, on which all of them run.
 #![tactic(auto)]
 
+#[cfg(test)]
+mod grants;
 #[cfg(test)]
 mod hardware;
 #[cfg(test)]

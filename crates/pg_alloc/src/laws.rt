@@ -1,9 +1,9 @@
 //! What follows from the definitions alone, for those who read them: none of it does anything when it runs.
 
 ghost use Rattle.std.specs.Prelude.{◌≡◌, ℕ, ◌+◌, ◌<◌, ◌≤◌, List, [], None, Some, IsSomeAnd};
-ghost use Rattle.pg_monitor.specs.Guests.{kept_cells};
-ghost use Rattle.pg_monitor.specs.Loading.{free_base, IsFree};
-ghost use Rattle.pg_monitor.specs.WorkedBases.{FirstGrant, WholeStorage, OneCellTooMany, SecondGrant, FullStorage, BeforeAnother, GapBetween, GapTooSmall};
+ghost use Rattle.pg_alloc.specs.Fit.{kept_cells, free_base, IsFree};
+ghost use Rattle.pg_alloc.specs.Grants.{AreGrants, IsCellOf};
+ghost use Rattle.pg_alloc.specs.WorkedBases.{FirstGrant, WholeStorage, OneCellTooMany, SecondGrant, FullStorage, BeforeAnother, GapBetween, GapTooSmall};
 
 /// A grant is placed at the least base at which its cells are free, where they are free at some.
 pub fn first_fit()
@@ -27,4 +27,11 @@ pub fn worked_bases()
     ensures before_another { BeforeAnother }
     ensures gap_between { GapBetween }
     ensures gap_too_small { GapTooSmall }
+{}
+
+/// Grants that lie right lie behind the cells that are kept and within the storage, and no cell is in two of them.
+pub fn grants_disjoint()
+    ensures above { (q : ℕ) (grants : List (ℕ × ℕ)) (i cell : ℕ) → AreGrants q grants → IsCellOf grants i cell → kept_cells ≤ cell }
+    ensures within { (q : ℕ) (grants : List (ℕ × ℕ)) (i cell : ℕ) → AreGrants q grants → IsCellOf grants i cell → cell < q }
+    ensures alone { (q : ℕ) (grants : List (ℕ × ℕ)) (i j cell : ℕ) → AreGrants q grants → IsCellOf grants i cell → IsCellOf grants j cell → i ≡ j }
 {}

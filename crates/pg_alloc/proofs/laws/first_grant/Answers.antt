@@ -1,6 +1,6 @@
 use Rattle.std.proofs.Common.{[]}
-use Rattle.pg_monitor.proofs.FitLemmas.{free_base-first, free_base-full}
-use Rattle.pg_monitor.proofs.laws.first_grant.Goals as goal
+use Rattle.pg_alloc.proofs.FitLemmas.{free_base-first, free_base-full}
+use Rattle.pg_alloc.proofs.laws.first_grant.Goals as goal
 
 pub returns-clause-placed : goal.returns-clause-placed
 returns-clause-placed c = free_base-first

@@ -1,9 +1,9 @@
 -- First fit: the base that is found is free, and no lesser one is.
-use Rattle.std.proofs.Common.{◌≡◌, ℕ, zero, suc, ◌+◌, ◌-◌, ◌<◌, ◌≤◌, ◌⊎◌, inl, inr, Bool, true, false, cond, ◌&&◌, nat_le, List, [], ◌∷◌, All, Option, None, Some, IsSomeAnd, refl, sym, ◌∙◌, ap, arith}
+use Rattle.std.proofs.Common.{◌≡◌, ℕ, zero, suc, ◌+◌, ◌-◌, ◌<◌, ◌≤◌, ◌⊎◌, inl, inr, Bool, true, false, cond, nat_le, List, [], ◌∷◌, All, Option, None, Some, IsSomeAnd, refl, sym, ◌∙◌, ap, arith}
 use Rattle.std.specs.List.{find, list_all, range_with_len}
-use Rattle.std.proofs.lemmas.Bool.{leb-true, le-leb, lt-leb, cases_order, and_parts, and_from, or_cases, or_left, or_right, both_ways}
+use Rattle.std.proofs.lemmas.Bool.{leb-true, le-leb, cases_order, and_parts, and_from, or_cases, or_left, or_right, both_ways}
 use Rattle.std.proofs.lemmas.List.Elements.{All-nil, All-cons, All-head, All-tail}
-use Rattle.pg_monitor.specs.Loading.{is_beside, is_free, free_base, IsFree}
+use Rattle.pg_alloc.specs.Fit.{is_beside, is_free, free_base, IsFree}
 
 -- ---- the test is the relation
 
@@ -73,12 +73,6 @@ found-least test a (suc n) c low high passes = by_test (test a) refl (λ later. 
     by_test true is more = low
     by_test false is more = more (past-it test a c low passes is)
 
--- none is found where none passes
-found-none : (test : ℕ → Bool) (a n : ℕ) → ((c : ℕ) → a ≤ c → test c ≡ false) → find test (range_with_len a n) ≡ None
-found-none test a zero fails = refl
-found-none test a (suc n) fails =
-    ap (λ t. cond t (Some a) (find test (range_with_len (a + 1) n))) (fails a (omega arith)) ∙ found-none test (a + 1) n (λ c low. fails c (omega arith))
-
 -- ---- first fit
 
 pub free_base-free : (q : ℕ) (grants : List (ℕ × ℕ)) (size base : ℕ) → free_base q grants size ≡ Some base → IsFree q grants size base
@@ -91,18 +85,27 @@ unfolding free_base
 free_base-least q grants size base f =
     found-least (is_free q grants size) 2 (q - 1) base f.above (omega (arith, f.above, f.within)) (free-to q grants size base f)
 
--- ---- no grant
+least-is : (o : Option ℕ) (c : ℕ) → IsSomeAnd o (λ b. b ≤ c) → ((b : ℕ) → o ≡ Some b → c ≤ b) → o ≡ Some c
+least-is None c found above = absurd found
+least-is (Some b) c found above = let low = above b refl in ap Some (omega (arith, found, low))
 
-least-two : (o : Option ℕ) → IsSomeAnd o (λ b. b ≤ 2) → ((b : ℕ) → o ≡ Some b → 2 ≤ b) → o ≡ Some 2
-least-two None found above = absurd found
-least-two (Some b) found above = let low = above b refl in ap Some (omega (arith, found, low))
+-- where it is free at a base and at no lesser one, that is the base
+pub free_base-is : (q : ℕ) (grants : List (ℕ × ℕ)) (size base : ℕ) → IsFree q grants size base → ((c : ℕ) → IsFree q grants size c → base ≤ c) → free_base q grants size ≡ Some base
+free_base-is q grants size base free least =
+    least-is (free_base q grants size) base (free_base-least q grants size base free) (λ b e. least b (free_base-free q grants size b e))
+
+none-is : (o : Option ℕ) → ((b : ℕ) → o ≡ Some b → ⊥) → o ≡ None
+none-is None never = refl
+none-is (Some b) never = absurd (never b refl)
+
+pub free_base-none : (q : ℕ) (grants : List (ℕ × ℕ)) (size : ℕ) → ((c : ℕ) → IsFree q grants size c → ⊥) → free_base q grants size ≡ None
+free_base-none q grants size nowhere = none-is (free_base q grants size) (λ b e. nowhere b (free_base-free q grants size b e))
+
+-- ---- no grant
 
 pub free_base-first : (q size : ℕ) → 2 + size ≤ q → free_base q [] size ≡ Some 2
 free_base-first q size room =
-    least-two (free_base q [] size) (free_base-least q [] size 2 (record { above = omega arith; within = room; beside = All-nil (IsBeside size 2) }))
-    (λ b e. (free_base-free q [] size b e).above)
+    free_base-is q [] size 2 (record { above = omega arith; within = room; beside = All-nil (IsBeside size 2) }) (λ c free. free.above)
 
 pub free_base-full : (q : ℕ) (grants : List (ℕ × ℕ)) (size : ℕ) → q < 2 + size → free_base q grants size ≡ None
-unfolding free_base
-free_base-full q grants size full =
-    found-none (is_free q grants size) 2 (q - 1) (λ c low. ap (λ x. x && list_all (is_beside size c) grants) (lt-leb (c + size) q (omega arith)))
+free_base-full q grants size full = free_base-none q grants size (λ c free. let low = free.above in let high = free.within in omega (arith, low, high))

@@ -1,6 +1,6 @@
 use Rattle.std.proofs.Common.{refl}
-use Rattle.pg_monitor.specs.Loading.{free_base}
-use Rattle.pg_monitor.proofs.laws.worked_bases.Goals as goal
+use Rattle.pg_alloc.specs.Fit.{free_base}
+use Rattle.pg_alloc.proofs.laws.worked_bases.Goals as goal
 
 pub returns-clause-first_grant : goal.returns-clause-first_grant
 unfolding free_base

@@ -1,6 +1,6 @@
 -- Where first fit places a grant, worked out by hand: each is a law of the crate.
 use Rattle.std.specs.Prelude.{◌≡◌, [], ◌∷◌, None, Some}
-use Rattle.pg_monitor.specs.Loading.{free_base}
+use Rattle.pg_alloc.specs.Fit.{free_base}
 
 -- the first grant lies behind the two cells of traps
 abbrev pub FirstGrant : Type 0
