@@ -50,7 +50,7 @@ pub fn back(
 {
     let _trail = watches.trail();
     let learned = learn_at(alloc, watches, cnf.variables, conflict, last, guide)?;
-    let anew = guide.end_conflict();
+    let anew = guide.end_conflict(alloc, cnf)?;
     let jump = cut_place(alloc, watches, cnf.variables, &learned, last, anew)?;
     let clause = clause_of(alloc, learned.step.lits.as_slice())?;
     steps.push(learned.step)?;

@@ -36,6 +36,38 @@ pub fn free_literal(watches: &Watches, variables: u32, variable: u32, positive: 
     }
 }
 
+/// The first of some literals that is unset, if one is: a number that is no literal counts as set.
+pub fn first_free(watches: &Watches, variables: u32, literals: &[i32]) -> Option<i32>
+    requires over { IsOver variables watches.now.clauses watches.now.trail }
+    ensures { IfSome result (IsFree variables watches.now.trail.literals) }
+{
+    for literal in literals {
+        let variable = literal.unsigned_abs();
+        let positive = *literal > 0;
+        if let Some(free) = free_literal(watches, variables, variable, positive) {
+            return Some(free);
+        }
+    }
+    None
+}
+
+/// Whether a literal is false, as a number that is no literal is.
+pub fn is_false(watches: &Watches, variables: u32, literal: i32) -> bool
+    requires over { IsOver variables watches.now.clauses watches.now.trail }
+{
+    let variable = literal.unsigned_abs();
+    if variable == 0 {
+        return true;
+    }
+    if variable > variables {
+        return true;
+    }
+    match watches.value(literal_of(variable)) {
+        Some(value) => value != (literal > 0),
+        None => false,
+    }
+}
+
 /// A literal that is unset, where one is: that of the guide, if it has one.
 pub fn choose(watches: &Watches, guide: &mut Guide, variables: u32) -> Option<i32>
     requires over { IsOver variables watches.now.clauses watches.now.trail }

@@ -10,16 +10,24 @@ ghost use Rattle.pg_sat.specs.Models.{IsFree};
 use crate::decide::free_literal;
 use crate::heap::Heap;
 use crate::pace::Pace;
+use crate::plan::Plan;
+use pg_cnf::Cnf;
 use pg_watch::Watches;
 use std::alloc::{AllocError, Global};
 
-/// Variables by their activity, the value that each had last, and the conflicts until the search begins anew.
+/// At which conflict a plan is made: most questions are settled before.
+const PLANNED: u64 = 1000;
+
+/// Variables by their activity, the value that each had last, the conflicts until the search begins anew, and after many
+/// conflicts a plan.
 #[derive(Drop)]
 pub struct Guide {
     heap: Heap,
     phases: Vec<bool>,
     pace: Pace,
     freed: u64,
+    conflicts: u64,
+    plan: Option<Plan>,
 }
 
 impl Guide {
@@ -32,6 +40,8 @@ impl Guide {
             phases: vec![in alloc; false; variables as usize + 1]?,
             pace: Pace::new(),
             freed: 0,
+            conflicts: 0,
+            plan: None,
         })
     }
 
@@ -40,10 +50,21 @@ impl Guide {
         self.heap.raise(literal.unsigned_abs());
     }
 
-    /// A conflict was traced: says whether the search is to begin anew.
-    pub fn end_conflict(&mut self) -> bool {
+    /// A conflict of the search for an assignment of a formula was traced: says whether the search is to begin anew, which it
+    /// is while there is a plan. The error is want of memory.
+    pub fn end_conflict(&mut self, alloc: Global, cnf: &Cnf) -> Result<bool, AllocError> {
         self.heap.age();
-        self.pace.count()
+        self.conflicts = self.conflicts.saturating_add(1);
+        if self.conflicts == PLANNED {
+            self.plan = Some(Plan::new(alloc, cnf)?);
+        }
+        if let Some(plan) = &mut self.plan {
+            plan.begin_anew();
+            if !plan.is_done() {
+                return Ok(true);
+            }
+        }
+        Ok(self.pace.count())
     }
 
     /// A literal that was set gets unset. The error is want of memory.
@@ -61,8 +82,31 @@ impl Guide {
         self.freed
     }
 
-    /// The most active of the variables that are unset, with the value that it had last.
+    /// What is assigned next, if anything: what the plan says, or else the most active of the variables that are unset, with the
+    /// value that it had last.
     pub fn next(&mut self, watches: &Watches, variables: u32) -> Option<i32>
+        requires over { IsOver variables watches.now.clauses watches.now.trail }
+        ensures { IfSome result (IsFree variables watches.now.trail.literals) }
+    {
+        match self.planned(watches, variables) {
+            Some(literal) => Some(literal),
+            None => self.most_active(watches, variables),
+        }
+    }
+
+    /// What the plan says, where there is one.
+    fn planned(&mut self, watches: &Watches, variables: u32) -> Option<i32>
+        requires over { IsOver variables watches.now.clauses watches.now.trail }
+        ensures { IfSome result (IsFree variables watches.now.trail.literals) }
+    {
+        match &mut self.plan {
+            None => None,
+            Some(plan) => plan.next(watches, variables),
+        }
+    }
+
+    /// The most active of the variables that are unset, with the value that it had last.
+    fn most_active(&mut self, watches: &Watches, variables: u32) -> Option<i32>
         requires over { IsOver variables watches.now.clauses watches.now.trail }
         ensures { IfSome result (IsFree variables watches.now.trail.literals) }
     {
