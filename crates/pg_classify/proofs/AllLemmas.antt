@@ -86,5 +86,5 @@ module _ (d : Desc) (valid : IsValid d) (family : Family) (budget : ℕ) (findin
     in_range = cert_in_range d (IsShape-of_valid d valid) (question d) (heading_of family) cert certified
         (λ n f i e at. (found n f e i at).numbered);
     listed = all_listed;
-    spends = λ n f i e at. (found n f e i at).spends;
+    searched = λ n f i e at. (found n f e i at).searched;
   }

@@ -91,7 +91,7 @@ module _ (clauses : List (List ℤ)) (variables budget : ℕ) (are : AreClauses 
             (trimmed_may_stand clauses heading log acts trimmed given may).1;
         listed = tt;
         numbered = (trimmed_may_stand clauses PlainTwo log acts trimmed given refl).0;
-        spends = tt;
+        searched = (log, trimmed);
       }
 
   pub spent_found : (steps : List Step) → IsExhausted clauses budget steps → 1 ≤ budget →
@@ -101,7 +101,7 @@ module _ (clauses : List (List ℤ)) (variables budget : ℕ) (are : AreClauses 
         (subst (λ n. IsSpentFrom (begun clauses) n (map Add steps)) h.exactly h.log.spent);
     listed = tt;
     numbered = numbered clauses variables steps are few_variables few_clauses (let e = h.exactly in omega (arith, e, most));
-    spends = (refl, h.log.fresh);
+    searched = (refl, h.log.fresh);
   }
 
 pub shown_found : (clauses : List (List ℤ)) (budget : ℕ) (d : Desc) (i : Instr) (kind : Kind) (s t : Sparse) (f : Finding) →
@@ -112,5 +112,5 @@ shown_found clauses budget d i kind s t f same listed shows =
       valid = λ heading may. shown_valid clauses heading d i kind s t shows;
       listed = subst AreListed same listed;
       numbered = tt;
-      spends = tt;
+      searched = tt;
     })
