@@ -1,0 +1,5 @@
+pub mod LogLemmas
+pub mod ReadLemmas
+pub mod RangeLemmas
+pub mod MadeLemmas
+pub mod KeepLemmas
