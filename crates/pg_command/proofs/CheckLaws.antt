@@ -1,4 +1,4 @@
--- The command `check`, where its words have no fault.
+-- A command that takes the words of `check`, where its words have no fault.
 use Rattle.std.proofs.Common.{◌≡◌, ap, refl, true, false, List, [], Option, Some, None, codes, arith, inl, inr}
 use Rattle.std.specs.Prelude.{option_and_then, pos}
 use Rattle.std.specs.Option.{is_some}
@@ -25,11 +25,12 @@ cert = filled (named (codes "cert"))
 abbrev budget : Rule
 budget = filled spec.budget
 
-abbrev built_check : Shape
-built_check = built_leaf (inherited program spec.check.shape)
+-- the command as it is built
+abbrev built_checking : Text → Shape
+built_checking name = built_leaf (inherited program (spec.checking name))
 
-check_single : AreSingle built_check.rules built_check.rules
-check_single = (
+checking_single : (name : Text) → AreSingle (built_checking name).rules (built_checking name).rules
+checking_single name = (
   record { own = refl; action = refl; range = refl; defaults = refl },
   (
     record { own = refl; action = refl; range = refl; defaults = refl },
@@ -42,17 +43,18 @@ budget_holds rows (inl none) = inl (ap (option_and_then row_text) none)
 budget_holds rows (inr given) = inr (signed_number (codes "budget") 1 1000000 rows given.text (omega arith) given.is_one
     (accepts-Accepts false (parser.Signed (pos 1) (pos 1000000)) given.text given.passes))
 
-pub check_holds : (words : List Text) → level_fault built_check [] nothing_held words false [] ≡ [] → HoldsCheck (rows_after built_check.rules [] words)
-check_holds words none =
-    let given = leaf_given built_check words check_single none in
-    let rows = rows_after built_check.rules [] words in
+pub checking_holds : (name : Text) (words : List Text) → level_fault (built_checking name) [] nothing_held words false [] ≡ []
+    → HoldsCheck (rows_after (built_checking name).rules [] words)
+checking_holds name words none =
+    let given = leaf_given (built_checking name) words (checking_single name) none in
+    let rows = rows_after (built_checking name).rules [] words in
     record {
       desc = has_text desc rows (given desc refl refl);
       cert = has_text cert rows (given cert refl refl);
-      budget = budget_holds rows (leaf_may built_check words check_single none budget refl);
+      budget = budget_holds rows (leaf_may (built_checking name) words (checking_single name) none budget refl);
     }
 
--- what the arguments of `check` hold is something to ask for
+-- what the arguments hold is something to ask for
 pub check_asks : (rows : List Row) → HoldsCheck rows → is_some (check_of rows) ≡ true
 check_asks rows h = go (first_of (codes "DESC") rows) (first_of (codes "cert") rows) h.desc h.cert
   where

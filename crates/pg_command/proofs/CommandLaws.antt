@@ -10,8 +10,10 @@ use Rattle.pg_command.specs.Line.{commands, line}
 use Rattle.pg_command.specs.Reads.{HoldsOne}
 use Rattle.pg_command.specs.declared.ask.Request.{Request}
 use Rattle.pg_command.specs.declared.ask.Request.TheVariants as request
-use Rattle.pg_command.proofs.CheckLaws.{check_asks, check_holds}
+use Rattle.pg_command.proofs.CheckLaws.{check_asks, checking_holds}
+use Rattle.pg_command.proofs.MigrateLaws.{migrate_asks, migrate_holds}
 use Rattle.pg_command.proofs.PrintLaws.{print_asks, print_holds}
+use Rattle.pg_command.proofs.ReplayLaws.{replay_asks, replay_holds}
 use Rattle.pg_command.proofs.RunningLaws.{run_asks, running_holds}
 use Rattle.pg_command.proofs.VerifyLaws.{verify_asks, verify_holds}
 
@@ -37,14 +39,23 @@ pub all_hold : EachHolds (built line).subs
 all_hold = (
   running_holds (codes "bare"),
   (
-    check_holds,
+    checking_holds (codes "check"),
     (
       verify_holds,
       (
-        running_holds (codes "run"),
+        replay_holds,
         (
-          print_holds,
-          tt,
+          running_holds (codes "run"),
+          (
+            print_holds,
+            (
+              migrate_holds,
+              (
+                checking_holds (codes "hcheck"),
+                tt,
+              ),
+            ),
+          ),
         ),
       ),
     ),
@@ -59,10 +70,19 @@ all_ask = (
     (
       (λ rows h. made request.Verify _ (verify_asks rows h)),
       (
-        (λ rows h. made request.Run _ (run_asks rows h)),
+        (λ rows h. made request.Replay _ (replay_asks rows h)),
         (
-          (λ rows h. made request.Print _ (print_asks rows h)),
-          tt,
+          (λ rows h. made request.Run _ (run_asks rows h)),
+          (
+            (λ rows h. made request.Print _ (print_asks rows h)),
+            (
+              (λ rows h. made request.Migrate _ (migrate_asks rows h)),
+              (
+                (λ rows h. made request.Hcheck _ (check_asks rows h)),
+                tt,
+              ),
+            ),
+          ),
         ),
       ),
     ),

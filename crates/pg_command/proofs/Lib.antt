@@ -2,8 +2,10 @@ mod AnswerLaws
 mod CheckLaws
 mod LeafLaws
 mod LineLaws
+mod MigrateLaws
 mod NumberLaws
 mod PrintLaws
+mod ReplayLaws
 mod RowLaws
 mod RunningLaws
 mod VerifyLaws

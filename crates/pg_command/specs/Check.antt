@@ -1,7 +1,7 @@
--- The command `check DESC --cert FILE [--budget K]`.
+-- The command `check DESC --cert FILE [--budget K]`, and what every command takes that finds and saves a certificate.
 use Rattle.std.specs.Prelude.{ℕ, List, [], ◌∷◌, Option, Some, codes, option_and_then, pos}
-use Rattle.clap.specs.Walk.{Row, Rule}
-use Rattle.clap.specs.Simple.{new_shape}
+use Rattle.clap.specs.Walk.{Row, Rule, Text}
+use Rattle.clap.specs.Simple.{Shape, new_shape}
 use Rattle.clap.specs.declared.builder.value_parser.ValueParser.TheVariants as parser
 use Rattle.pg_command.specs.Arguments.{HasText, MayHaveNumber, named, number_or, option, place, with_text}
 use Rattle.pg_command.specs.Entries.{Entry}
@@ -15,6 +15,10 @@ budget = option (codes "budget") (parser.Signed (pos 1) (pos 1000000))
 -- the same, where the words do not say it
 abbrev pub budget_unsaid : ℕ
 budget_unsaid = 20000
+
+-- a command of this name
+abbrev pub checking : Text → Shape
+checking name = record (new_shape name) { rules = place (codes "DESC") ∷ named (codes "cert") ∷ budget ∷ [] }
 
 -- what the arguments ask for
 abbrev pub check_of : List Row → Option CheckWords
@@ -32,7 +36,7 @@ pub record HoldsCheck (rows : List Row) : Type 0 where
 
 abbrev pub check : Entry
 check = record {
-  shape = record (new_shape (codes "check")) { rules = place (codes "DESC") ∷ named (codes "cert") ∷ budget ∷ [] };
+  shape = checking (codes "check");
   Holds = HoldsCheck;
   asks = λ rows. option_and_then (λ words. Some (request.Check words)) (check_of rows);
 }

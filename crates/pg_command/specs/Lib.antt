@@ -3,9 +3,12 @@ pub mod Asked
 pub mod Bare
 pub mod Check
 pub mod Entries
+pub mod Hcheck
 pub mod Line
+pub mod Migrate
 pub mod Print
 pub mod Reads
+pub mod Replay
 pub mod Run
 pub mod Running
 pub mod Verify

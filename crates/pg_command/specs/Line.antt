@@ -5,8 +5,11 @@ use Rattle.pg_command.specs.Entries.{Entry}
 use Rattle.pg_command.specs.Bare.{bare}
 use Rattle.pg_command.specs.Check.{check}
 use Rattle.pg_command.specs.Verify.{verify}
+use Rattle.pg_command.specs.Replay.{replay}
 use Rattle.pg_command.specs.Run.{run}
 use Rattle.pg_command.specs.Print.{print}
+use Rattle.pg_command.specs.Migrate.{migrate}
+use Rattle.pg_command.specs.Hcheck.{hcheck}
 
 -- the commands, a row for each
 abbrev pub commands : List Entry
@@ -14,8 +17,11 @@ commands =
     bare
     ∷ check
     ∷ verify
+    ∷ replay
     ∷ run
     ∷ print
+    ∷ migrate
+    ∷ hcheck
     ∷ []
 
 -- the program: a command has to be named, and there is no word for help or the version

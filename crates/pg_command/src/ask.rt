@@ -2,7 +2,9 @@
 //!
 //! Contracts see a request as plain data: the names in it as their bytes, and the numbers as what they are.
 use crate::check::CheckWords;
+use crate::migrate::MigrateWords;
 use crate::print::PrintWords;
+use crate::replay::ReplayWords;
 use crate::running::RunWords;
 use crate::verify::VerifyWords;
 
@@ -15,10 +17,16 @@ pub enum Request {
     Check(CheckWords),
     /// `verify`: check a certificate against a description.
     Verify(VerifyWords),
+    /// `replay`: show the states of a certificate, each with the step from it.
+    Replay(ReplayWords),
     /// `run`: run an image as a guest under a monitor.
     Run(RunWords),
     /// `print`: print a description.
     Print(PrintWords),
+    /// `migrate`: make a new certificate of one that is there, and save it.
+    Migrate(MigrateWords),
+    /// `hcheck`: classify each instruction by the kinds of hybrid machines, and save the certificate.
+    Hcheck(CheckWords),
 }
 
 /// Why there is no request.

@@ -1,12 +1,13 @@
 //! The command `check`: each instruction of a description classified, and the certificate of that saved.
 //!
 //! It takes the name of the file with the description, and after `--cert` that of the file for the certificate. An option
-//! bounds the solver.
+//! bounds the solver. `hcheck` takes the same words and differs in what it asks for: `added_as` adds either to the line, and
+//! `words` reads the words of either.
 ghost use Rattle.std.specs.Prelude.{◌≡◌, ◌≤◌, IfOk, Some, false, codes};
 ghost use Rattle.clap.specs.Words.{app_of, found_of, rows_of, rule_of, with_subcommand};
 ghost use Rattle.pg_command.specs.Arguments.{MayHaveNumber, number_or};
 ghost use Rattle.pg_command.specs.Check as spec;
-ghost use Rattle.pg_command.specs.Check.{HoldsCheck, budget_unsaid};
+ghost use Rattle.pg_command.specs.Check.{HoldsCheck, budget_unsaid, check_of};
 
 use crate::arguments::{file_name, named, option, place};
 use crate::ask::Request;
@@ -14,7 +15,7 @@ use crate::values::{Budget, FileName};
 use clap::{Arg, ArgMatches, Command, value_parser};
 use std::alloc::{AllocError, Global};
 
-/// The words of `check`.
+/// The words of a command that finds and saves a certificate, `check` or `hcheck`.
 #[derive(Drop)]
 pub struct CheckWords {
     /// The name of the file with the machine's description.
@@ -29,11 +30,22 @@ pub struct CheckWords {
 pub(crate) fn added<'a>(alloc: Global, program: Command<'a>) -> Result<Command<'a>, AllocError>
     ensures { IfOk result (λ c. app_of c ≡ with_subcommand (app_of program.entry) spec.check.shape) }
 {
-    let check = Command::new(alloc, "check")
+    added_as(alloc, "check", program)
+}
+
+/// The program with the command of this name.
+pub(crate) fn added_as<'a>(
+    alloc: Global,
+    name: &'a str,
+    program: Command<'a>,
+) -> Result<Command<'a>, AllocError>
+    ensures { IfOk result (λ c. app_of c ≡ with_subcommand (app_of program.entry) (spec.checking name.entry.now)) }
+{
+    let checking = Command::new(alloc, name)
         .arg(place(alloc, "DESC"))?
         .arg(named(alloc, "cert"))?
         .arg(budget_rule(alloc))?;
-    program.subcommand(check)
+    program.subcommand(checking)
 }
 
 /// How many clauses the solver may learn for a question: 1 to 1,000,000.
@@ -49,10 +61,18 @@ pub(crate) fn asked(alloc: Global, matches: &ArgMatches<'_>) -> Result<Request, 
     requires { HoldsCheck (rows_of (found_of matches.now)) }
     ensures { IfOk result (λ r. spec.check.asks (rows_of (found_of matches.now)) ≡ Some r) }
 {
+    Ok(Request::Check(words(alloc, matches)?))
+}
+
+/// The words of the command.
+pub(crate) fn words(alloc: Global, matches: &ArgMatches<'_>) -> Result<CheckWords, AllocError>
+    requires { HoldsCheck (rows_of (found_of matches.now)) }
+    ensures { IfOk result (λ w. check_of (rows_of (found_of matches.now)) ≡ Some w) }
+{
     let budget = budget(matches);
     let desc = file_name(alloc, matches, "DESC")?;
     let cert = file_name(alloc, matches, "cert")?;
-    Ok(Request::Check(CheckWords { desc, cert, budget }))
+    Ok(CheckWords { desc, cert, budget })
 }
 
 /// How many clauses the solver may learn for a question.

@@ -2,14 +2,15 @@
 //!
 //! Each command has a module of its own, which adds it to the program and reads what its arguments ask for. Here they are
 //! joined, in the order of the definitions: a command more is a line in each of the two functions.
-ghost use Rattle.std.specs.Prelude.{◌≡◌, IfOk, Some};
+ghost use Rattle.std.specs.Prelude.{◌≡◌, IfOk, Some, [], true};
 ghost use Rattle.clap.specs.Words.{app_of, subcommand_rows_of};
+ghost use Rattle.pg_command.specs.Line as spec;
 ghost use Rattle.pg_command.specs.Line.{line};
 ghost use Rattle.pg_command.specs.Asked.{named_as};
 ghost use Rattle.pg_command.specs.Reads.{HoldsCommand};
 
 use crate::ask::Request;
-use crate::{bare, check, print, run, verify};
+use crate::{bare, check, hcheck, migrate, print, replay, run, verify};
 use clap::{ArgMatches, Command};
 use std::alloc::{AllocError, Global};
 
@@ -17,16 +18,25 @@ use std::alloc::{AllocError, Global};
 pub(crate) fn command_line<'a>(alloc: Global) -> Result<Command<'a>, AllocError>
     ensures { IfOk result (λ c. app_of c ≡ line) }
 {
-    let program = Command::new(alloc, "pgv")
+    let with_bare = bare::added(alloc, program(alloc))?;
+    let with_check = check::added(alloc, with_bare)?;
+    let with_verify = verify::added(alloc, with_check)?;
+    let with_replay = replay::added(alloc, with_verify)?;
+    let with_run = run::added(alloc, with_replay)?;
+    let with_print = print::added(alloc, with_run)?;
+    let with_migrate = migrate::added(alloc, with_print)?;
+    hcheck::added(alloc, with_migrate)
+}
+
+/// The program without a command: one has to be named, and there is no word for help or the version.
+fn program<'a>(alloc: Global) -> Command<'a>
+    ensures { app_of result ≡ record { top = record spec.program { is_leaf = true }; subs = [] } }
+{
+    Command::new(alloc, "pgv")
         .disable_help_flag(true)
         .disable_help_subcommand(true)
         .disable_version_flag(true)
-        .subcommand_required(true);
-    let with_bare = bare::added(alloc, program)?;
-    let with_check = check::added(alloc, with_bare)?;
-    let with_verify = verify::added(alloc, with_check)?;
-    let with_run = run::added(alloc, with_verify)?;
-    print::added(alloc, with_run)
+        .subcommand_required(true)
 }
 
 /// What the command that was named asks for.
@@ -43,11 +53,20 @@ pub(crate) fn asked(alloc: Global, matches: &ArgMatches<'_>) -> Result<Request, 
     if let Some(found) = matches.subcommand_matches("verify") {
         return verify::asked(alloc, found);
     }
+    if let Some(found) = matches.subcommand_matches("replay") {
+        return replay::asked(alloc, found);
+    }
     if let Some(found) = matches.subcommand_matches("run") {
         return run::asked(alloc, found);
     }
     if let Some(found) = matches.subcommand_matches("print") {
         return print::asked(alloc, found);
+    }
+    if let Some(found) = matches.subcommand_matches("migrate") {
+        return migrate::asked(alloc, found);
+    }
+    if let Some(found) = matches.subcommand_matches("hcheck") {
+        return hcheck::asked(alloc, found);
     }
     unreachable!()
 }

@@ -1,4 +1,5 @@
 pub mod Texts
 pub mod Spans
+pub mod Replays
 pub mod Runs
 pub mod Verdicts

@@ -85,12 +85,21 @@ usage_check = codes "pgv check DESC --cert FILE [--budget K]" ++ 10 ∷ []
 abbrev pub usage_verify : List ℕ
 usage_verify = codes "pgv verify DESC CERT" ++ 10 ∷ []
 
+abbrev pub usage_replay : List ℕ
+usage_replay = codes "pgv replay DESC CERT" ++ 10 ∷ []
+
 abbrev pub usage_run : List ℕ
 usage_run = codes "pgv run DESC IMAGE --grant G --steps N" ++ 10 ∷ []
 
 abbrev pub usage_print : List ℕ
 usage_print = codes "pgv print DESC" ++ 10 ∷ []
 
+abbrev pub usage_migrate : List ℕ
+usage_migrate = codes "pgv migrate DESC CERT FILE" ++ 10 ∷ []
+
+abbrev pub usage_hcheck : List ℕ
+usage_hcheck = codes "pgv hcheck DESC --cert FILE [--budget K]" ++ 10 ∷ []
+
 -- one line for each command
 unfoldable pub usage_text : List ℕ
-usage_text = usage_bare ++ usage_check ++ usage_verify ++ usage_run ++ usage_print
+usage_text = usage_bare ++ usage_check ++ usage_verify ++ usage_replay ++ usage_run ++ usage_print ++ usage_migrate ++ usage_hcheck

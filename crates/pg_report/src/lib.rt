@@ -1,9 +1,10 @@
 //! The texts that the program puts into a sink.
 //!
 //! These go out: the line of a refusal, the lines of usage, the text of a state, the lines around states of guests, the text
-//! of a verdict, and texts that stand in memory. Each is put line by line, and each line, in a buffer of fixed length or as
-//! it stands in memory, is one `put`, so that nothing here takes memory and nothing but the sink can refuse. A call answers
-//! as one `put` of its whole text would: where a put fails it answers `Failed`, and nothing more is put.
+//! of a verdict, that of a replay, and texts that stand in memory. Each is put line by line, and each line, in a buffer of
+//! fixed length or as it stands in memory, is one `put`, so that nothing here takes memory, but for the state that follows a
+//! step in a replay, and nothing else but the sink can refuse. A call answers as one `put` of its whole text would: where a
+//! put fails it answers `Failed`, and nothing more is put.
 //!
 //! - `line`: what a refusal says.
 //! - `push`: bytes, numbers and names at the end of a line.
@@ -12,6 +13,7 @@
 //! - `run`: the lines around the states of guests.
 //! - `sparse`: the text of a state of which only cells that are not zero are listed.
 //! - `answers`: the line of what is known of an instruction. `verdict`: the text of a verdict.
+//! - `replay`: the text of a replay.
 //! - `text`: a text that stands in memory.
 //! - `laws`: what follows from the definitions alone.
 #![tactic(auto)]
@@ -21,6 +23,7 @@ pub mod laws;
 mod line;
 mod push;
 mod refusal;
+mod replay;
 mod run;
 mod sparse;
 mod state;
@@ -29,6 +32,7 @@ mod verdict;
 
 pub use line::{CertificateLine, DescriptionLine, ImageLine, RefusalLine};
 pub use refusal::{put_refusal, put_usage};
+pub use replay::{ReplayFault, put_replay};
 pub use run::{put_guest, put_steps};
 pub use sparse::put_sparse;
 pub use state::put_state;

@@ -41,7 +41,8 @@ pub fn put_usage<S: Sink>(out: &mut S) -> Result<(), Failed>
         out,
         b"pgv bare DESC IMAGE --grant G --steps N\n\
           pgv check DESC --cert FILE [--budget K]\npgv verify DESC CERT\n\
-          pgv run DESC IMAGE --grant G --steps N\npgv print DESC\n",
+          pgv replay DESC CERT\npgv run DESC IMAGE --grant G --steps N\npgv print DESC\n\
+          pgv migrate DESC CERT FILE\npgv hcheck DESC --cert FILE [--budget K]\n",
     )
 }
 

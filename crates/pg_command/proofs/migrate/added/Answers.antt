@@ -2,13 +2,13 @@
 use Rattle.std.proofs.Common.{◌≡◌, ◌∙◌, ap, ap₂, rules, []}
 use Rattle.std.proofs.lemmas.Result.{IfOk-weaker}
 use Rattle.clap.specs.Words.{App, app_of, with_rule, with_subcommand}
-use Rattle.pg_command.specs.Check as spec
-use Rattle.pg_command.proofs.check.added.Goals as goal
+use Rattle.pg_command.specs.Migrate as spec
+use Rattle.pg_command.proofs.migrate.added.Goals as goal
 
 pub returns : goal.returns
 returns c =
     let desc = c.in_ok-arg.ensures.shape (search rules) ∙ ap₂ with_rule c.new.ensures.app c.place.ensures.rule in
-    let cert = c.in_ok-arg-2.ensures.shape (search rules) ∙ ap₂ with_rule desc c.named.ensures.rule in
-    let made : app_of c.in_ok-check.check ≡ record { top = spec.check.shape; subs = [] } =
-    c.in_ok-check.ensures.shape (search rules) ∙ ap₂ with_rule cert c.budget_rule.ensures.rule in
+    let cert = c.in_ok-arg-2.ensures.shape (search rules) ∙ ap₂ with_rule desc c.place-2.ensures.rule in
+    let made : app_of c.in_ok-migrate.migrate ≡ record { top = spec.migrate.shape; subs = [] } =
+    c.in_ok-migrate.ensures.shape (search rules) ∙ ap₂ with_rule cert c.place-3.ensures.rule in
     IfOk-weaker c.subcommand.result _ _ (λ r h. h.shape (search rules) ∙ ap (λ (a : App). with_subcommand (app_of c.args.program) a.top) made) c.subcommand.ensures

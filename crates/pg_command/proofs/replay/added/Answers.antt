@@ -1,0 +1,13 @@
+-- Two arguments in turn make the command, and the command joins the program.
+use Rattle.std.proofs.Common.{◌≡◌, ◌∙◌, ap, ap₂, rules, []}
+use Rattle.std.proofs.lemmas.Result.{IfOk-weaker}
+use Rattle.clap.specs.Words.{App, app_of, with_rule, with_subcommand}
+use Rattle.pg_command.specs.Replay as spec
+use Rattle.pg_command.proofs.replay.added.Goals as goal
+
+pub returns : goal.returns
+returns c =
+    let desc = c.in_ok-arg.ensures.shape (search rules) ∙ ap₂ with_rule c.new.ensures.app c.place.ensures.rule in
+    let made : app_of c.in_ok-replay.replay ≡ record { top = spec.replay.shape; subs = [] } =
+    c.in_ok-replay.ensures.shape (search rules) ∙ ap₂ with_rule desc c.place-2.ensures.rule in
+    IfOk-weaker c.subcommand.result _ _ (λ r h. h.shape (search rules) ∙ ap (λ (a : App). with_subcommand (app_of c.args.program) a.top) made) c.subcommand.ensures
