@@ -4,37 +4,43 @@
 //! file between two calls, so the shelf tells no content. Each call opens its file anew and closes it. A file to be read
 //! that is not found is `Missing`. Whatever else keeps one from being opened, measured, read or written, as a directory in
 //! its place, is `Failed` and counted, reads apart from saves, up to 2^64 - 1. `Long`, and `Memory` where there is none for
-//! the bytes, are not counted.
+//! the bytes, are not counted. Of the last call that was `Missing` or `Failed` the shelf keeps the name, the deed and the
+//! cause, without taking memory, so that a program can say on which file it ends, and why.
 
-ghost use Rattle.std.specs.Prelude.{◌≡◌, ◌≢◌, ◌≤◌, [], length, None, OnOk, OnErr, IsErrOf};
-ghost use Rattle.std.specs.IoError.{error_kind};
+ghost use Rattle.std.specs.Prelude.{◌≡◌, ◌≢◌, ◌≤◌, [], length, None, Ok, Err, option_copied, IfOk, IfErr, OnOk, OnErr, IsErrOf};
 ghost use Rattle.pg_edge.specs.Count.{one_more};
-ghost use Rattle.pg_edge.specs.Shelf.{CountsRead, CountsSave};
+ghost use Rattle.pg_edge.specs.Shelf.{Loads, LoadsPart, Saves, Sizes, CountsRead, CountsSave};
+ghost use Rattle.pg_host.specs.Refusals.{load_fault_of, KeepsRead, KeepsSave};
 
+use crate::fault::{Fault, fault_of};
+use crate::refused::{Cause, Deed, Refused};
 use crate::streams::{read_up_to, read_within, write_whole};
 use pg_edge::{Failed, LoadFault, Shelf};
 use std::fs;
-use std::io::{Error, ErrorKind, Seek, SeekFrom};
+use std::io::{ErrorKind, Seek, SeekFrom};
 use std::rt::Files;
 
-/// A shelf whose files are the system's, with a count of the reads and one of the saves that failed.
+/// A shelf whose files are the system's, with a count of the reads and one of the saves that failed, and the last refusal.
 #[derive(Drop)]
 pub struct DirShelf<'a, R: Files> {
     system: &'a R,
     reads: u64,
     saves: u64,
+    refused: Option<Refused>,
 }
 
 impl<'a, R: Files> DirShelf<'a, R> {
-    /// A shelf over the system's files, with no fault yet.
+    /// A shelf over the system's files, with no fault yet, and nothing refused.
     pub fn new(system: &'a R) -> DirShelf<'a, R>
         ensures reads { result.reads ≡ 0 }
         ensures saves { result.saves ≡ 0 }
+        ensures refused { result.refused ≡ None }
     {
         DirShelf {
             system,
             reads: 0,
             saves: 0,
+            refused: None,
         }
     }
 
@@ -52,27 +58,56 @@ impl<'a, R: Files> DirShelf<'a, R> {
         self.saves
     }
 
-    /// Counts a read whose answer says that it failed.
-    fn count_read<T>(&mut self, answer: &Result<T, LoadFault>)
-        ensures counted { CountsRead self.old.reads self.new.reads answer.now }
-        ensures failed { IsErrOf answer.now LoadFault.Failed → self.new.reads ≡ one_more self.old.reads }
-        ensures no_fault { ¬ IsErrOf answer.now LoadFault.Failed → self.new.reads ≡ self.old.reads }
-        ensures saves { self.new.saves ≡ self.old.saves }
+    /// The last call that was refused because the file is missing or the system failed, if there was one. A call that
+    /// succeeds leaves it, and so does one that is refused for the length of a file or for want of memory.
+    pub fn refused(&self) -> Option<&Refused>
+        ensures { option_copied result ≡ self.now.refused }
     {
-        if matches!(answer, Err(LoadFault::Failed)) {
-            self.reads = self.reads.saturating_add(1);
+        self.refused.as_ref()
+    }
+
+    /// Counts a read that failed, keeps what is to be kept of it, and says what to answer.
+    fn answer_read<T: Drop>(
+        &mut self,
+        deed: Deed,
+        name: &str,
+        answer: Result<T, Fault>,
+    ) -> Result<T, LoadFault>
+        ensures ok { IfOk answer (λ value. result ≡ Ok value) }
+        ensures fault { IfErr answer (λ fault. result ≡ Err (load_fault_of fault)) }
+        ensures counted { CountsRead self.old.reads self.new.reads result }
+        ensures failed { IsErrOf result LoadFault.Failed → self.new.reads ≡ one_more self.old.reads }
+        ensures no_fault { ¬ IsErrOf result LoadFault.Failed → self.new.reads ≡ self.old.reads }
+        ensures saves { self.new.saves ≡ self.old.saves }
+        ensures kept { KeepsRead deed name.now self.old.refused self.new.refused result }
+    {
+        match answer {
+            Ok(value) => Ok(value),
+            Err(fault) => self.refuse_read(deed, name, fault),
         }
     }
 
-    /// Counts a save that failed.
-    fn count_save(&mut self, answer: &Result<(), Failed>)
-        ensures counted { CountsSave self.old.saves self.new.saves answer.now }
-        ensures failed { OnErr answer.now (self.new.saves ≡ one_more self.old.saves) }
-        ensures no_fault { OnOk answer.now (self.new.saves ≡ self.old.saves) }
-        ensures reads { self.new.reads ≡ self.old.reads }
+    /// Counts and keeps what is to be counted and kept of a read that met the fault, and answers it.
+    fn refuse_read<T>(&mut self, deed: Deed, name: &str, fault: Fault) -> Result<T, LoadFault>
+        ensures fault { result ≡ Err (load_fault_of fault) }
+        ensures counted { CountsRead self.old.reads self.new.reads result }
+        ensures failed { IsErrOf result LoadFault.Failed → self.new.reads ≡ one_more self.old.reads }
+        ensures no_fault { ¬ IsErrOf result LoadFault.Failed → self.new.reads ≡ self.old.reads }
+        ensures saves { self.new.saves ≡ self.old.saves }
+        ensures kept { KeepsRead deed name.now self.old.refused self.new.refused result }
     {
-        if answer.is_err() {
-            self.saves = self.saves.saturating_add(1);
+        match fault {
+            Fault::Long => Err(LoadFault::Long),
+            Fault::Memory => Err(LoadFault::Memory),
+            Fault::Missing => {
+                self.refused = Some(Refused::new(deed, Cause::Missing, name));
+                Err(LoadFault::Missing)
+            }
+            Fault::System(kind) => {
+                self.reads = self.reads.saturating_add(1);
+                self.refused = Some(Refused::new(deed, Cause::System(kind), name));
+                Err(LoadFault::Failed)
+            }
         }
     }
 }
@@ -85,47 +120,63 @@ impl<R: Files> Shelf for DirShelf<'_, R> {
     ghost saves = { λ shelf. shelf.saves };
 
     /// Reads the file `name`, if it has at most `limit` bytes. No more than one beyond them is asked for.
-    fn load(&mut self, name: &str, limit: u64, into: &mut Vec<u8>) -> Result<(), LoadFault> {
+    fn load(&mut self, name: &str, limit: u64, into: &mut Vec<u8>) -> Result<(), LoadFault>
+        requires empty { into.old.items ≡ [] }
+        ensures answer { Loads None name.now limit into.new.items result }
+        ensures counted { CountsRead self.old.reads self.new.reads result }
+        ensures saves { self.new.saves ≡ self.old.saves }
+        ensures kept { KeepsRead Deed.Read name.now self.old.refused self.new.refused result }
+    {
         let answer = load_file(self.system, name, limit, into);
-        self.count_read(&answer);
-        answer
+        self.answer_read(Deed::Read, name, answer)
     }
 
     /// The number of bytes of the file `name`. A directory is none, and asking for its size a failed read.
-    fn size(&mut self, name: &str) -> Result<u64, LoadFault> {
+    fn size(&mut self, name: &str) -> Result<u64, LoadFault>
+        ensures answer { Sizes None name.now result }
+        ensures counted { CountsRead self.old.reads self.new.reads result }
+        ensures saves { self.new.saves ≡ self.old.saves }
+        ensures kept { KeepsRead Deed.Size name.now self.old.refused self.new.refused result }
+    {
         let answer = size_of_file(self.system, name);
-        self.count_read(&answer);
-        answer
+        self.answer_read(Deed::Size, name, answer)
     }
 
     /// Reads the file `name` from the place `at` on: `most` bytes, or fewer where it ends before.
-    fn part(
-        &mut self,
-        name: &str,
-        at: u64,
-        most: u64,
-        into: &mut Vec<u8>,
-    ) -> Result<(), LoadFault> {
+    fn part(&mut self, name: &str, at: u64, most: u64, into: &mut Vec<u8>) -> Result<(), LoadFault>
+        requires most { 1 ≤ most }
+        requires empty { into.old.items ≡ [] }
+        ensures answer { LoadsPart None name.now at most into.new.items result }
+        ensures counted { CountsRead self.old.reads self.new.reads result }
+        ensures saves { self.new.saves ≡ self.old.saves }
+        ensures kept { KeepsRead Deed.Read name.now self.old.refused self.new.refused result }
+    {
         let answer = load_part(self.system, name, at, most, into);
-        self.count_read(&answer);
-        answer
+        self.answer_read(Deed::Read, name, answer)
     }
 
     /// Writes `bytes` to the file `name`, which is made, or emptied first.
-    fn save(&mut self, name: &str, bytes: &[u8]) -> Result<(), Failed> {
-        let answer = save_file(self.system, name, bytes);
-        self.count_save(&answer);
-        answer
+    fn save(&mut self, name: &str, bytes: &[u8]) -> Result<(), Failed>
+        ensures answer { Saves None None name.now bytes.now result }
+        ensures counted { CountsSave self.old.saves self.new.saves result }
+        ensures reads { self.new.reads ≡ self.old.reads }
+        ensures failed { OnErr result (self.new.saves ≡ one_more self.old.saves) }
+        ensures no_fault { OnOk result (self.new.saves ≡ self.old.saves) }
+        ensures kept { KeepsSave name.now self.old.refused self.new.refused result }
+    {
+        match save_file(self.system, name, bytes) {
+            Ok(()) => Ok(()),
+            Err(kind) => {
+                self.saves = self.saves.saturating_add(1);
+                self.refused = Some(Refused::new(Deed::Save, Cause::System(kind), name));
+                Err(Failed)
+            }
+        }
     }
 }
 
 /// Reads the file into the empty buffer `into`, if it has at most `limit` bytes.
-fn load_file<R: Files>(
-    system: &R,
-    name: &str,
-    limit: u64,
-    into: &mut Vec<u8>,
-) -> Result<(), LoadFault>
+fn load_file<R: Files>(system: &R, name: &str, limit: u64, into: &mut Vec<u8>) -> Result<(), Fault>
     requires empty { into.old.items ≡ [] }
     ensures within { OnOk result (length into.new.items ≤ limit) }
     ensures empty { OnErr result (into.new.items ≡ []) }
@@ -137,12 +188,12 @@ fn load_file<R: Files>(
 }
 
 /// The number of bytes of the file. A directory is none.
-fn size_of_file<R: Files>(system: &R, name: &str) -> Result<u64, LoadFault>
-    ensures never_long { ¬ IsErrOf result LoadFault.Long }
-    ensures never_memory { ¬ IsErrOf result LoadFault.Memory }
+fn size_of_file<R: Files>(system: &R, name: &str) -> Result<u64, Fault>
+    ensures never_long { ¬ IsErrOf result Fault.Long }
+    ensures never_memory { ¬ IsErrOf result Fault.Memory }
 {
     match fs::metadata(system, name) {
-        Ok(data) if data.is_dir() => Err(LoadFault::Failed),
+        Ok(data) if data.is_dir() => Err(Fault::System(ErrorKind::IsADirectory)),
         Ok(data) => Ok(data.len()),
         Err(error) => Err(fault_of(&error)),
     }
@@ -155,38 +206,26 @@ fn load_part<R: Files>(
     at: u64,
     most: u64,
     into: &mut Vec<u8>,
-) -> Result<(), LoadFault>
+) -> Result<(), Fault>
     requires empty { into.old.items ≡ [] }
     ensures within { OnOk result (length into.new.items ≤ most) }
     ensures empty { OnErr result (into.new.items ≡ []) }
-    ensures never_long { ¬ IsErrOf result LoadFault.Long }
+    ensures never_long { ¬ IsErrOf result Fault.Long }
 {
     let mut file = match fs::open(system, name) {
         Ok(file) => file,
         Err(error) => return Err(fault_of(&error)),
     };
-    if file.seek(SeekFrom::Start(at)).is_err() {
-        return Err(LoadFault::Failed);
+    match file.seek(SeekFrom::Start(at)) {
+        Ok(_) => read_up_to(&mut file, most, into),
+        Err(error) => Err(Fault::System(error.kind())),
     }
-    read_up_to(&mut file, most, into)
 }
 
 /// Makes `bytes` the content of the file, which is made or cut off first.
-fn save_file<R: Files>(system: &R, name: &str, bytes: &[u8]) -> Result<(), Failed> {
+fn save_file<R: Files>(system: &R, name: &str, bytes: &[u8]) -> Result<(), ErrorKind> {
     match fs::create(system, name) {
         Ok(mut file) => write_whole(&mut file, bytes),
-        Err(_) => Err(Failed),
-    }
-}
-
-/// What to answer where a file is not opened or not measured.
-fn fault_of(error: &Error) -> LoadFault
-    ensures missing { error_kind error.now ≡ ErrorKind.NotFound → result ≡ LoadFault.Missing }
-    ensures other { error_kind error.now ≢ ErrorKind.NotFound → result ≡ LoadFault.Failed }
-{
-    if error.kind() == ErrorKind::NotFound {
-        LoadFault::Missing
-    } else {
-        LoadFault::Failed
+        Err(error) => Err(error.kind()),
     }
 }

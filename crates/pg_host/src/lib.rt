@@ -1,8 +1,8 @@
 //! The real edges: files of the system and its streams, as the shelf and the sink that `pg_edge` asks for.
 //!
 //! A program makes a [`DirShelf`] over the files and a [`StdSink`] over standard output, and lends both to what it
-//! calls; nothing else here or above opens, reads or writes. One read or write of the system moves as many bytes as it
-//! likes, so both are made of the loops in [`streams`], which move all of them or say why not. What a system does to
+//! calls; nothing else here or above opens, reads or writes, but for the lines on standard error ([`telling`],
+//! [`Progress`]). One read or write of the system moves as many bytes as it likes, so both are made of the loops in [`streams`], which move all of them or say why not. What a system does to
 //! its files between two calls nobody can say, so neither edge tells its content: the clauses of the traits that speak
 //! of content are then empty, and those on bounds and on counts of faults hold. That the bytes themselves arrive whole
 //! and in order is said of any reader and any writer that tells its own, in [`streams`] and at `StdSink::put`.
@@ -11,8 +11,16 @@
 #![tactic(auto)]
 
 mod dir_shelf;
+mod fault;
+mod progress;
+mod push;
+mod refused;
 mod std_sink;
 pub mod streams;
+pub mod telling;
 
 pub use dir_shelf::DirShelf;
+pub use fault::Fault;
+pub use progress::Progress;
+pub use refused::{Cause, Deed, NAME_BYTES, Refused};
 pub use std_sink::StdSink;

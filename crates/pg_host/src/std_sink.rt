@@ -64,10 +64,12 @@ impl<W: Write + Drop> Sink for StdSink<W> {
         ensures no_fault { OnOk result (self.new.faults ≡ self.old.faults) }
         ensures fault { OnErr result (self.new.faults ≡ one_more self.old.faults) }
     {
-        let result = write_whole(&mut self.to, bytes);
-        if result.is_err() {
-            self.faults = self.faults.saturating_add(1);
+        match write_whole(&mut self.to, bytes) {
+            Ok(()) => Ok(()),
+            Err(_) => {
+                self.faults = self.faults.saturating_add(1);
+                Err(Failed)
+            }
         }
-        result
     }
 }

@@ -9,7 +9,7 @@ ghost use Rattle.std.specs.Prelude.{◌≡◌, ◌<◌, ◌≤◌, [], length, t
 ghost use Rattle.std.specs.Io.KnownBytes.{Appends, IsAtEnd, Keeps};
 ghost use Rattle.pg_host.specs.Streams.{AppendsFront, Gains};
 
-use pg_edge::{Failed, LoadFault};
+use crate::fault::Fault;
 use std::io::{ErrorKind, Read, Write};
 
 /// How many bytes are asked for at a time.
@@ -27,8 +27,8 @@ enum Went {
 /// Writes all of `bytes`.
 ///
 /// # Errors
-/// Where a write fails, or takes nothing of what is left. A front of the bytes may have been written.
-pub fn write_whole<W: Write>(to: &mut W, bytes: &[u8]) -> Result<(), Failed>
+/// The kind of the system's error where a write fails, and `WriteZero` where one takes nothing of what is left. A front of the bytes may have been written.
+pub fn write_whole<W: Write>(to: &mut W, bytes: &[u8]) -> Result<(), ErrorKind>
     ensures whole { OnOk result (Appends (W.contents to.old) (W.contents to.new) bytes.now) }
     ensures front { OnErr result (AppendsFront (W.contents to.old) (W.contents to.new) bytes.now) }
 {
@@ -40,44 +40,44 @@ pub fn write_whole<W: Write>(to: &mut W, bytes: &[u8]) -> Result<(), Failed>
         let taken = write_piece(to, rest)?;
         rest = &rest[taken..];
     }
-    Err(Failed)
+    Err(ErrorKind::Interrupted)
 }
 
 /// How many bytes one write takes, which is none where it is interrupted.
 ///
 /// # Errors
-/// Where it fails, or takes none though it is not interrupted.
-fn write_piece<W: Write>(to: &mut W, bytes: &[u8]) -> Result<usize, Failed>
+/// The kind of the system's error where it fails, and `WriteZero` where it takes none though it is not interrupted.
+fn write_piece<W: Write>(to: &mut W, bytes: &[u8]) -> Result<usize, ErrorKind>
     ensures within { IfOk result (λ taken. taken ≤ length bytes.now) }
     ensures taken { IfOk result (λ taken. Appends (W.contents to.old) (W.contents to.new) (take taken bytes.now)) }
     ensures kept { OnErr result (Keeps (W.contents to.old) (W.contents to.new)) }
 {
     match to.write(bytes) {
-        Ok(0) => Err(Failed),
+        Ok(0) => Err(ErrorKind::WriteZero),
         Ok(taken) => Ok(taken),
         Err(e) if e.kind() == ErrorKind::Interrupted => Ok(0),
-        Err(_) => Err(Failed),
+        Err(e) => Err(e.kind()),
     }
 }
 
 /// Reads all that the reader has into the empty buffer `into`, if it is at most `limit` bytes.
 ///
 /// # Errors
-/// `Long` where it is more, `Failed` where a read fails, and `Memory` where there is none for the bytes. `into` is then
+/// `Long` where it is more, `System` where a read fails, and `Memory` where there is none for the bytes. `into` is then
 /// empty.
-pub fn read_within<R: Read>(from: &mut R, limit: u64, into: &mut Vec<u8>) -> Result<(), LoadFault>
+pub fn read_within<R: Read>(from: &mut R, limit: u64, into: &mut Vec<u8>) -> Result<(), Fault>
     requires empty { into.old.items ≡ [] }
     ensures whole { OnOk result (IfSome (R.remaining from.old) (λ bytes. into.new.items ≡ bytes)) }
     ensures within { OnOk result (length into.new.items ≤ limit) }
     ensures empty { OnErr result (into.new.items ≡ []) }
-    ensures long { IsErrOf result LoadFault.Long
+    ensures long { IsErrOf result Fault.Long
         → IfSome (R.remaining from.old) (λ bytes. limit < length bytes) }
-    ensures never_missing { ¬ IsErrOf result LoadFault.Missing }
+    ensures never_missing { ¬ IsErrOf result Fault.Missing }
 {
     read_up_to(from, limit.saturating_add(1), into)?;
     if into.len() as u64 > limit {
         into.clear();
-        return Err(LoadFault::Long);
+        return Err(Fault::Long);
     }
     Ok(())
 }
@@ -85,14 +85,14 @@ pub fn read_within<R: Read>(from: &mut R, limit: u64, into: &mut Vec<u8>) -> Res
 /// Reads into the empty buffer `into` until it has `most` bytes or the reader is at its end.
 ///
 /// # Errors
-/// `Failed` where a read fails, and `Memory` where there is none for the bytes. `into` is then empty.
-pub fn read_up_to<R: Read>(from: &mut R, most: u64, into: &mut Vec<u8>) -> Result<(), LoadFault>
+/// `System` where a read fails, and `Memory` where there is none for the bytes. `into` is then empty.
+pub fn read_up_to<R: Read>(from: &mut R, most: u64, into: &mut Vec<u8>) -> Result<(), Fault>
     requires empty { into.old.items ≡ [] }
     ensures bytes { OnOk result (IfSome (R.remaining from.old) (λ bytes. into.new.items ≡ take most bytes)) }
     ensures within { OnOk result (length into.new.items ≤ most) }
     ensures empty { OnErr result (into.new.items ≡ []) }
-    ensures never_missing { ¬ IsErrOf result LoadFault.Missing }
-    ensures never_long { ¬ IsErrOf result LoadFault.Long }
+    ensures never_missing { ¬ IsErrOf result Fault.Missing }
+    ensures never_long { ¬ IsErrOf result Fault.Long }
 {
     let result = fill(from, most, into);
     if result.is_err() {
@@ -102,12 +102,12 @@ pub fn read_up_to<R: Read>(from: &mut R, most: u64, into: &mut Vec<u8>) -> Resul
 }
 
 /// Appends to the empty buffer `into` until it has `most` bytes or the reader is at its end.
-fn fill<R: Read>(from: &mut R, most: u64, into: &mut Vec<u8>) -> Result<(), LoadFault>
+fn fill<R: Read>(from: &mut R, most: u64, into: &mut Vec<u8>) -> Result<(), Fault>
     requires empty { into.old.items ≡ [] }
     ensures bytes { OnOk result (IfSome (R.remaining from.old) (λ bytes. into.new.items ≡ take most bytes)) }
     ensures within { OnOk result (length into.new.items ≤ most) }
-    ensures never_missing { ¬ IsErrOf result LoadFault.Missing }
-    ensures never_long { ¬ IsErrOf result LoadFault.Long }
+    ensures never_missing { ¬ IsErrOf result Fault.Missing }
+    ensures never_long { ¬ IsErrOf result Fault.Long }
 {
     for _ in 0..u64::MAX {
         let left = most.saturating_sub(into.len() as u64);
@@ -119,26 +119,26 @@ fn fill<R: Read>(from: &mut R, most: u64, into: &mut Vec<u8>) -> Result<(), Load
             Went::On => {}
         }
     }
-    Err(LoadFault::Failed)
+    Err(Fault::System(ErrorKind::Interrupted))
 }
 
 /// Appends what one read of at most `most` bytes gives, which is nothing where it is interrupted.
-fn read_piece<R: Read>(from: &mut R, most: usize, into: &mut Vec<u8>) -> Result<Went, LoadFault>
+fn read_piece<R: Read>(from: &mut R, most: usize, into: &mut Vec<u8>) -> Result<Went, Fault>
     requires some { 1 ≤ most }
     requires piece { most ≤ 4096 }
     ensures gains { OnOk result (Gains (R.remaining from.old) (R.remaining from.new) into.old.items into.new.items most) }
     ensures end { IfOk result (λ went. went ≡ Went.End → IsAtEnd (R.remaining from.new)) }
-    ensures never_missing { ¬ IsErrOf result LoadFault.Missing }
-    ensures never_long { ¬ IsErrOf result LoadFault.Long }
+    ensures never_missing { ¬ IsErrOf result Fault.Missing }
+    ensures never_long { ¬ IsErrOf result Fault.Long }
 {
     let mut piece = [0u8; PIECE as usize];
     match from.read(&mut piece[..most]) {
         Ok(0) => Ok(Went::End),
         Ok(n) => match into.extend_from_slice(&piece[..n]) {
             Ok(()) => Ok(Went::On),
-            Err(_) => Err(LoadFault::Memory),
+            Err(_) => Err(Fault::Memory),
         },
         Err(e) if e.kind() == ErrorKind::Interrupted => Ok(Went::On),
-        Err(_) => Err(LoadFault::Failed),
+        Err(e) => Err(Fault::System(e.kind())),
     }
 }

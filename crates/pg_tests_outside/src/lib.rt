@@ -1,4 +1,5 @@
-//! Tests of the outside: shelves, sinks and streams, in memory and real, and the command line.
+//! Tests of the outside: shelves, sinks and streams, in memory and real, what is said on standard error, and the command
+//! line.
 //!
 //! Nothing but tests stands here, of public calls alone. A shelf in memory and one over files are asked the same questions,
 //! and have to give the same answers; so have the sinks. What a test says is a row of a table: the call, and what is to
@@ -14,3 +15,5 @@ mod shelves;
 mod sinks;
 #[cfg(test)]
 mod streams;
+#[cfg(test)]
+mod telling;

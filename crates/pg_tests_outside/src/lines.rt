@@ -17,8 +17,8 @@ fn asked(alloc: Global, line: &str) -> Result<Result<Request, Fault>, AllocError
 }
 
 /// Lines that are taken, with the command, the grant, and the steps or the budget that they ask for. The description is
-/// `d`, and the image or the certificate, where the command has one, `i` or `c`.
-const TAKEN: [(&str, &str, u32, u64); 18] = [
+/// `d`, and the image, the certificate or the file for a new one, where the command has one, `i`, `c` or `f`.
+const TAKEN: [(&str, &str, u32, u64); 22] = [
     ("pgv|bare|d|i|--grant|8|--steps|0", "bare", 8, 0),
     (
         "pgv|bare|--steps=1000000|d|--grant=8|i",
@@ -48,6 +48,7 @@ const TAKEN: [(&str, &str, u32, u64); 18] = [
     ("pgv|check|--cert|c|d|--budget=019999", "check", 0, 19_999),
     ("pgv|verify|d|c", "verify", 0, 0),
     ("x|verify|d|--|c", "verify", 0, 0),
+    ("pgv|replay|d|c", "replay", 0, 0),
     ("pgv|run|d|i|--grant|8|--steps|3", "run", 8, 3),
     (
         "pgv|run|--steps=1000000|d|i|--grant=1048575",
@@ -57,6 +58,9 @@ const TAKEN: [(&str, &str, u32, u64); 18] = [
     ),
     ("pgv|print|d", "print", 0, 0),
     ("x|print|--|d", "print", 0, 0),
+    ("pgv|migrate|d|c|f", "migrate", 0, 0),
+    ("pgv|hcheck|d|--cert|c", "hcheck", 0, 20_000),
+    ("pgv|hcheck|--budget=7|--cert=c|d", "hcheck", 0, 7),
 ];
 
 #[test]
@@ -71,10 +75,27 @@ fn lines_that_are_taken(rt: HostRuntime) -> Result<(), Fail> {
                 assert!(rt; u64::from(words.budget.clauses()) == number, "{line}");
                 ("check", None)
             }
+            Ok(Request::Hcheck(words)) => {
+                assert!(rt; words.desc.as_str() == "d", "{line}");
+                assert!(rt; words.cert.as_str() == "c", "{line}");
+                assert!(rt; u64::from(words.budget.clauses()) == number, "{line}");
+                ("hcheck", None)
+            }
             Ok(Request::Verify(words)) => {
                 assert!(rt; words.desc.as_str() == "d", "{line}");
                 assert!(rt; words.cert.as_str() == "c", "{line}");
                 ("verify", None)
+            }
+            Ok(Request::Replay(words)) => {
+                assert!(rt; words.desc.as_str() == "d", "{line}");
+                assert!(rt; words.cert.as_str() == "c", "{line}");
+                ("replay", None)
+            }
+            Ok(Request::Migrate(words)) => {
+                assert!(rt; words.desc.as_str() == "d", "{line}");
+                assert!(rt; words.cert.as_str() == "c", "{line}");
+                assert!(rt; words.file.as_str() == "f", "{line}");
+                ("migrate", None)
             }
             Ok(Request::Print(words)) => {
                 assert!(rt; words.desc.as_str() == "d", "{line}");
@@ -96,7 +117,7 @@ fn lines_that_are_taken(rt: HostRuntime) -> Result<(), Fail> {
 }
 
 /// Lines that are refused.
-const REFUSED: [&str; 59] = [
+const REFUSED: [&str; 66] = [
     "pgv",
     "pgv|verify",
     "pgv|--help",
@@ -150,10 +171,17 @@ const REFUSED: [&str; 59] = [
     "pgv|verify|d",
     "pgv|verify|d|c|e",
     "pgv|verify|d|c|--steps=0",
+    "pgv|replay|d",
+    "pgv|replay|d|c|e",
     "pgv|print",
     "pgv|print|d|e",
     "pgv|print|d|--grant=8",
     "pgv|print|d|--steps=0",
+    "pgv|migrate|d|c",
+    "pgv|migrate|d|c|f|e",
+    "pgv|hcheck|d",
+    "pgv|hcheck|d|e|--cert=c",
+    "pgv|hcheck|d|--cert=c|--budget=0",
     "",
     "pgv|",
 ];

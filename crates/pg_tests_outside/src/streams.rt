@@ -2,7 +2,7 @@
 //!
 //! What was read before a fault is not kept, and a stream that is longer than the limit is refused at one byte beyond it.
 
-use pg_edge::LoadFault;
+use pg_host::Fault;
 use pg_host::streams::{read_up_to, read_within};
 use std::io;
 use std::io::{ErrorKind, Read};
@@ -40,7 +40,7 @@ fn reads_go_on_until_one_fails(rt: HostRuntime) -> Result<(), Fail> {
     read_up_to(&mut from, 2, &mut into)?;
     assert!(rt; into.as_slice() == b"\x01\x03".as_slice());
     into.clear();
-    assert!(rt; read_up_to(&mut from, 9, &mut into) == Err(LoadFault::Failed));
+    assert!(rt; read_up_to(&mut from, 9, &mut into) == Err(Fault::System(ErrorKind::TimedOut)));
     assert!(rt; into.is_empty());
     Ok(())
 }
@@ -51,7 +51,7 @@ fn reads_end_at_the_limit(rt: HostRuntime) -> Result<(), Fail> {
     read_within(&mut Torn { calls: 5 }, 2, &mut into)?;
     assert!(rt; into.as_slice() == b"\x06\x07".as_slice());
     into.clear();
-    assert!(rt; read_within(&mut Torn { calls: 5 }, 1, &mut into) == Err(LoadFault::Long));
+    assert!(rt; read_within(&mut Torn { calls: 5 }, 1, &mut into) == Err(Fault::Long));
     assert!(rt; into.is_empty());
     Ok(())
 }
