@@ -1,5 +1,6 @@
 -- How a command is carried out, by what its parts answer.
 use Rattle.std.proofs.Common.{◌≡◌, ◌≢◌, ℕ, List, Option, Some, None, Result, Ok, Err, inl, inr, refl, sym, ap, subst}
+use Rattle.pg_edge.specs.Count.{Rose}
 use Rattle.pg_edge.specs.Shelf.{Files}
 use Rattle.pg_edge.specs.Sink.{Adds}
 use Rattle.pg_edge.specs.Told.{BothTold}
@@ -60,6 +61,13 @@ carries-broken c old new work given text due ends front = record {
 
 pub carries-starved : (c : Command) (old new : World) (work : c.Work) → c.due old.files (Came work) → c.starved work old new → Carries c old new status.Memory
 carries-starved c old new work due left = record { by_class = inr (record { work = work; is_due = due; left = left }) }
+
+-- its save failed
+pub carries-unsaved : (c : Command) (old new : World) (work : c.Work) (name : List ℕ) → c.due old.files (Came work) → c.saved ≡ Some name →
+    Rose old.save_faults new.save_faults → new.out ≡ old.out → c.unsaved work old new → Carries c old new status.WriteFault
+carries-unsaved c old new work name due saves cause silent left = record {
+  by_class = inr (inr (record { work = work; is_due = due; name = name; saves = saves; cause = cause; silent = silent; left = left }));
+}
 
 -- ---- what the words ask for
 

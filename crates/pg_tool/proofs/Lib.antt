@@ -9,6 +9,10 @@ pub mod BareLemmas
 pub mod RunLemmas
 pub mod PartLemmas
 pub mod VerdictMeanings
+pub mod JudgedLemmas
 pub mod VerifyLemmas
+pub mod ReplayLemmas
+pub mod SavingLemmas
 pub mod CheckLemmas
+pub mod MigrateLemmas
 pub mod OneState

@@ -9,13 +9,12 @@ use Rattle.pg_valid.proofs.FaultLemmas.{no_fault}
 use Rattle.pg_valid.specs.Twice.{instr_names}
 use Rattle.pg_type.specs.Plain.{first_breach}
 use Rattle.pg_edge.specs.Shelf.{Files}
-use Rattle.pg_monitor.specs.Guests.{kept_cells}
+use Rattle.pg_alloc.specs.Fit.{kept_cells}
 use Rattle.pg_command.specs.Asked.{request_of}
 use Rattle.pg_command.specs.declared.ask.Request.{Request}
 use Rattle.pg_command.specs.declared.ask.Request.TheVariants as request
 use Rattle.pg_command.specs.declared.running.RunWords.{RunWords}
 use Rattle.pg_command.specs.declared.print.PrintWords.{PrintWords}
-use Rattle.pg_command.specs.declared.verify.VerifyWords.{VerifyWords}
 use Rattle.pg_command.specs.declared.check.CheckWords.{CheckWords}
 use Rattle.pg_read.specs.declared.fault.DescFault.{DescFault}
 use Rattle.pg_read.specs.declared.fault.DescFault.TheVariants as read_fault
@@ -40,13 +39,13 @@ use Rattle.pg_tool.specs.Bare.{BareRun, BareDue}
 use Rattle.pg_tool.specs.Run.{GuestRun, RunDue}
 use Rattle.pg_tool.specs.Print.{PrintDue}
 use Rattle.pg_tool.specs.Certificates.{CertDue}
-use Rattle.pg_tool.specs.Verify.{VerifyDue}
+use Rattle.pg_tool.specs.Judged.{JudgedDue}
 use Rattle.pg_tool.specs.Check.{CheckDue}
 use Rattle.pg_tool.specs.Asking.{WordsRefused, command_of, command_or_none, command_for}
 use Rattle.pg_tool.specs.Plans.{lone_run}
 use Rattle.pg_tool.proofs.BareLemmas as bare
 use Rattle.pg_tool.proofs.RunLemmas as run
-use Rattle.pg_tool.proofs.VerifyLemmas as verify
+use Rattle.pg_tool.proofs.JudgedLemmas as judged
 use Rattle.pg_tool.proofs.OneSteps.{one-gives, one-then}
 use Rattle.pg_tool.proofs.OneCertificate.{one-certificate}
 use Rattle.pg_tool.proofs.OnlySteps.{Only, one-of, only-settles, only-gives, lifted, only-as, bind, only-then, file_answer, only-file}
@@ -247,22 +246,25 @@ one-print files p = one-of (DescDue (Some files) p.desc) (desc_answer files p.de
 one-check : (files : Files) (c : CheckWords) → IsOne (CheckDue c (Some files))
 one-check files c = one-of (DescDue (Some files) c.desc) (desc_answer files c.desc) (only-desc files c.desc)
 
--- ---- `verify`
+-- ---- `verify`, `replay` and `migrate`
 
-one-verify : (files : Files) (v : VerifyWords) → IsOne (VerifyDue v (Some files))
-unfolding VerifyDue
-one-verify files v =
-    one-then (DescDue (Some files) v.desc) (verify.behind_desc (Some files) v) (one-of (DescDue (Some files) v.desc) (desc_answer files v.desc) (only-desc files v.desc))
-    (λ d. one-then (CertDue d (Some files) v.cert) (verify.behind_cert d) (one-certificate d files v.cert) (λ report. one-gives (record { desc = d; report = report })))
+one-judged : (files : Files) (desc cert : List ℕ) → IsOne (JudgedDue desc cert (Some files))
+unfolding JudgedDue
+one-judged files desc cert =
+    one-then (DescDue (Some files) desc) (judged.behind_desc (Some files) cert) (one-of (DescDue (Some files) desc) (desc_answer files desc) (only-desc files desc))
+    (λ d. one-then (CertDue d (Some files) cert) (judged.behind_cert d) (one-certificate d files cert) (λ report. one-gives (record { desc = d; report = report })))
 
 -- ---- every command
 
 one-command : (files : Files) (asked : Request) → IsOne ((command_of asked).due (Some files))
 one-command files (request.Bare b) = one-bare files b
 one-command files (request.Check c) = one-check files c
-one-command files (request.Verify v) = one-verify files v
+one-command files (request.Verify v) = one-judged files v.desc v.cert
+one-command files (request.Replay r) = one-judged files r.desc r.cert
 one-command files (request.Run r) = one-run files r
 one-command files (request.Print p) = one-print files p
+one-command files (request.Migrate m) = one-judged files m.desc m.cert
+one-command files (request.Hcheck c) = one-check files c
 
 one-refused : IsOne WordsRefused
 one-refused (Ok a) b h k = absurd a

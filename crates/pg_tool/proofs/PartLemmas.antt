@@ -123,13 +123,13 @@ all_fed d told name at p h k =
       is = ap (λ r. then_take r finished) h.is_fed;
     }
 
-answer_ok : (due : Reader) (report : Report) → IsAnswer due (Ok report) → (d : Desc) (bytes : List ℕ) → due ≡ verified d Plain bytes → IsCertificate d bytes report
+pub answer_ok : (due : Reader) (report : Report) → IsAnswer due (Ok report) → (d : Desc) (bytes : List ℕ) → due ≡ verified d Plain bytes → IsCertificate d Plain bytes report
 answer_ok (Ok p) report h d bytes e =
     record { progress = p; taken = sym e; kept = h; spelled = taken_texts_spell d Plain bytes p (sym e) }
 answer_ok (Err f) report h d bytes e = absurd h
 
 -- want of memory is not told
-told_known : (d : Desc) (f : VerifyFault) (line : CertificateLine) → told_of_verifying d f ≡ Some line → f ≢ fault.Memory
+pub told_known : (d : Desc) (f : VerifyFault) (line : CertificateLine) → told_of_verifying d f ≡ Some line → f ≢ fault.Memory
 told_known d f line e m = absurd (let no : None ≡ Some line = sym (ap (told_of_verifying d) m) ∙ e in cc)
 
 -- a certificate that was read to its end

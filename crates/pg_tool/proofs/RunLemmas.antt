@@ -18,8 +18,9 @@ use Rattle.pg_monitor.proofs.LoadLemmas.{base-first, known-base}
 use Rattle.pg_monitor.proofs.PlanLemmas.{granted-outside}
 use Rattle.pg_monitor.proofs.WentLemmas.{direct_among-most}
 use Rattle.pg_monitor.specs.declared.guest.Guest.{Guest}
-use Rattle.pg_monitor.specs.Guests.{virtual, virtuals, kept_cells}
-use Rattle.pg_monitor.specs.Loading.{free_base, with_words}
+use Rattle.pg_alloc.specs.Fit.{kept_cells, free_base}
+use Rattle.pg_monitor.specs.Guests.{virtual, virtuals}
+use Rattle.pg_monitor.specs.Loading.{with_words}
 use Rattle.pg_monitor.specs.Plans.{after_plan, turns_of, direct_of, cell_behind, psw_behind, changes_of, IsOutside, Followed}
 use Rattle.pg_monitor.specs.Standing.{Stands}
 use Rattle.pg_monitor.specs.Turns.{grants_of, CountsTurns, BottomTurns}

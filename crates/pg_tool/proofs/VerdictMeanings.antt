@@ -15,11 +15,12 @@ use Rattle.pg_type.specs.declared.kind.Kind.{Kind}
 use Rattle.pg_type.specs.declared.kind.Kind.TheVariants.{Privileged}
 use Rattle.pg_type.specs.Kinds.{Shows}
 use Rattle.pg_type.specs.Listed.{state_of}
-use Rattle.pg_type.specs.Accepting.{IsPrivileged, IsInnocuous, IsAccepted}
+use Rattle.pg_type.specs.Accepting.{IsPrivileged, IsInnocuous, IsUserInnocuous}
 use Rattle.pg_type.proofs.KindLaws.{privileged-exactly}
 use Rattle.pg_symex.proofs.RunLaw.{all_run_right}
 use Rattle.pg_ask.proofs.ExactLaw.{questions-exact}
-use Rattle.pg_cert.specs.declared.cert.Family.TheVariants.{Plain}
+use Rattle.pg_cert.specs.declared.cert.Family.{Family}
+use Rattle.pg_cert.specs.declared.cert.Family.TheVariants.{Plain, Hybrid}
 use Rattle.pg_cert.specs.declared.cert.Cert.{Cert}
 use Rattle.pg_cert.specs.declared.cert.Finding.{Finding}
 use Rattle.pg_cert.specs.declared.cert.Finding.TheVariants as finding
@@ -44,7 +45,7 @@ use Rattle.pg_verify.proofs.TellLemmas.{taken_texts_tell, closed_refutes}
 use Rattle.pg_verify.proofs.TakeLemmas.{valid_texts_are_taken}
 use Rattle.pg_verify.proofs.StepLemmas.{same_ok}
 use Rattle.pg_report.specs.Verdicts.{DoMarkWordsFit, shown_place}
-use Rattle.pg_tool.specs.Meaning.{kind_at, mark_at, HasShown, IsSpentOn, MeansRefused, MeansOpen, Means, VerdictMeans}
+use Rattle.pg_tool.specs.Meaning.{kind_at, mark_at, HasShown, IsSpentOn, HasNoKind, IsAcceptedBy, MeansRefused, MeansOpen, AreShown, Means, VerdictMeans}
 
 -- ---- the first number that passes a test
 
@@ -83,18 +84,47 @@ none_found p from (suc n) e i l m = by (p from) refl e (λ h k. none_found p (su
 
 -- ---- the marks of an instruction
 
-at-marks_of : (ms : List Mark) (k j : ℕ) (m : Mark) → slice_get (marks_of 5 ms k) j ≡ Some m → (j < 5) × (slice_get ms (k * 5 + j) ≡ Some m)
-at-marks_of ms k j m e =
-    let within = slice_get_within (marks_of 5 ms k) j m e in
-    let few : j < 5 = omega (arith, within, length-take 5 (drop (k * 5) ms)) in
-    let inside : k * 5 + j < length ms = omega (arith, within, length-take 5 (drop (k * 5) ms), length-drop (k * 5) ms) in
-    let is : get_or ms (k * 5 + j) m ≡ m = sym (get_or-take 5 (drop (k * 5) ms) j m few ∙ get_or-drop (k * 5) ms j m) ∙ get_or_from_slice_get (marks_of 5 ms k) j m m e in
-    (few, slice_get-get_or ms (k * 5 + j) m inside ∙ ap (λ x. Some x) is)
+at-marks_of : (count : ℕ) (ms : List Mark) (k j : ℕ) (m : Mark) → slice_get (marks_of count ms k) j ≡ Some m →
+    (j < count) × (slice_get ms (k * count + j) ≡ Some m)
+at-marks_of count ms k j m e =
+    let within = slice_get_within (marks_of count ms k) j m e in
+    let few : j < count = omega (arith, within, length-take count (drop (k * count) ms)) in
+    let inside : k * count + j < length ms = omega (arith, within, length-take count (drop (k * count) ms), length-drop (k * count) ms) in
+    let is : get_or ms (k * count + j) m ≡ m =
+    sym (get_or-take count (drop (k * count) ms) j m few ∙ get_or-drop (k * count) ms j m) ∙ get_or_from_slice_get (marks_of count ms k) j m m e in
+    (few, slice_get-get_or ms (k * count + j) m inside ∙ ap (λ x. Some x) is)
 
-length-marks_of : (ms : List Mark) (count k : ℕ) → length ms ≡ count * 5 → k < count → length (marks_of 5 ms k) ≡ 5
-length-marks_of ms count k whole l = omega (arith, length-take 5 (drop (k * 5) ms), length-drop (k * 5) ms)
+-- of each family, numbers of findings as instructions and places of kinds
+length-marks_of : (family : Family) (ms : List Mark) (count k : ℕ) → length ms ≡ count * kind_count family → k < count →
+    length (marks_of (kind_count family) ms k) ≡ kind_count family
+length-marks_of Plain ms count k whole l = omega (arith, length-take 5 (drop (k * 5) ms), length-drop (k * 5) ms)
+length-marks_of Hybrid ms count k whole l = omega (arith, length-take 4 (drop (k * 4) ms), length-drop (k * 4) ms)
 
-some_at : {X : Type 0} (xs : List X) (i : ℕ) → i < length xs → (x : X) × (slice_get xs i ≡ Some x)
+instr_of_place : (family : Family) (k j : ℕ) → j < kind_count family → instr_of family (k * kind_count family + j) ≡ k
+instr_of_place Plain k j l = omega arith
+instr_of_place Hybrid k j l = omega arith
+
+place_of_place : (family : Family) (k j : ℕ) → j < kind_count family → (k * kind_count family + j) % kind_count family ≡ j
+place_of_place Plain k j l = omega arith
+place_of_place Hybrid k j l = omega arith
+
+instr_within : (family : Family) (count n : ℕ) → n < count * kind_count family → instr_of family n < count
+instr_within Plain count n l = omega arith
+instr_within Hybrid count n l = omega arith
+
+instr_count_is : (family : Family) (ms : List Mark) (count : ℕ) → length ms ≡ count * kind_count family → instr_count family ms ≡ count
+instr_count_is Plain ms count whole = omega arith
+instr_count_is Hybrid ms count whole = omega arith
+
+first_kind : (family : Family) → kind_at family 0 ≡ Privileged
+first_kind Plain = refl
+first_kind Hybrid = refl
+
+some_kind : (family : Family) → 1 ≤ kind_count family
+some_kind Plain = omega arith
+some_kind Hybrid = omega arith
+
+pub some_at : {X : Type 0} (xs : List X) (i : ℕ) → i < length xs → (x : X) × (slice_get xs i ≡ Some x)
 some_at [] i l = absurd (omega arith)
 some_at (x ∷ xs) zero l = (x, refl)
 some_at (x ∷ xs) (suc i) l = some_at xs i (omega arith)
@@ -106,10 +136,11 @@ Says d i kind Refuted = (s t : State) → Shows d i kind s t → ⊥
 Says d i kind (Shown s t) = Shows d i kind (state_of s) (state_of t)
 Says d i kind (Spent budget) = IsSpentOn d i kind budget
 
-record AllSay (d : Desc) (report : Report) : Type 0 where
-  plain : report.family ≡ Plain
-  whole : length report.marks ≡ length d.instrs * 5
-  each : (n : ℕ) (m : Mark) (i : Instr) → slice_get report.marks n ≡ Some m → slice_get d.instrs (n / 5) ≡ Some i → Says d i (kind_of Plain n) m
+record AllSay (d : Desc) (family : Family) (report : Report) : Type 0 where
+  of_family : report.family ≡ family
+  whole : length report.marks ≡ length d.instrs * kind_count family
+  each : (n : ℕ) (m : Mark) (i : Instr) → slice_get report.marks n ≡ Some m → slice_get d.instrs (instr_of family n) ≡ Some i →
+      Says d i (kind_of family n) m
 
 spent_says : (d : Desc) (heading : Heading) (i : Instr) (kind : Kind) (f : Finding) (budget : ℕ) → kept (mark_of f) ≡ reader.Spent budget → IsValidFinding (question d i kind) heading d i kind f → IsSpentOn d i kind budget
 unfolding IsValidFinding
@@ -119,67 +150,71 @@ spent_says d heading i kind (finding.Spent k steps) budget e h =
     let same : k ≡ budget = cc in
     subst (λ n. IsSpentOn d i kind n) same (record { some = h.0; steps = steps; spent = h.2 })
 
-module _ (d : Desc) (bytes : List ℕ) (p : Progress) (report : Report) (valid : IsValid d) (taken : verified d Plain bytes ≡ Ok p) (is : IsReportOf p report) where
-  spelled : Spells d Plain bytes p
-  spelled = taken_texts_spell d Plain bytes p taken
+module _ (d : Desc) (family : Family) (bytes : List ℕ) (p : Progress) (report : Report) (valid : IsValid d)
+    (taken : verified d family bytes ≡ Ok p) (is : IsReportOf p report) where
+  spelled : Spells d family bytes p
+  spelled = taken_texts_spell d family bytes p taken
 
-  told : AreTold d Plain p.marks
-  told = taken_texts_tell d (questions-exact d (all_run_right d)) valid Plain bytes p taken
+  told : AreTold d family p.marks
+  told = taken_texts_tell d (questions-exact d (all_run_right d)) valid family bytes p taken
 
   -- the text is that of a valid certificate, which is not refused, so that the family is that of the certificate
-  family_plain : p.family ≡ Plain
-  family_plain =
+  family_kept : p.family ≡ family
+  family_kept =
       let again : IsTaken d spelled.heading spelled.cert =
       valid_texts_are_taken d spelled.heading spelled.cert valid spelled.valid (subst (λ bs. length bs ≤ 268435456) spelled.text spelled.within) in
       let same : again.progress ≡ p =
       same_ok again.progress p (sym again.taken ∙ ap (λ f. verified d f (cert_text d spelled.heading spelled.cert)) spelled.of_family
-      ∙ ap (λ bs. verified d Plain bs) (sym spelled.text) ∙ taken) in
+      ∙ ap (λ bs. verified d family bs) (sym spelled.text) ∙ taken) in
       sym (ap (λ (x : Progress). x.family) same) ∙ again.family ∙ spelled.of_family
 
   mark_kept : (n : ℕ) (m : Mark) → slice_get report.marks n ≡ Some m → slice_get p.marks n ≡ Some (kept m)
   mark_kept n m e = ap (λ ms. slice_get ms n) (sym is.marks) ∙ slice_get-map kept report.marks n ∙ ap (option_map kept) e
 
   -- a mark that is spent is that of a finding whose log spends its budget
-  spent_kept : (n budget : ℕ) (i : Instr) → slice_get p.marks n ≡ Some (reader.Spent budget) → slice_get d.instrs (n / 5) ≡ Some i → IsSpentOn d i (kind_of Plain n) budget
+  spent_kept : (n budget : ℕ) (i : Instr) → slice_get p.marks n ≡ Some (reader.Spent budget) → slice_get d.instrs (instr_of family n) ≡ Some i → IsSpentOn d i (kind_of family n) budget
   spent_kept n budget i e at = by (slice_get spelled.cert.findings n) refl (sym (slice_get-map (λ f. kept (mark_of f)) spelled.cert.findings n) ∙ ap (λ ms. slice_get ms n) (sym spelled.marks) ∙ e)
     where
-      by : (o : Option Finding) → slice_get spelled.cert.findings n ≡ o → option_map (λ f. kept (mark_of f)) o ≡ Some (reader.Spent budget) → IsSpentOn d i (kind_of Plain n) budget
+      by : (o : Option Finding) → slice_get spelled.cert.findings n ≡ o → option_map (λ f. kept (mark_of f)) o ≡ Some (reader.Spent budget) → IsSpentOn d i (kind_of family n) budget
       by None eo e = absurd (cc)
       by (Some f) eo e =
           let at : slice_get d.instrs (instr_of spelled.cert.family n) ≡ Some i = ap (λ x. slice_get d.instrs (instr_of x n)) spelled.of_family ∙ at in
           subst (λ x. IsSpentOn d i (kind_of x n) budget) spelled.of_family
           (spent_says d spelled.heading i (kind_of spelled.cert.family n) f budget (same_Some (kept (mark_of f)) (reader.Spent budget) e) (spelled.valid.valid.each n f i eo at))
 
-  mark_says : (n : ℕ) (m : Mark) (i : Instr) → slice_get p.marks n ≡ Some (kept m) → slice_get d.instrs (n / 5) ≡ Some i → Says d i (kind_of Plain n) m
+  mark_says : (n : ℕ) (m : Mark) (i : Instr) → slice_get p.marks n ≡ Some (kept m) → slice_get d.instrs (instr_of family n) ≡ Some i → Says d i (kind_of family n) m
   mark_says n Refuted i e at = told.each n reader.Refuted i e at
   mark_says n (Shown s t) i e at = told.each n (kept (Shown s t)) i e at
   mark_says n (Spent budget) i e at = spent_kept n budget i e at
 
-  all_say : AllSay d report
+  all_say : AllSay d family report
   all_say = record {
-    plain = is.family ∙ family_plain;
+    of_family = is.family ∙ family_kept;
     whole = sym (length-map report.marks kept) ∙ ap length is.marks ∙ told.whole;
     each = λ n m i e at. mark_says n m i (mark_kept n m e) at;
   }
 
 -- ---- what the marks of one instruction say
 
-record AllSayOf (d : Desc) (i : Instr) (xs : List Mark) : Type 0 where
-  whole : length xs ≡ 5
-  each : (j : ℕ) (m : Mark) → slice_get xs j ≡ Some m → Says d i (kind_at Plain j) m
+record AllSayOf (d : Desc) (family : Family) (i : Instr) (xs : List Mark) : Type 0 where
+  whole : length xs ≡ kind_count family
+  each : (j : ℕ) (m : Mark) → slice_get xs j ≡ Some m → Says d i (kind_at family j) m
 
-say_of : (d : Desc) (report : Report) (k : ℕ) (i : Instr) → AllSay d report → slice_get d.instrs k ≡ Some i → AllSayOf d i (marks_of 5 report.marks k)
-say_of d report k i h at = record {
-  whole = length-marks_of report.marks (length d.instrs) k h.whole (slice_get_within d.instrs k i at);
-  each = λ j m e. by j m (at-marks_of report.marks k j m e);
+say_of : (d : Desc) (family : Family) (report : Report) (k : ℕ) (i : Instr) → AllSay d family report → slice_get d.instrs k ≡ Some i →
+    AllSayOf d family i (marks_of (kind_count family) report.marks k)
+say_of d family report k i h at = record {
+  whole = length-marks_of family report.marks (length d.instrs) k h.whole (slice_get_within d.instrs k i at);
+  each = λ j m e. by j m (at-marks_of (kind_count family) report.marks k j m e);
 }
   where
-    by : (j : ℕ) (m : Mark) → (j < 5) × (slice_get report.marks (k * 5 + j) ≡ Some m) → Says d i (kind_at Plain j) m
+    by : (j : ℕ) (m : Mark) → (j < kind_count family) × (slice_get report.marks (k * kind_count family + j) ≡ Some m) → Says d i (kind_at family j) m
     by j m e =
-        let few = e.0 in
-        let instr : (k * 5 + j) / 5 ≡ k = omega (arith, few) in
-        let place : (k * 5 + j) % 5 ≡ j = omega (arith, few) in
-        subst (λ n. Says d i (get_or (kinds_of Plain) n Privileged) m) place (h.each (k * 5 + j) m i e.1 (ap (λ n. slice_get d.instrs n) instr ∙ at))
+        subst (λ n. Says d i (get_or (kinds_of family) n Privileged) m) (place_of_place family k j e.0)
+        (h.each (k * kind_count family + j) m i e.1 (ap (λ n. slice_get d.instrs n) (instr_of_place family k j e.0) ∙ at))
+
+-- that of privileged, which comes first
+first_says : (d : Desc) (family : Family) (i : Instr) (x : Mark) (xs : List Mark) → AllSayOf d family i (x ∷ xs) → Says d i Privileged x
+first_says d family i x xs h = subst (λ kind. Says d i kind x) (first_kind family) (h.each 0 x refl)
 
 -- ---- settled
 
@@ -194,25 +229,34 @@ refuted_says d i kind (Shown s t) e h = absurd (cc)
 refuted_says d i kind (Spent budget) e h = absurd (cc)
 
 -- no states show a kind of a place behind privileged
-never_shown : (d : Desc) (i : Instr) (x : Mark) (xs : List Mark) → AllSayOf d i (x ∷ xs) → list_all is_refuted xs ≡ true → (j : ℕ) → j < 4 → (s t : State) → Shows d i (kind_at Plain (suc j)) s t → ⊥
-never_shown d i x xs h all j l =
+never_shown : (d : Desc) (family : Family) (i : Instr) (x : Mark) (xs : List Mark) → AllSayOf d family i (x ∷ xs) → list_all is_refuted xs ≡ true →
+    (j : ℕ) → suc j < kind_count family → (s t : State) → Shows d i (kind_at family (suc j)) s t → ⊥
+never_shown d family i x xs h all j l =
     let whole = h.whole in
     let m = some_at xs j (omega (arith, whole)) in
-    refuted_says d i (kind_at Plain (suc j)) m.0 (refuted_at xs j m.0 all m.1) (h.each (suc j) m.0 m.1)
+    refuted_says d i (kind_at family (suc j)) m.0 (refuted_at xs j m.0 all m.1) (h.each (suc j) m.0 m.1)
 
-settled : (d : Desc) (i : Instr) (xs : List Mark) → AllSayOf d i xs → is_settled xs ≡ true → IsPrivileged d i ⊎ IsInnocuous d i
-settled d i [] h e = absurd (let whole = h.whole in omega (arith, whole))
-settled d i (x ∷ xs) h e = by (is_refuted x) refl e
+-- so it has no sensitive kind of the family
+none_kept : (d : Desc) (family : Family) (i : Instr) →
+    ((j : ℕ) → suc j < kind_count family → (s t : State) → Shows d i (kind_at family (suc j)) s t → ⊥) → HasNoKind family d i
+none_kept d Plain i never = record {
+  control = λ y. never 0 (omega arith) y.0 y.1 y.2;
+  mode_and_location = λ y. elim y [ inl a ↦ never 1 (omega arith) a.0 a.1 a.2 | inr b ↦ never 2 (omega arith) b.0 b.1 b.2 ];
+  bound = λ y. never 3 (omega arith) y.0 y.1 y.2;
+}
+none_kept d Hybrid i never = record {
+  control = λ y. never 0 (omega arith) y.0 y.1 (y.2, y.3);
+  location = λ y. never 1 (omega arith) y.0 y.1 (y.2, y.3);
+  bound = λ y. never 2 (omega arith) y.0 y.1 (y.2, y.3);
+}
+
+settled : (d : Desc) (family : Family) (i : Instr) (xs : List Mark) → AllSayOf d family i xs → is_settled xs ≡ true → IsPrivileged d i ⊎ HasNoKind family d i
+settled d family i [] h e = absurd (let whole = h.whole in omega (arith, whole, some_kind family))
+settled d family i (x ∷ xs) h e = by (is_refuted x) refl e
   where
-    by : (b : Bool) → is_refuted x ≡ b → (b || list_all is_refuted xs) ≡ true → IsPrivileged d i ⊎ IsInnocuous d i
-    by true eb e = inl ((privileged-exactly d i).1 (λ s t shows. refuted_says d i Privileged x eb (h.each 0 x refl) s t shows))
-    by false eb e =
-        let never = never_shown d i x xs h e in
-        inr (record {
-          control = λ y. never 0 (omega arith) y.0 y.1 y.2;
-          mode_and_location = λ y. elim y [ inl a ↦ never 1 (omega arith) a.0 a.1 a.2 | inr b ↦ never 2 (omega arith) b.0 b.1 b.2 ];
-          bound = λ y. never 3 (omega arith) y.0 y.1 y.2;
-        })
+    by : (b : Bool) → is_refuted x ≡ b → (b || list_all is_refuted xs) ≡ true → IsPrivileged d i ⊎ HasNoKind family d i
+    by true eb e = inl ((privileged-exactly d i).1 (λ s t shows. refuted_says d i Privileged x eb (first_says d family i x xs h) s t shows))
+    by false eb e = inr (none_kept d family i (never_shown d family i x xs h e))
 
 -- ---- refused
 
@@ -260,51 +304,65 @@ privileged_broken d i Refuted h k = h
 privileged_broken d i (Shown s t) h k = (privileged-exactly d i).0 k (state_of s) (state_of t) h
 privileged_broken d i (Spent budget) h k = h
 
-innocuous_shown : (d : Desc) (i : Instr) (j : ℕ) (s t : State) → j < 4 → Shows d i (kind_at Plain (suc j)) s t → ¬ IsInnocuous d i
+innocuous_shown : (d : Desc) (i : Instr) (j : ℕ) (s t : State) → suc j < 5 → Shows d i (kind_at Plain (suc j)) s t → ¬ IsInnocuous d i
 innocuous_shown d i zero s t l h k = k.control (s, t, h)
 innocuous_shown d i (suc zero) s t l h k = k.mode_and_location (inl (s, t, h))
 innocuous_shown d i (suc (suc zero)) s t l h k = k.mode_and_location (inr (s, t, h))
 innocuous_shown d i (suc (suc (suc zero))) s t l h k = k.bound (s, t, h)
 innocuous_shown d i (suc (suc (suc (suc j)))) s t l h k = omega arith
 
-innocuous_broken : (d : Desc) (i : Instr) (j : ℕ) (m : Mark) → j < 4 → HasShown d i (kind_at Plain (suc j)) m → ¬ IsInnocuous d i
-innocuous_broken d i j Refuted l h k = h
-innocuous_broken d i j (Shown s t) l h k = innocuous_shown d i j (state_of s) (state_of t) l h k
-innocuous_broken d i j (Spent budget) l h k = h
+user_innocuous_shown : (d : Desc) (i : Instr) (j : ℕ) (s t : State) → suc j < 4 → Shows d i (kind_at Hybrid (suc j)) s t → ¬ IsUserInnocuous d i
+user_innocuous_shown d i zero s t l h k = k.control (s, t, h.0, h.1)
+user_innocuous_shown d i (suc zero) s t l h k = k.location (s, t, h.0, h.1)
+user_innocuous_shown d i (suc (suc zero)) s t l h k = k.bound (s, t, h.0, h.1)
+user_innocuous_shown d i (suc (suc (suc j))) s t l h k = omega arith
 
-record IsBroken (d : Desc) (i : Instr) (xs : List Mark) : Type 0 where
+-- states that show a sensitive kind of a family
+kind_shown : (d : Desc) (family : Family) (i : Instr) (j : ℕ) (s t : State) → suc j < kind_count family → Shows d i (kind_at family (suc j)) s t →
+    ¬ HasNoKind family d i
+kind_shown d Plain i j s t l h = innocuous_shown d i j s t l h
+kind_shown d Hybrid i j s t l h = user_innocuous_shown d i j s t l h
+
+kind_broken : (d : Desc) (family : Family) (i : Instr) (j : ℕ) (m : Mark) → suc j < kind_count family → HasShown d i (kind_at family (suc j)) m →
+    ¬ HasNoKind family d i
+kind_broken d family i j Refuted l h k = h
+kind_broken d family i j (Shown s t) l h k = kind_shown d family i j (state_of s) (state_of t) l h k
+kind_broken d family i j (Spent budget) l h k = h
+
+record IsBroken (d : Desc) (family : Family) (i : Instr) (xs : List Mark) : Type 0 where
   not_privileged : HasShown d i Privileged (mark_at xs 0)
-  sensitive : HasShown d i (kind_at Plain (shown_place xs)) (mark_at xs (shown_place xs))
-  neither : ¬ (IsPrivileged d i ⊎ IsInnocuous d i)
+  sensitive : HasShown d i (kind_at family (shown_place xs)) (mark_at xs (shown_place xs))
+  neither : ¬ (IsPrivileged d i ⊎ HasNoKind family d i)
 
-broken : (d : Desc) (i : Instr) (xs : List Mark) → AllSayOf d i xs → breaks xs ≡ true → IsBroken d i xs
-broken d i [] h e = absurd (cc)
-broken d i (x ∷ xs) h e =
+broken : (d : Desc) (family : Family) (i : Instr) (xs : List Mark) → AllSayOf d family i xs → breaks xs ≡ true → IsBroken d family i xs
+broken d family i [] h e = absurd (cc)
+broken d family i (x ∷ xs) h e =
     let parts = and_parts (is_shown x) (list_any is_shown xs) e in
     let first : IsFirst is_shown xs = first_passing is_shown xs parts.1 in
     let len = h.whole in
-    let few : first.place < 4 = omega (arith, len, slice_get_within xs first.place first.mark first.at) in
-    let privileged : HasShown d i Privileged x = shown_says d i Privileged x parts.0 (h.each 0 x refl) in
-    let shown : HasShown d i (kind_at Plain (suc first.place)) first.mark = shown_says d i (kind_at Plain (suc first.place)) first.mark first.passes (h.each (suc first.place) first.mark first.at) in
+    let few : suc first.place < kind_count family = omega (arith, len, slice_get_within xs first.place first.mark first.at) in
+    let privileged : HasShown d i Privileged x = shown_says d i Privileged x parts.0 (first_says d family i x xs h) in
+    let shown : HasShown d i (kind_at family (suc first.place)) first.mark =
+    shown_says d i (kind_at family (suc first.place)) first.mark first.passes (h.each (suc first.place) first.mark first.at) in
     let place : shown_place (x ∷ xs) ≡ suc first.place = ap (λ o. suc (unwrap_or o 0)) first.position_is in
     let mark : mark_at (x ∷ xs) (suc first.place) ≡ first.mark = get_or_from_slice_get xs first.place first.mark Refuted first.at in
-    let sensitive : HasShown d i (kind_at Plain (suc first.place)) (mark_at (x ∷ xs) (suc first.place)) =
-    subst (λ m. HasShown d i (kind_at Plain (suc first.place)) m) (sym mark) shown in
+    let sensitive : HasShown d i (kind_at family (suc first.place)) (mark_at (x ∷ xs) (suc first.place)) =
+    subst (λ m. HasShown d i (kind_at family (suc first.place)) m) (sym mark) shown in
     record {
       not_privileged = privileged;
-      sensitive = subst (λ n. HasShown d i (kind_at Plain n) (mark_at (x ∷ xs) n)) (sym place) sensitive;
-      neither = λ y. elim y [ inl a ↦ privileged_broken d i x privileged a | inr b ↦ innocuous_broken d i first.place first.mark few shown b ];
+      sensitive = subst (λ n. HasShown d i (kind_at family n) (mark_at (x ∷ xs) n)) (sym place) sensitive;
+      neither = λ y. elim y [ inl a ↦ privileged_broken d i x privileged a | inr b ↦ kind_broken d family i first.place first.mark few shown b ];
     }
 
 -- ---- open
 
-record IsOpen (d : Desc) (i : Instr) (xs : List Mark) : Type 0 where
+record IsOpen (d : Desc) (family : Family) (i : Instr) (xs : List Mark) : Type 0 where
   place : ℕ
   budget : ℕ
-  kind_is : first_spent Plain xs ≡ kind_at Plain place
-  few : place < 5
+  kind_is : first_spent family xs ≡ kind_at family place
+  few : place < kind_count family
   at : slice_get xs place ≡ Some (Spent budget)
-  spent : IsSpentOn d i (kind_at Plain place) budget
+  spent : IsSpentOn d i (kind_at family place) budget
 
 -- one that is neither refuted nor shown is spent
 spent_left : (xs : List Mark) → list_all is_refuted xs ≡ false → list_any is_shown xs ≡ false → list_any is_spent xs ≡ true
@@ -324,8 +382,9 @@ budget_of Refuted e = absurd (cc)
 budget_of (Shown s t) e = absurd (cc)
 budget_of (Spent budget) e = (budget, refl)
 
-opened : (d : Desc) (i : Instr) (xs : List Mark) → AllSayOf d i xs → is_settled xs ≡ false → breaks xs ≡ false → IsOpen d i xs
-opened d i xs h e k =
+opened : (d : Desc) (family : Family) (i : Instr) (xs : List Mark) → AllSayOf d family i xs → is_settled xs ≡ false → breaks xs ≡ false →
+    IsOpen d family i xs
+opened d family i xs h e k =
     let first : IsFirst is_spent xs = first_passing is_spent xs (some_spent xs e k) in
     let budget = budget_of first.mark first.passes in
     let at : slice_get xs first.place ≡ Some (Spent budget.0) = first.at ∙ ap (λ m. Some m) budget.1 in
@@ -333,7 +392,7 @@ opened d i xs h e k =
     record {
       place = first.place;
       budget = budget.0;
-      kind_is = ap (λ o. get_or (kinds_of Plain) (unwrap_or o 0) Privileged) first.position_is;
+      kind_is = ap (λ o. get_or (kinds_of family) (unwrap_or o 0) Privileged) first.position_is;
       few = omega (arith, len, slice_get_within xs first.place first.mark first.at);
       at = at;
       spent = h.each first.place (Spent budget.0) at;
@@ -341,16 +400,16 @@ opened d i xs h e k =
 
 -- ---- the verdict
 
-abbrev plain_report : List Mark → Report
-plain_report ms = record { family = Plain; marks = ms }
+abbrev report_with : Family → List Mark → Report
+report_with family ms = record { family = family; marks = ms }
 
-open_means : (d : Desc) (ms : List Mark) (k : ℕ) (i : Instr) → slice_get d.instrs k ≡ Some i → IsOpen d i (marks_of 5 ms k) →
-    MeansOpen d (plain_report ms) k (first_spent Plain (marks_of 5 ms k))
-open_means d ms k i at h = record {
+open_means : (d : Desc) (family : Family) (ms : List Mark) (k : ℕ) (i : Instr) → slice_get d.instrs k ≡ Some i →
+    IsOpen d family i (marks_of (kind_count family) ms k) → MeansOpen d (report_with family ms) k (first_spent family (marks_of (kind_count family) ms k))
+open_means d family ms k i at h = record {
   instr = i;
   at = at;
   place = h.place;
-  is_kind = slice_get-get_or (kinds_of Plain) h.place Privileged h.few ∙ ap (λ kind. Some kind) (sym h.kind_is);
+  is_kind = slice_get-get_or (kinds_of family) h.place Privileged h.few ∙ ap (λ kind. Some kind) (sym h.kind_is);
   budget = h.budget;
   mark = h.at;
   spent = subst (λ kind. IsSpentOn d i kind h.budget) (sym h.kind_is) h.spent;
@@ -364,61 +423,82 @@ not_true : (b : Bool) → not b ≡ false → b ≡ true
 not_true true e = refl
 not_true false e = absurd (cc)
 
-module _ (d : Desc) (ms : List Mark) (h : AllSay d (plain_report ms)) where
-  instr_at : (k : ℕ) → k < 0 + instr_count Plain ms → (i : Instr) × (slice_get d.instrs k ≡ Some i)
-  instr_at k l = let whole = h.whole in some_at d.instrs k (omega (arith, l, whole))
+all_accepted : (d : Desc) (family : Family) → All (λ i. IsPrivileged d i ⊎ HasNoKind family d i) d.instrs → IsAcceptedBy family d
+all_accepted d Plain h = h
+all_accepted d Hybrid h = h
 
-  within_count : (k : ℕ) → k < length d.instrs → k < 0 + instr_count Plain ms
-  within_count k l = let whole = h.whole in omega (arith, l, whole)
+module _ (d : Desc) (family : Family) (ms : List Mark) (h : AllSay d family (report_with family ms)) where
+  counted : instr_count family ms ≡ length d.instrs
+  counted = instr_count_is family ms (length d.instrs) h.whole
 
-  refused_means : (k : ℕ) → first_breaking Plain ms ≡ Some k → MeansRefused d (plain_report ms) k
+  instr_at : (k : ℕ) → k < 0 + instr_count family ms → (i : Instr) × (slice_get d.instrs k ≡ Some i)
+  instr_at k l = some_at d.instrs k (omega (arith, l, counted))
+
+  within_count : (k : ℕ) → k < length d.instrs → k < 0 + instr_count family ms
+  within_count k l = omega (arith, l, counted)
+
+  refused_means : (k : ℕ) → first_breaking family ms ≡ Some k → MeansRefused d (report_with family ms) k
   refused_means k e =
-      let f = first_found (λ j. breaks (marks_of 5 ms j)) 0 (instr_count Plain ms) k e in
+      let f = first_found (λ j. breaks (marks_of (kind_count family) ms j)) 0 (instr_count family ms) k e in
       let i = instr_at k f.most in
-      let b = broken d i.0 (marks_of 5 ms k) (say_of d (plain_report ms) k i.0 h i.1) f.holds in
+      let b = broken d family i.0 (marks_of (kind_count family) ms k) (say_of d family (report_with family ms) k i.0 h i.1) f.holds in
       record { instr = i.0; at = i.1; not_privileged = b.not_privileged; sensitive = b.sensitive; neither = b.neither }
 
-  unsettled_means : (k : ℕ) → first_breaking Plain ms ≡ None → first_unsettled Plain ms ≡ Some k → MeansOpen d (plain_report ms) k (first_spent Plain (marks_of 5 ms k))
+  unsettled_means : (k : ℕ) → first_breaking family ms ≡ None → first_unsettled family ms ≡ Some k →
+      MeansOpen d (report_with family ms) k (first_spent family (marks_of (kind_count family) ms k))
   unsettled_means k none e =
-      let f = first_found (λ j. not (is_settled (marks_of 5 ms j))) 0 (instr_count Plain ms) k e in
+      let f = first_found (λ j. not (is_settled (marks_of (kind_count family) ms j))) 0 (instr_count family ms) k e in
       let i = instr_at k f.most in
-      let whole = none_found (λ j. breaks (marks_of 5 ms j)) 0 (instr_count Plain ms) none k f.least f.most in
-      open_means d ms k i.0 i.1 (opened d i.0 (marks_of 5 ms k) (say_of d (plain_report ms) k i.0 h i.1) (not_false (is_settled (marks_of 5 ms k)) f.holds) whole)
+      let whole = none_found (λ j. breaks (marks_of (kind_count family) ms j)) 0 (instr_count family ms) none k f.least f.most in
+      open_means d family ms k i.0 i.1
+      (opened d family i.0 (marks_of (kind_count family) ms k) (say_of d family (report_with family ms) k i.0 h i.1)
+      (not_false (is_settled (marks_of (kind_count family) ms k)) f.holds) whole)
 
-  accepted_means : first_unsettled Plain ms ≡ None → IsAccepted d
-  accepted_means none = λ k i l.
+  accepted_means : first_unsettled family ms ≡ None → IsAcceptedBy family d
+  accepted_means none = all_accepted d family (λ k i l.
       let at : slice_get d.instrs k ≡ Some (get_or d.instrs k i) = slice_get-get_or d.instrs k i l in
-      let test = none_found (λ j. not (is_settled (marks_of 5 ms j))) 0 (instr_count Plain ms) none k (omega arith) (within_count k l) in
-      settled d (get_or d.instrs k i) (marks_of 5 ms k) (say_of d (plain_report ms) k (get_or d.instrs k i) h at) (not_true (is_settled (marks_of 5 ms k)) test)
+      let test = none_found (λ j. not (is_settled (marks_of (kind_count family) ms j))) 0 (instr_count family ms) none k (omega arith) (within_count k l) in
+      settled d family (get_or d.instrs k i) (marks_of (kind_count family) ms k) (say_of d family (report_with family ms) k (get_or d.instrs k i) h at)
+      (not_true (is_settled (marks_of (kind_count family) ms k)) test))
 
-  plain_means : Means d (plain_report ms) (verdict_of Plain ms)
+  family_means : Means d (report_with family ms) (verdict_of family ms)
   unfolding verdict_of
-  plain_means = by (first_breaking Plain ms) refl (first_unsettled Plain ms) refl
+  family_means = by (first_breaking family ms) refl (first_unsettled family ms) refl
     where
-      by : (a : Option ℕ) → first_breaking Plain ms ≡ a → (b : Option ℕ) → first_unsettled Plain ms ≡ b →
-          Means d (plain_report ms) (elim a [ Some k ↦ Refused k | None ↦ elim b [ Some k ↦ Unsettled k (first_spent Plain (marks_of 5 ms k)) | None ↦ Accepted ] ])
+      by : (a : Option ℕ) → first_breaking family ms ≡ a → (b : Option ℕ) → first_unsettled family ms ≡ b →
+          Means d (report_with family ms)
+          (elim a [ Some k ↦ Refused k | None ↦ elim b [ Some k ↦ Unsettled k (first_spent family (marks_of (kind_count family) ms k)) | None ↦ Accepted ] ])
       by (Some k) ea b eb = refused_means k ea
       by None ea (Some k) eb = unsettled_means k ea eb
       by None ea None eb = accepted_means eb
 
-means_of : (d : Desc) (report : Report) → AllSay d report → VerdictMeans d report
-means_of d report h =
-    let plain : AllSay d (plain_report report.marks) =
-    subst (λ f. AllSay d (record { family = f; marks = report.marks })) h.plain h in
-    let means : VerdictMeans d (plain_report report.marks) = record { means = plain_means d report.marks plain } in
-    subst (λ f. VerdictMeans d (record { family = f; marks = report.marks })) (sym h.plain) means
+means_of : (d : Desc) (family : Family) (report : Report) → AllSay d family report → VerdictMeans d report
+means_of d family report h =
+    let said : AllSay d family (report_with family report.marks) = record { of_family = refl; whole = h.whole; each = h.each } in
+    let means : VerdictMeans d (report_with family report.marks) = record { means = family_means d family report.marks said } in
+    subst (λ f. VerdictMeans d (record { family = f; marks = report.marks })) (sym h.of_family) means
 
 -- what the verdict of a text that is not refused means
-pub verdict_means : (d : Desc) (bytes : List ℕ) (p : Progress) (report : Report) → IsValid d → verified d Plain bytes ≡ Ok p → IsReportOf p report → VerdictMeans d report
-verdict_means d bytes p report valid taken is = means_of d report (all_say d bytes p report valid taken is)
+pub verdict_means : (d : Desc) (family : Family) (bytes : List ℕ) (p : Progress) (report : Report) → IsValid d → verified d family bytes ≡ Ok p →
+    IsReportOf p report → VerdictMeans d report
+verdict_means d family bytes p report valid taken is = means_of d family report (all_say d family bytes p report valid taken is)
+
+-- the states that its marks keep show what they are kept for
+shown_there : (d : Desc) (family : Family) (report : Report) → AllSay d family report → AreShown d report
+shown_there d family report h =
+    subst (λ f. AreShown d (record { family = f; marks = report.marks })) (sym h.of_family) (λ n s t i e at. h.each n (Shown s t) i e at)
+
+pub marks_shown : (d : Desc) (family : Family) (bytes : List ℕ) (p : Progress) (report : Report) → IsValid d → verified d family bytes ≡ Ok p →
+    IsReportOf p report → AreShown d report
+marks_shown d family bytes p report valid taken is = shown_there d family report (all_say d family bytes p report valid taken is)
 
 -- ---- what can be put
 
-pub marks_whole : (d : Desc) (bytes : List ℕ) (p : Progress) (report : Report) → IsValid d → verified d Plain bytes ≡ Ok p → IsReportOf p report →
+pub marks_whole : (d : Desc) (family : Family) (bytes : List ℕ) (p : Progress) (report : Report) → IsValid d → verified d family bytes ≡ Ok p → IsReportOf p report →
     length report.marks ≡ length d.instrs * kind_count report.family
-marks_whole d bytes p report valid taken is =
-    let h : AllSay d report = all_say d bytes p report valid taken is in
-    h.whole ∙ ap (λ f. length d.instrs * kind_count f) (sym h.plain)
+marks_whole d family bytes p report valid taken is =
+    let h : AllSay d family report = all_say d family bytes p report valid taken is in
+    h.whole ∙ ap (λ f. length d.instrs * kind_count f) (sym h.of_family)
 
 drawn_listed : (f : Finding) (s t : Sparse) → kept (mark_of f) ≡ kept (Shown s t) → AreListed f → IsCellList s.cells × IsCellList t.cells
 drawn_listed (finding.Refuted acts) s t e h = absurd (cc)
@@ -428,12 +508,13 @@ drawn_listed (finding.Shown x y) s t e h =
     (subst IsCellList (ap (λ (z : reader.Drawn). z.cells) first) h.0, subst IsCellList (ap (λ (z : reader.Drawn). z.cells) second) h.1)
 drawn_listed (finding.Spent k steps) s t e h = absurd (cc)
 
-module _ (d : Desc) (bytes : List ℕ) (p : Progress) (report : Report) (valid : IsValid d) (taken : verified d Plain bytes ≡ Ok p) (is : IsReportOf p report) where
+module _ (d : Desc) (family : Family) (bytes : List ℕ) (p : Progress) (report : Report) (valid : IsValid d)
+    (taken : verified d family bytes ≡ Ok p) (is : IsReportOf p report) where
   listed_at : (n : ℕ) (s t : Sparse) → slice_get report.marks n ≡ Some (Shown s t) → IsCellList s.cells × IsCellList t.cells
-  listed_at n s t e = by (slice_get sp.cert.findings n) refl (sym (slice_get-map (λ f. kept (mark_of f)) sp.cert.findings n) ∙ ap (λ ms. slice_get ms n) (sym sp.marks) ∙ mark_kept d bytes p report valid taken is n (Shown s t) e)
+  listed_at n s t e = by (slice_get sp.cert.findings n) refl (sym (slice_get-map (λ f. kept (mark_of f)) sp.cert.findings n) ∙ ap (λ ms. slice_get ms n) (sym sp.marks) ∙ mark_kept d family bytes p report valid taken is n (Shown s t) e)
     where
-      sp : Spells d Plain bytes p
-      sp = spelled d bytes p report valid taken is
+      sp : Spells d family bytes p
+      sp = spelled d family bytes p report valid taken is
 
       by : (o : Option Finding) → slice_get sp.cert.findings n ≡ o → option_map (λ f. kept (mark_of f)) o ≡ Some (kept (Shown s t)) → IsCellList s.cells × IsCellList t.cells
       by None eo e = absurd (cc)
@@ -442,11 +523,11 @@ module _ (d : Desc) (bytes : List ℕ) (p : Progress) (report : Report) (valid :
   mark_fits : (n : ℕ) (m : Mark) → slice_get report.marks n ≡ Some m → DoMarkWordsFit d.word m
   mark_fits n Refuted e = tt
   mark_fits n (Shown s t) e =
-      let h : AllSay d report = all_say d bytes p report valid taken is in
-      let whole = h.whole in
-      let i = some_at d.instrs (n / 5) (omega (arith, whole, slice_get_within report.marks n (Shown s t) e)) in
+      let h : AllSay d family report = all_say d family bytes p report valid taken is in
+      let i = some_at d.instrs (instr_of family n)
+      (instr_within family (length d.instrs) n (subst (λ k. n < k) h.whole (slice_get_within report.marks n (Shown s t) e))) in
       let listed = listed_at n s t e in
-      shown_fit d i.0 (kind_of Plain n) s t listed.0 listed.1 (h.each n (Shown s t) i.0 e i.1)
+      shown_fit d i.0 (kind_of family n) s t listed.0 listed.1 (h.each n (Shown s t) i.0 e i.1)
   mark_fits n (Spent budget) e = tt
 
   pub marks_fit : All (DoMarkWordsFit d.word) report.marks
@@ -463,29 +544,29 @@ finding_says d valid heading k i kind (finding.Refuted acts) at h = λ s t shows
 finding_says d valid heading k i kind (finding.Shown s t) at h = h
 finding_says d valid heading k i kind (finding.Spent n steps) at h = record { some = h.0; steps = steps; spent = h.2 }
 
-module _ (d : Desc) (valid : IsValid d) (heading : Heading) (cert : Cert) (report : Report)
-    (certified : IsValidCert (question d) heading d cert) (plain : cert.family ≡ Plain) (family : report.family ≡ Plain)
+module _ (d : Desc) (valid : IsValid d) (family : Family) (heading : Heading) (cert : Cert) (report : Report)
+    (certified : IsValidCert (question d) heading d cert) (of_family : cert.family ≡ family) (kept_family : report.family ≡ family)
     (marks : report.marks ≡ map mark_of cert.findings) where
   finding_at : (n : ℕ) (m : Mark) (i : Instr) (o : Option Finding) → slice_get cert.findings n ≡ o →
-      option_map mark_of o ≡ Some m → slice_get d.instrs (n / 5) ≡ Some i → Says d i (kind_of Plain n) m
+      option_map mark_of o ≡ Some m → slice_get d.instrs (instr_of family n) ≡ Some i → Says d i (kind_of family n) m
   finding_at n m i None eo e at = absurd (cc)
   finding_at n m i (Some f) eo e at =
-      let at_own : slice_get d.instrs (instr_of cert.family n) ≡ Some i = ap (λ x. slice_get d.instrs (instr_of x n)) plain ∙ at in
-      subst (λ x. Says d i (kind_of x n) m) plain
+      let at_own : slice_get d.instrs (instr_of cert.family n) ≡ Some i = ap (λ x. slice_get d.instrs (instr_of x n)) of_family ∙ at in
+      subst (λ x. Says d i (kind_of x n) m) of_family
       (subst (λ x. Says d i (kind_of cert.family n) x) (same_Some (mark_of f) m e)
       (finding_says d valid heading (instr_of cert.family n) i (kind_of cert.family n) f at_own (certified.each n f i eo at_own)))
 
-  certificate_says : AllSay d report
+  certificate_says : AllSay d family report
   certificate_says = record {
-    plain = family;
-    whole = ap length marks ∙ length-map cert.findings mark_of ∙ certified.whole ∙ ap (λ x. length d.instrs * kind_count x) plain;
+    of_family = kept_family;
+    whole = ap length marks ∙ length-map cert.findings mark_of ∙ certified.whole ∙ ap (λ x. length d.instrs * kind_count x) of_family;
     each = λ n m i e at. finding_at n m i (slice_get cert.findings n) refl
         (sym (slice_get-map mark_of cert.findings n) ∙ ap (λ ms. slice_get ms n) (sym marks) ∙ e) at;
   }
 
   -- what its verdict means
   pub certificate_means : VerdictMeans d report
-  certificate_means = means_of d report certificate_says
+  certificate_means = means_of d family report certificate_says
 
   pub certificate_whole : length report.marks ≡ length d.instrs * kind_count report.family
-  certificate_whole = certificate_says.whole ∙ ap (λ x. length d.instrs * kind_count x) (sym family)
+  certificate_whole = certificate_says.whole ∙ ap (λ x. length d.instrs * kind_count x) (sym kept_family)

@@ -1,5 +1,6 @@
 -- The command that words ask for.
 use Rattle.std.specs.Prelude.{◌≡◌, ℕ, List, Option, None, Some}
+use Rattle.pg_cert.specs.declared.cert.Family.TheVariants.{Plain, Hybrid}
 use Rattle.pg_command.specs.Asked.{request_of}
 use Rattle.pg_command.specs.declared.ask.Request.{Request}
 use Rattle.pg_command.specs.declared.ask.Request.TheVariants as request
@@ -11,6 +12,8 @@ use Rattle.pg_tool.specs.Bare.{bare_command}
 use Rattle.pg_tool.specs.Run.{run_command}
 use Rattle.pg_tool.specs.Print.{print_command}
 use Rattle.pg_tool.specs.Verify.{verify_command}
+use Rattle.pg_tool.specs.Replay.{replay_command}
+use Rattle.pg_tool.specs.Migrate.{migrate_command}
 use Rattle.pg_tool.specs.Check.{check_command}
 
 -- words that are refused come to that and nothing else
@@ -32,10 +35,13 @@ no_command = record {
 -- a line for each command
 abbrev pub command_of : Request → Command
 command_of (request.Bare b) = bare_command b
-command_of (request.Check c) = check_command c
+command_of (request.Check c) = check_command Plain c
 command_of (request.Verify v) = verify_command v
+command_of (request.Replay r) = replay_command r
 command_of (request.Run r) = run_command r
 command_of (request.Print p) = print_command p
+command_of (request.Migrate m) = migrate_command m
+command_of (request.Hcheck c) = check_command Hybrid c
 
 abbrev pub command_or_none : Option Request → Command
 command_or_none None = no_command

@@ -3,6 +3,7 @@ use Rattle.std.specs.Prelude.{◌≡◌, ℕ, List, Option, None, Some, Result, 
 use Rattle.pg_ast.specs.declared.tree.Desc.{Desc}
 use Rattle.pg_edge.specs.Shelf.{Files}
 use Rattle.pg_cert.specs.Texts.{name_of}
+use Rattle.pg_cert.specs.declared.cert.Family.{Family}
 use Rattle.pg_cert.specs.declared.cert.Family.TheVariants.{Plain}
 use Rattle.pg_cert.specs.declared.report.Report.{Report}
 use Rattle.pg_verify.specs.declared.fault.StepCause.{StepCause}
@@ -43,12 +44,12 @@ told_of_verifying d (verify_fault.Extra n) = Some (told_line.Extra n)
 told_of_verifying d (verify_fault.BadDelete n) = Some (told_line.Delete n)
 told_of_verifying d verify_fault.Memory = None
 
--- bytes that are the text of a valid certificate of a description, of whose marks this is the report
-pub record IsCertificate (d : Desc) (text : List ℕ) (report : Report) : Type 0 where
+-- bytes that are the text of a valid certificate of a description and a family, of whose marks this is the report
+pub record IsCertificate (d : Desc) (family : Family) (text : List ℕ) (report : Report) : Type 0 where
   pub progress : Progress
-  pub taken : verified d Plain text ≡ Ok progress
+  pub taken : verified d family text ≡ Ok progress
   pub kept : IsReportOf progress report
-  pub spelled : Spells d Plain text progress
+  pub spelled : Spells d family text progress
 
 -- bytes that are none: their fault is the one that is told
 pub record IsNoCertificate (d : Desc) (text : List ℕ) (shown : CertificateLine) : Type 0 where
@@ -58,7 +59,7 @@ pub record IsNoCertificate (d : Desc) (text : List ℕ) (shown : CertificateLine
 
 -- what bytes within the limit come to as a certificate of a description
 abbrev pub CertTextDue : Desc → List ℕ → Result Report CertificateLine → Type 0
-CertTextDue d text (Ok report) = IsCertificate d text report
+CertTextDue d text (Ok report) = IsCertificate d Plain text report
 CertTextDue d text (Err line) = IsNoCertificate d text line
 
 -- the certificate is loaded, and read as one of this description

@@ -8,6 +8,8 @@ pub mod Images
 pub mod Certificates
 pub mod Parts
 pub mod Meaning
+pub mod Judged
+pub mod Saving
 pub mod Rooms
 pub mod Rule
 pub mod World
@@ -16,7 +18,9 @@ pub mod Bare
 pub mod Run
 pub mod Print
 pub mod Verify
+pub mod Replay
 pub mod Check
+pub mod Migrate
 pub mod Asking
 pub mod Answering
 pub mod CanRuns

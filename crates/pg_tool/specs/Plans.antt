@@ -4,13 +4,14 @@ use Rattle.pg_ast.specs.declared.tree.Desc.{Desc}
 use Rattle.pg_meaning.specs.States.{State}
 use Rattle.pg_meaning.specs.Steps.{bare}
 use Rattle.pg_monitor.specs.declared.guest.Guest.{Guest}
-use Rattle.pg_monitor.specs.Guests.{kept_cells}
+use Rattle.pg_alloc.specs.Fit.{kept_cells}
 use Rattle.pg_word.specs.Psw.{power_on_psw}
 use Rattle.pg_tool.specs.Bare.{BareRun}
 use Rattle.pg_tool.specs.Run.{GuestRun}
 use Rattle.pg_tool.specs.declared.bare.plan.BarePlan.{BarePlan}
-use Rattle.pg_tool.specs.declared.verify.plan.VerifyPlan.{VerifyPlan}
-use Rattle.pg_tool.specs.Verify.{Judged}
+use Rattle.pg_tool.specs.declared.judged.plan.JudgedPlan.{JudgedPlan}
+use Rattle.pg_tool.specs.declared.migrate.plan.MigratePlan.{MigratePlan}
+use Rattle.pg_tool.specs.Judged.{Judged}
 
 abbrev pub bare_run : BarePlan → BareRun
 bare_run p = record { desc = p.machine.desc; image = p.image; grant = p.grant; steps = p.steps }
@@ -34,5 +35,9 @@ abbrev pub first_guest : ℕ → Guest
 first_guest grant = record { base = kept_cells; size = grant; psw = power_on_psw grant }
 
 -- a description with what was kept of its certificate
-abbrev pub judged : VerifyPlan → Judged
+abbrev pub judged : JudgedPlan → Judged
 judged p = record { desc = p.machine.desc; report = p.report }
+
+-- the same, with the text that was made of the certificate
+abbrev pub migrated : MigratePlan → Judged
+migrated p = record { desc = p.machine.desc; report = p.report }

@@ -4,7 +4,7 @@ use Rattle.pg_ast.specs.declared.tree.Desc.{Desc}
 use Rattle.pg_command.specs.declared.running.RunWords.{RunWords}
 use Rattle.pg_edge.specs.Shelf.{Files}
 use Rattle.pg_monitor.specs.declared.guest.Guest.{Guest}
-use Rattle.pg_monitor.specs.Guests.{kept_cells}
+use Rattle.pg_alloc.specs.Fit.{kept_cells}
 use Rattle.pg_monitor.specs.Plans.{turns_of, turns_for, direct_of, cell_behind, psw_behind, changes_of, IsOutside}
 use Rattle.pg_monitor.specs.Turns.{BottomTurns}
 use Rattle.pg_report.specs.Runs.{run_text}

@@ -2,24 +2,28 @@
 //!
 //! A certificate may be large, so it is never held whole: `load_certificate` asks for it part by part, and hands each part over
 //! to a verifier, which keeps of it what its verdict needs. A fault of the text becomes the line that tells of it, each the one
-//! of its name. Where a file goes on without end the verifier refuses it, as too long.
+//! of its name. Where a file goes on without end the verifier refuses it, as too long. `load_migrated` alone loads one whole,
+//! since all of it is made anew.
 
-ghost use Rattle.std.specs.Prelude.{◌≡◌, ◌≤◌, length, IfOk, IfErr, IfSome, IsErrOf, OnOk, Some, Err};
+ghost use Rattle.std.specs.Prelude.{◌≡◌, ◌≤◌, length, map, IfOk, IfErr, IfSome, IsErrOf, OnOk, Some, Err};
 ghost use Rattle.pg_ast.specs.declared.tree.Desc.{Desc};
 ghost use Rattle.pg_cert.specs.Texts.{name_of};
+ghost use Rattle.pg_cert.specs.Verdicts.{mark_of};
 ghost use Rattle.pg_edge.specs.Count.{Rose};
 ghost use Rattle.pg_edge.specs.Shelf.{HoldsPart, LacksFile};
 ghost use Rattle.pg_edge.specs.declared.shelf.LoadFault.TheVariants.{Missing, Long, Failed};
 ghost use Rattle.pg_verify.specs.Feeding.{most_bytes};
 ghost use Rattle.pg_tool.specs.Answering.{Comes, OnlyReads};
 ghost use Rattle.pg_tool.specs.Certificates.{CertDue, cause_number, told_of_verifying};
+ghost use Rattle.pg_tool.specs.Migrate.{MigratesFile};
 ghost use Rattle.pg_tool.specs.Parts.{HoldsUpTo, IsStopOf, most_part};
 
-use crate::load::stop_of;
+use crate::load::{load_file, stop_of};
 use crate::refusal::{Refusal, Stop};
 use pg_cert::Report;
 use pg_command::FileName;
 use pg_edge::{LoadFault, Shelf};
+use pg_migrate::{Migrated, migrate};
 use pg_report::{CertificateLine, RefusalLine};
 use pg_valid::Machine;
 use pg_verify::{CERT_BYTES, StepCause, Verifier, VerifyFault};
@@ -42,6 +46,32 @@ pub(crate) fn load_certificate<F: Shelf>(
     match try_size(name, shelf) {
         Ok(()) => verify_parts(alloc, machine, name, shelf),
         Err(stop) => Err(stop),
+    }
+}
+
+/// The certificate of a machine that a file holds, made anew, with what is kept of it; or why there is none. The file is held
+/// whole.
+pub(crate) fn load_migrated<F: Shelf>(
+    alloc: Global,
+    machine: &Machine,
+    name: &FileName,
+    shelf: &mut F,
+) -> Result<Migrated, Stop>
+    ensures comes { Comes (λ m. m.report) (CertDue machine.now.desc (F.files shelf.old) name.now) (F.reads shelf.old) (F.reads shelf.new) result }
+    ensures from_file { IfOk result (λ m. MigratesFile (F.files shelf.old) name.now machine.now.desc m.cert) }
+    ensures family { IfOk result (λ m. m.report.family ≡ m.cert.family) }
+    ensures marks { IfOk result (λ m. m.report.marks ≡ map mark_of m.cert.findings) }
+    ensures reads { OnlyReads (F.files shelf.old) (F.files shelf.new) (F.saves shelf.old) (F.saves shelf.new) (F.reads shelf.old) (F.reads shelf.new) }
+{
+    let bytes = match load_file(alloc, name, CERT_BYTES as u64, shelf) {
+        Ok(bytes) => bytes,
+        Err(fault) => {
+            return Err(stop_of(fault, RefusalLine::Certificate(CertificateLine::Long)));
+        }
+    };
+    match migrate(alloc, machine, &bytes) {
+        Ok(migrated) => Ok(migrated),
+        Err(fault) => Err(stop_of_text(alloc, machine, fault)),
     }
 }
 

@@ -1,4 +1,6 @@
-//! `check`: each question of a description, with evidence for what is found, and the verdict of it.
+//! `check` and `hcheck`: each question of a description, with evidence for what is found, and the verdict of it.
+//!
+//! They differ in the family of kinds that is asked about alone: those of Theorem 1, or those of Theorem 3.
 //!
 //! The description is loaded, and its certificate is found and its text made whole: memory is refused before any of it is
 //! saved. Then the text is saved, and after that the text of the verdict is put. No more memory is taken for either.
@@ -15,8 +17,8 @@ use crate::load::load_machine;
 use crate::refusal::Stop;
 use crate::status::{Status, status_of};
 use crate::stop::stopped;
-use pg_cert::{report_of, write};
-use pg_classify::classify;
+use pg_cert::{Family, report_of, write};
+use pg_classify::{Watcher, classify_watched};
 use pg_command::CheckWords;
 use pg_edge::{Shelf, Sink};
 use pg_hw::Hardware;
@@ -25,23 +27,26 @@ use pg_valid::Machine;
 use plan::CheckPlan;
 use std::alloc::{AllocError, Global};
 
-/// Carries out `check`. The hardware is lent, and stays as it is.
-pub(crate) fn carry_check<F: Shelf, S: Sink, H: Hardware>(
+/// Carries out `check`, or over the kinds of Theorem 3 `hcheck`. The hardware is lent, and stays as it is. The watcher is told
+/// of each question.
+pub(crate) fn carry_check<F: Shelf, S: Sink, H: Hardware, W: Watcher>(
     alloc: Global,
+    family: Family,
     words: &CheckWords,
     shelf: &mut F,
     out: &mut S,
     hw: &H,
+    watcher: &mut W,
 ) -> Status
-    ensures carries { Carries (check_command words.now)
+    ensures carries { Carries (check_command family words.now)
         (around (F.files shelf.old) (F.reads shelf.old) (F.saves shelf.old) (output (S.written out.old) (S.faults out.old)) (H.machinery hw.now))
         (around (F.files shelf.new) (F.reads shelf.new) (F.saves shelf.new) (output (S.written out.new) (S.faults out.new)) (H.machinery hw.now)) result }
-    ensures files { SavesOnly (check_command words.now).saved (F.files shelf.old) (F.files shelf.new) }
+    ensures files { SavesOnly (check_command family words.now).saved (F.files shelf.old) (F.files shelf.new) }
     ensures reads { F.reads shelf.old ≤ F.reads shelf.new }
     ensures saves { F.saves shelf.old ≤ F.saves shelf.new }
     ensures faults { S.faults out.old ≤ S.faults out.new }
 {
-    let plan = match prepare_check(alloc, words, shelf) {
+    let plan = match prepare_check(alloc, family, words, shelf, watcher) {
         Ok(plan) => plan,
         Err(stop) => return stopped(&stop, out),
     };
@@ -56,20 +61,22 @@ pub(crate) fn carry_check<F: Shelf, S: Sink, H: Hardware>(
 }
 
 /// The certificate that is to be saved, and whose verdict is to be put; or why there is none.
-fn prepare_check<F: Shelf>(
+fn prepare_check<F: Shelf, W: Watcher>(
     alloc: Global,
+    family: Family,
     words: &CheckWords,
     shelf: &mut F,
+    watcher: &mut W,
 ) -> Result<CheckPlan, Stop>
     ensures comes { Comes (λ p. p.machine.desc) (CheckDue words.now (F.files shelf.old)) (F.reads shelf.old) (F.reads shelf.new) result }
-    ensures checked { IfOk result (λ p. IsChecked p.machine.desc words.now.budget p.text.items p.report) }
+    ensures checked { IfOk result (λ p. IsChecked p.machine.desc family words.now.budget p.text.items p.report) }
     ensures reads { OnlyReads (F.files shelf.old) (F.files shelf.new) (F.saves shelf.old) (F.saves shelf.new) (F.reads shelf.old) (F.reads shelf.new) }
 {
     let machine = match load_machine(alloc, &words.desc, shelf) {
         Ok(machine) => machine,
         Err(stop) => return Err(stop),
     };
-    match checked(alloc, machine, words.budget.clauses()) {
+    match checked(alloc, machine, family, words.budget.clauses(), watcher) {
         Ok(plan) => Ok(plan),
         Err(_) => Err(Stop::Memory),
     }
@@ -77,13 +84,19 @@ fn prepare_check<F: Shelf>(
 
 /// A certificate of a machine, found within a budget from 1 to 1,000,000: its text, and what is kept of it. The error is want
 /// of memory.
-fn checked(alloc: Global, machine: Machine, budget: u32) -> Result<CheckPlan, AllocError>
+fn checked<W: Watcher>(
+    alloc: Global,
+    machine: Machine,
+    family: Family,
+    budget: u32,
+    watcher: &mut W,
+) -> Result<CheckPlan, AllocError>
     requires least { 1 ≤ budget }
     requires most { budget ≤ 1000000 }
     ensures machine { IfOk result (λ p. p.machine.desc ≡ machine.desc) }
-    ensures checked { IfOk result (λ p. IsChecked p.machine.desc budget p.text.items p.report) }
+    ensures checked { IfOk result (λ p. IsChecked p.machine.desc family budget p.text.items p.report) }
 {
-    let cert = classify(alloc, &machine, budget)?;
+    let cert = classify_watched(alloc, &machine, family, budget, watcher)?;
     let report = report_of(alloc, &cert)?;
     let text = write(alloc, &machine, &cert)?;
     Ok(CheckPlan {

@@ -12,7 +12,8 @@
 //! - `status`: how a command ends. `refusal`, `stop`: why one goes no further, and how that is told.
 //! - `described`, `imaged`, `load`: bytes and files to machines and images. `certified`: files to certificates. `room`: more
 //!   cells than there are.
-//! - `bare`, `check`, `verify`, `run`, `print`: the commands.
+//! - `judged`: a description and a certificate of it.
+//! - `bare`, `check` (and `hcheck`), `verify`, `replay`, `run`, `print`, `migrate`: the commands.
 //! - `laws`: what is due for told files is one thing.
 #![tactic(auto)]
 
@@ -30,10 +31,13 @@ mod certified;
 mod check;
 mod described;
 mod imaged;
+mod judged;
 pub mod laws;
 mod load;
+mod migrate;
 mod print;
 mod refusal;
+mod replay;
 mod room;
 mod run;
 mod status;
@@ -42,14 +46,19 @@ mod verify;
 
 use crate::bare::carry_bare;
 use crate::check::carry_check;
+use crate::migrate::carry_migrate;
 use crate::print::carry_print;
 use crate::refusal::Stop;
+use crate::replay::carry_replay;
 use crate::run::carry_run;
 use crate::stop::stopped;
 use crate::verify::carry_verify;
+use pg_cert::Family;
+pub use pg_classify::{Silent, Watcher};
 use pg_command::{Fault, Request, request};
 use pg_edge::{Shelf, Sink};
 use pg_hw::Hardware;
+pub use pg_type::Kind;
 pub use refusal::Refusal;
 pub use status::Status;
 use std::alloc::Global;
@@ -86,19 +95,51 @@ pub fn tool<F: Shelf, S: Sink, H: Hardware>(
     ensures faults { S.faults out.old ≤ S.faults out.new }
     ensures served { SameServed (H.serves hw.old) (H.serves hw.new) }
 {
+    tool_watched(alloc, words, shelf, out, hw, &mut Silent)
+}
+
+/// As [`tool`], with a watcher, who is told of each question while a description is classified, and answers nothing.
+pub fn tool_watched<F: Shelf, S: Sink, H: Hardware, W: Watcher>(
+    alloc: Global,
+    words: &[String],
+    shelf: &mut F,
+    out: &mut S,
+    hw: &mut H,
+    watcher: &mut W,
+) -> Status
+    requires serves { (d : Desc) → H.serves hw.old d }
+    requires room { 1048575 ≤ (H.machinery hw.old).room }
+    requires counts { CanCount (H.machinery hw.old).tally }
+    // What is left of files, sink and hardware, by the status.
+    ensures carries { Carries (command_for (map string_bytes words.now)) (around (F.files shelf.old) (F.reads shelf.old) (F.saves shelf.old) (output (S.written out.old) (S.faults out.old)) (H.machinery hw.old))
+        (around (F.files shelf.new) (F.reads shelf.new) (F.saves shelf.new) (output (S.written out.new) (S.faults out.new)) (H.machinery hw.new)) result }
+
+    // Where the files are told: a refusal that is due comes, and where work is due none does, but for faults and memory.
+    ensures exactly { (files : Files) → F.files shelf.old ≡ Some files → Exactly (command_for (map string_bytes words.now))
+        (around (F.files shelf.old) (F.reads shelf.old) (F.saves shelf.old) (output (S.written out.old) (S.faults out.old)) (H.machinery hw.old))
+        (around (F.files shelf.new) (F.reads shelf.new) (F.saves shelf.new) (output (S.written out.new) (S.faults out.new)) (H.machinery hw.new)) result }
+
+    // On every status.
+    ensures files { SavesOnly (command_for (map string_bytes words.now)).saved (F.files shelf.old) (F.files shelf.new) }
+    ensures reads { F.reads shelf.old ≤ F.reads shelf.new }
+    ensures saves { F.saves shelf.old ≤ F.saves shelf.new }
+    ensures faults { S.faults out.old ≤ S.faults out.new }
+    ensures served { SameServed (H.serves hw.old) (H.serves hw.new) }
+{
     match request(alloc, words) {
-        Ok(request) => carry(alloc, &request, shelf, out, hw),
+        Ok(request) => carry(alloc, &request, shelf, out, hw, watcher),
         Err(fault) => stopped(&stop_of_words(fault), out),
     }
 }
 
 /// Carries out what was asked for.
-fn carry<F: Shelf, S: Sink, H: Hardware>(
+fn carry<F: Shelf, S: Sink, H: Hardware, W: Watcher>(
     alloc: Global,
     request: &Request,
     shelf: &mut F,
     out: &mut S,
     hw: &mut H,
+    watcher: &mut W,
 ) -> Status
     requires serves { (d : Desc) → H.serves hw.old d }
     requires room { 1048575 ≤ (H.machinery hw.old).room }
@@ -113,10 +154,21 @@ fn carry<F: Shelf, S: Sink, H: Hardware>(
 {
     match request {
         Request::Bare(words) => carry_bare(alloc, words, shelf, out, hw),
-        Request::Check(words) => carry_check(alloc, words, shelf, out, hw),
+        Request::Check(words) => carry_check(alloc, Family::Plain, words, shelf, out, hw, watcher),
         Request::Verify(words) => carry_verify(alloc, words, shelf, out, hw),
+        Request::Replay(words) => carry_replay(alloc, words, shelf, out, hw),
         Request::Run(words) => carry_run(alloc, words, shelf, out, hw),
         Request::Print(words) => carry_print(alloc, words, shelf, out, hw),
+        Request::Migrate(words) => carry_migrate(alloc, words, shelf, out, hw),
+        Request::Hcheck(words) => carry_check(
+            alloc,
+            Family::Hybrid,
+            words,
+            shelf,
+            out,
+            hw,
+            watcher,
+        ),
     }
 }
 

@@ -80,7 +80,7 @@ pub(crate) fn load_image<F: Shelf>(
 }
 
 /// The bytes of a file, if it has at most `limit`.
-fn load_file<F: Shelf>(
+pub(crate) fn load_file<F: Shelf>(
     alloc: Global,
     name: &FileName,
     limit: u64,

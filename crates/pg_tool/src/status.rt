@@ -1,12 +1,13 @@
 //! How a command ends.
 //!
 //! `tool` answers a status, and the program ends with its number. What each leaves of the sink, the files and the hardware
-//! is `Carries` in `specs/Commands.antt`, by the class of the status: nothing was put on `ReadFault`, `Memory` and `Missing`, a
-//! front of the text on `WriteFault`, and the whole text that is due on each other.
+//! is `Carries` in `specs/Commands.antt`, by the class of the status: nothing was put on `ReadFault` and `Missing`, nothing or,
+//! under `replay`, a front of its text on `Memory`, a front of the text on `WriteFault`, and the whole text that is due on each
+//! other.
 
 ghost use Rattle.std.specs.Prelude.{◌≡◌};
 ghost use Rattle.pg_tool.specs.Codes.{code_of};
-ghost use Rattle.pg_tool.specs.Verify.{verdict_status};
+ghost use Rattle.pg_tool.specs.Judged.{verdict_status};
 
 use pg_cert::Verdict;
 
@@ -32,9 +33,9 @@ pub enum Status {
     Room,
     /// A file could not be read.
     ReadFault,
-    /// The text could not be written.
+    /// The text, or the certificate that is to be saved, could not be written.
     WriteFault,
-    /// Memory was refused. No step was done.
+    /// Memory was refused. The hardware did no step.
     Memory,
     /// A file that the words name is not there.
     Missing,

@@ -3,17 +3,18 @@ use Rattle.pg_cert.specs.Verdicts.{verdict_of}
 use Rattle.pg_report.specs.Verdicts.{verdict_text}
 use Rattle.pg_tool.specs.Check.{CheckEnds, check_command}
 use Rattle.pg_tool.specs.Commands.{Carries}
-use Rattle.pg_tool.specs.Verify.{verdict_status}
+use Rattle.pg_tool.specs.Judged.{verdict_status}
 use Rattle.pg_tool.specs.World.{around, output}
 use Rattle.pg_tool.proofs.CarryLemmas.{carries-ended, carries-broken}
-use Rattle.pg_tool.proofs.CheckLemmas.{checked_fit, check_ends, saved_there, others_there}
-use Rattle.pg_tool.proofs.VerifyLemmas.{verdict-ended}
+use Rattle.pg_tool.proofs.CheckLemmas.{check_ends}
+use Rattle.pg_tool.proofs.JudgedLemmas.{verdict-ended}
+use Rattle.pg_tool.proofs.SavingLemmas.{written_fit, saved_there, others_there}
 use Rattle.pg_tool.proofs.check.carry_check.Goals as goal
 
 pub put_verdict-requires-clause-fit : goal.put_verdict-requires-clause-fit
 put_verdict-requires-clause-fit g c =
     let p = c.in-Ok.plan in
-    checked_fit p.machine.desc c.args.words.now.budget p.text.items p.report p.machine.valid c.in-Ok.ensures.checked
+    written_fit p.machine.desc c.args.family p.text.items p.report p.machine.valid c.in-Ok.ensures.checked.written
 
 pub returns-in-Ok-put_verdict-clause-carries : goal.returns-in-Ok-put_verdict-clause-carries
 returns-in-Ok-put_verdict-clause-carries g c =
@@ -27,12 +28,12 @@ returns-in-Ok-put_verdict-clause-carries g c =
     (output (g.S.Sink.written c.put_verdict.new.out) (g.S.Sink.faults c.put_verdict.new.out)) (g.H.Hardware.machinery c.args.hw.now) in
     let same = c.prepare_check.ensures.reads.same_files in
     let answer = c.in-Ok-save.ensures.answer in
-    let ends : CheckEnds w d old new (verdict_status (verdict_of p.report.family p.report.marks)) (verdict_text d p.report.family p.report.marks) =
-    check_ends w d old new p.text.items p.report p.machine.valid c.in-Ok.ensures.checked
+    let ends : CheckEnds c.args.family w d old new (verdict_status (verdict_of p.report.family p.report.marks)) (verdict_text d p.report.family p.report.marks) =
+    check_ends c.args.family w d old new p.text.items p.report p.machine.valid c.in-Ok.ensures.checked
     (others_there told _ (g.F.Shelf.files c.save.new.self) w.cert _ same c.as_str.ensures answer.others) refl
     (saved_there told _ (g.F.Shelf.files c.save.new.self) w.cert _ p.text.items _ same c.as_str.ensures c.as_slice.ensures.value answer.whole) in
-    subst (λ s. Carries (check_command w) old new s) (sym (c.status_of.ensures ∙ ap verdict_status c.verdict.ensures))
-    (carries-ended (check_command w) old new d (verdict_status (verdict_of p.report.family p.report.marks))
+    subst (λ s. Carries (check_command c.args.family w) old new s) (sym (c.status_of.ensures ∙ ap verdict_status c.verdict.ensures))
+    (carries-ended (check_command c.args.family w) old new d (verdict_status (verdict_of p.report.family p.report.marks))
     (verdict_text d p.report.family p.report.marks) (verdict-ended (verdict_of p.report.family p.report.marks))
     c.in-Ok.ensures.comes ends c.in-Ok-put_verdict.ensures.whole)
 
@@ -48,9 +49,9 @@ returns-clause-carries g c =
     (output (g.S.Sink.written c.put_verdict.new.out) (g.S.Sink.faults c.put_verdict.new.out)) (g.H.Hardware.machinery c.args.hw.now) in
     let same = c.prepare_check.ensures.reads.same_files in
     let answer = c.in-Ok-save.ensures.answer in
-    carries-broken (check_command w) old new d (verdict_status (verdict_of p.report.family p.report.marks))
+    carries-broken (check_command c.args.family w) old new d (verdict_status (verdict_of p.report.family p.report.marks))
     (verdict_text d p.report.family p.report.marks) c.in-Ok.ensures.comes
-    (check_ends w d old new p.text.items p.report p.machine.valid c.in-Ok.ensures.checked
+    (check_ends c.args.family w d old new p.text.items p.report p.machine.valid c.in-Ok.ensures.checked
     (others_there told _ (g.F.Shelf.files c.save.new.self) w.cert _ same c.as_str.ensures answer.others) refl
     (saved_there told _ (g.F.Shelf.files c.save.new.self) w.cert _ p.text.items _ same c.as_str.ensures c.as_slice.ensures.value answer.whole))
     (record { cause = c.in-Err-put_verdict.ensures.cause; front = c.in-Err-put_verdict.ensures.front })

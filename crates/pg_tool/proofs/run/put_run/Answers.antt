@@ -1,7 +1,7 @@
 use Rattle.std.proofs.Common.{◌++◌, ◌<◌, ◌^◌, refl, sym, ap, subst, All}
 use Rattle.std.proofs.lemmas.Result.{err_from_is_err_and}
 use Rattle.pg_image.specs.Lines.{state_text}
-use Rattle.pg_monitor.specs.Guests.{kept_cells}
+use Rattle.pg_alloc.specs.Fit.{kept_cells}
 use Rattle.pg_report.specs.Runs.{guest_line, steps_line, run_text}
 use Rattle.pg_report.specs.Spans.{span}
 use Rattle.pg_tool.specs.Plans.{guest_run, lone_state}

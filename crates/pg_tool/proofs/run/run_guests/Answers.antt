@@ -1,7 +1,7 @@
 use Rattle.std.proofs.Common.{◌≡◌, ℕ, length, refl, ◌∙◌, ap, subst, arith}
 use Rattle.pg_hw.specs.Machinery.{Machinery, poked_at}
 use Rattle.pg_hw.specs.Serving.{blank}
-use Rattle.pg_monitor.specs.Guests.{kept_cells}
+use Rattle.pg_alloc.specs.Fit.{kept_cells}
 use Rattle.pg_monitor.specs.Loading.{with_words}
 use Rattle.pg_monitor.specs.Standing.{Stands}
 use Rattle.pg_type.proofs.PlainSound.{accepted-without_breach}

@@ -1,7 +1,7 @@
 use Rattle.std.proofs.Common.{◌≡◌, ◌∷◌, [], length, sym, ◌∙◌, ap, subst, arith}
 use Rattle.pg_hw.specs.Machinery.{Machinery, poked_at}
 use Rattle.pg_meaning.specs.States.{IsState}
-use Rattle.pg_monitor.specs.Guests.{kept_cells}
+use Rattle.pg_alloc.specs.Fit.{kept_cells}
 use Rattle.pg_monitor.specs.Loading.{with_words}
 use Rattle.pg_monitor.specs.Monitors.{desc_of}
 use Rattle.pg_monitor.specs.Standing.{Stands}

@@ -5,7 +5,7 @@ use Rattle.pg_tool.specs.Answering.{Stops}
 use Rattle.pg_tool.specs.World.{around, output}
 use Rattle.pg_tool.proofs.CarryLemmas.{carries-asked, saves-asked, carries-words, exactly-of}
 use Rattle.pg_tool.proofs.OnlyOne.{due_is_one}
-use Rattle.pg_tool.proofs.tool.Goals as goal
+use Rattle.pg_tool.proofs.tool_watched.Goals as goal
 
 pub returns-in-Ok-clause-carries : goal.returns-in-Ok-clause-carries
 returns-in-Ok-clause-carries g c =

@@ -1,11 +1,11 @@
-//! A certificate that was read, before any of its verdict is put.
+//! A certificate that was read, before anything of it is put.
 
 use pg_cert::Report;
 use pg_valid::Machine;
 
 /// A machine, and what is kept of a certificate of it.
 #[derive(Drop)]
-pub(crate) struct VerifyPlan {
+pub(crate) struct JudgedPlan {
     /// The machine, of which nothing is run.
     pub(crate) machine: Machine,
     /// The marks of its certificate.

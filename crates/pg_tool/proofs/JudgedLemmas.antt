@@ -1,0 +1,87 @@
+-- A description and a certificate of it: what their steps come to, and what is known of them.
+use Rattle.std.proofs.Common.{◌≡◌, ◌*◌, ℕ, ◌≤◌, List, length, All, Option, Err, refl, sym, subst, arith}
+use Rattle.pg_ast.specs.declared.tree.Desc.{Desc}
+use Rattle.pg_valid.specs.Valid.{IsValid}
+use Rattle.pg_cert.specs.declared.cert.Family.{Family}
+use Rattle.pg_cert.specs.declared.cert.Family.TheVariants.{Plain}
+use Rattle.pg_cert.specs.declared.report.Report.{Report}
+use Rattle.pg_cert.specs.declared.report.Verdict.{Verdict}
+use Rattle.pg_cert.specs.declared.report.Verdict.TheVariants as verdict
+use Rattle.pg_cert.specs.Verdicts.{kind_count}
+use Rattle.pg_edge.specs.Shelf.{Files}
+use Rattle.pg_report.specs.Verdicts.{DoMarkWordsFit}
+use Rattle.pg_tool.specs.declared.refusal.Refusal.{Refusal}
+use Rattle.pg_tool.specs.declared.refusal.Stop.{Stop}
+use Rattle.pg_tool.specs.Answering.{Comes}
+use Rattle.pg_tool.specs.Certificates.{IsCertificate, CertDue}
+use Rattle.pg_tool.specs.Classes.{Ended, class_of}
+use Rattle.pg_tool.specs.Descriptions.{DescDue}
+use Rattle.pg_tool.specs.Judged.{Judged, JudgedDue, verdict_status}
+use Rattle.pg_tool.specs.Meaning.{AreShown, VerdictMeans}
+use Rattle.pg_tool.specs.Steps.{Step, Came, Then, Gives}
+use Rattle.pg_tool.proofs.StepLemmas.{comes-stopped, comes-behind}
+use Rattle.pg_tool.proofs.VerdictMeanings.{verdict_means, marks_whole, marks_fit, marks_shown}
+
+-- ---- its steps
+
+abbrev pub behind_cert : Desc → Report → Step Refusal Judged
+behind_cert d report = Gives (record { desc = d; report = report })
+
+abbrev pub behind_desc : Option Files → List ℕ → Desc → Step Refusal Judged
+behind_desc told cert d = Then (CertDue d told cert) (behind_cert d)
+
+-- the description stops it
+pub judged-stopped : {T U : Type 0} (view : T → Desc) (shows : U → Judged) (told : Option Files) (desc cert : List ℕ) (before after : ℕ) (why : Stop) →
+    Comes view (DescDue told desc) before after (Err why) → before ≤ after → Comes shows (JudgedDue desc cert told) before after (Err why)
+unfolding JudgedDue
+judged-stopped view shows told desc cert before after why h later = comes-stopped view shows (DescDue told desc) (behind_desc told cert) before after after why h (omega arith)
+
+-- the certificate stops it
+pub judged-refused : {T U : Type 0} (view : T → Report) (shows : U → Judged) (told : Option Files) (desc cert : List ℕ) (d : Desc) (before mid after : ℕ) (why : Stop) → DescDue told desc (Came d) →
+    before ≤ mid → Comes view (CertDue d told cert) mid after (Err why) → Comes shows (JudgedDue desc cert told) before after (Err why)
+unfolding JudgedDue
+judged-refused view shows told desc cert d before mid after why came earlier h =
+    comes-behind shows (DescDue told desc) (behind_desc told cert) d before mid after (Err why) came earlier
+    (comes-stopped view shows (CertDue d told cert) (behind_cert d) mid after after why h (omega arith))
+
+pub judged-came : (told : Option Files) (desc cert : List ℕ) (d : Desc) (report : Report) → DescDue told desc (Came d) → CertDue d told cert (Came report) →
+    JudgedDue desc cert told (Came (record { desc = d; report = report }))
+unfolding JudgedDue
+judged-came told desc cert d report came h = (d, came, (report, h, refl))
+
+-- ---- what is known of its work
+
+-- a certificate that was read: its marks can be put, its states show what they are shown for, and its verdict means what it says
+pub record IsRead (j : Judged) : Type 0 where
+  pub whole : length j.report.marks ≡ length j.desc.instrs * kind_count j.report.family
+  pub fit : All (DoMarkWordsFit j.desc.word) j.report.marks
+  pub shown : AreShown j.desc j.report
+  pub means : VerdictMeans j.desc j.report
+
+pub is-read : (d : Desc) (family : Family) (bytes : List ℕ) (report : Report) → IsValid d → IsCertificate d family bytes report →
+    IsRead (record { desc = d; report = report })
+is-read d family bytes report valid h = record {
+  whole = marks_whole d family bytes h.progress report valid h.taken h.kept;
+  fit = marks_fit d family bytes h.progress report valid h.taken h.kept;
+  shown = marks_shown d family bytes h.progress report valid h.taken h.kept;
+  means = verdict_means d family bytes h.progress report valid h.taken h.kept;
+}
+
+pub certificate-read : (d : Desc) (told : Option Files) (name : List ℕ) (report : Report) → IsValid d → CertDue d told name (Came report) →
+    IsRead (record { desc = d; report = report })
+unfolding CertDue
+certificate-read d told name report valid h = is-read d Plain h.0 report valid h.2
+
+desc-valid : (told : Option Files) (name : List ℕ) (d : Desc) → DescDue told name (Came d) → IsValid d
+unfolding DescDue
+desc-valid told name d h = h.2.1
+
+pub judged-read : (told : Option Files) (desc cert : List ℕ) (j : Judged) → JudgedDue desc cert told (Came j) → IsRead j
+unfolding JudgedDue
+judged-read told desc cert j h = subst IsRead (sym h.2.2) (certificate-read h.0 told cert h.2.0 (desc-valid told desc h.0 h.1) h.2.1)
+
+-- a verdict ends a command
+pub verdict-ended : (v : Verdict) → class_of (verdict_status v) ≡ Ended
+verdict-ended verdict.Accepted = refl
+verdict-ended (verdict.Refused instr) = refl
+verdict-ended (verdict.Unsettled instr kind) = refl

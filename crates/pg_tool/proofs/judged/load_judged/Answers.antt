@@ -1,0 +1,34 @@
+use Rattle.std.proofs.Common.{Err, subst}
+use Rattle.pg_valid.specs.declared.machine.Machine.{Machine}
+use Rattle.pg_cert.specs.declared.report.Report.{Report}
+use Rattle.pg_tool.specs.Answering.{Comes}
+use Rattle.pg_tool.specs.Certificates.{CertDue}
+use Rattle.pg_tool.specs.Plans.{judged}
+use Rattle.pg_tool.specs.Steps.{Came}
+use Rattle.pg_tool.proofs.JudgedLemmas.{judged-stopped, judged-refused, judged-came, certificate-read}
+use Rattle.pg_tool.proofs.judged.load_judged.Goals as goal
+
+pub returns-in-Err-clause-comes : goal.returns-in-Err-clause-comes
+returns-in-Err-clause-comes g c =
+    judged-stopped (λ (m : Machine). m.desc) judged (g.F.Shelf.files c.args.shelf.now) c.args.desc.now c.args.cert.now _ _ c.in-Err.stop c.in-Err.ensures.comes c.load_machine.ensures.reads.later
+
+pub returns-in-Err-load_certificate-clause-comes : goal.returns-in-Err-load_certificate-clause-comes
+returns-in-Err-load_certificate-clause-comes g c =
+    let d = c.in-Ok.machine.desc in
+    judged-refused (λ (r : Report). r) judged (g.F.Shelf.files c.args.shelf.now) c.args.desc.now c.args.cert.now d _ _ _ c.in-Err-load_certificate.stop c.in-Ok.ensures.comes c.load_machine.ensures.reads.later
+    (subst (λ files. Comes (λ (r : Report). r) (CertDue d files c.args.cert.now) (g.F.Shelf.reads c.load_machine.new.shelf) (g.F.Shelf.reads c.load_certificate.new.shelf)
+    (Err c.in-Err-load_certificate.stop)) c.load_machine.ensures.reads.same_files c.in-Err-load_certificate.ensures.comes)
+
+pub returns-in-Ok-load_certificate-clause-comes : goal.returns-in-Ok-load_certificate-clause-comes
+returns-in-Ok-load_certificate-clause-comes g c =
+    let d = c.in-Ok.machine.desc in
+    judged-came (g.F.Shelf.files c.args.shelf.now) c.args.desc.now c.args.cert.now d c.in-Ok-load_certificate.report c.in-Ok.ensures.comes
+    (subst (λ files. CertDue d files c.args.cert.now (Came c.in-Ok-load_certificate.report)) c.load_machine.ensures.reads.same_files c.in-Ok-load_certificate.ensures.comes)
+
+pub returns-in-Ok-load_certificate-clause-whole : goal.returns-in-Ok-load_certificate-clause-whole
+returns-in-Ok-load_certificate-clause-whole g c =
+    (certificate-read c.in-Ok.machine.desc (g.F.Shelf.files c.load_machine.new.shelf) c.args.cert.now c.in-Ok-load_certificate.report c.in-Ok.machine.valid c.in-Ok-load_certificate.ensures.comes).whole
+
+pub returns-in-Ok-load_certificate-clause-fit : goal.returns-in-Ok-load_certificate-clause-fit
+returns-in-Ok-load_certificate-clause-fit g c =
+    (certificate-read c.in-Ok.machine.desc (g.F.Shelf.files c.load_machine.new.shelf) c.args.cert.now c.in-Ok-load_certificate.report c.in-Ok.machine.valid c.in-Ok-load_certificate.ensures.comes).fit

@@ -1,0 +1,33 @@
+-- A certificate of a description, and its verdict: what is kept of the two, and the steps that load them.
+use Rattle.std.specs.Prelude.{ℕ, List, Option}
+use Rattle.pg_ast.specs.declared.tree.Desc.{Desc}
+use Rattle.pg_cert.specs.declared.report.Report.{Report}
+use Rattle.pg_cert.specs.declared.report.Verdict.{Verdict}
+use Rattle.pg_cert.specs.declared.report.Verdict.TheVariants as verdict
+use Rattle.pg_cert.specs.Verdicts.{verdict_of}
+use Rattle.pg_edge.specs.Shelf.{Files}
+use Rattle.pg_tool.specs.declared.status.Status.{Status}
+use Rattle.pg_tool.specs.declared.status.Status.TheVariants as status
+use Rattle.pg_tool.specs.declared.refusal.Refusal.{Refusal}
+use Rattle.pg_tool.specs.Certificates.{CertDue}
+use Rattle.pg_tool.specs.Descriptions.{DescDue}
+use Rattle.pg_tool.specs.Steps.{Step, Then, Gives}
+
+-- a description, and what is kept of a certificate of it
+pub record Judged : Type 0 where
+  pub desc : Desc
+  pub report : Report
+
+-- the verdict
+abbrev pub verdict_on : Judged → Verdict
+verdict_on j = verdict_of j.report.family j.report.marks
+
+-- the description of this file, and then the certificate of that
+unfoldable pub JudgedDue : (desc cert : List ℕ) → Option Files → Step Refusal Judged
+JudgedDue desc cert told = Then (DescDue told desc) (λ d. Then (CertDue d told cert) (λ report. Gives (record { desc = d; report = report })))
+
+-- the status of a verdict
+abbrev pub verdict_status : Verdict → Status
+verdict_status verdict.Accepted = status.Done
+verdict_status (verdict.Refused instr) = status.Refused
+verdict_status (verdict.Unsettled instr kind) = status.Unsettled

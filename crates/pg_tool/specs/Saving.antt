@@ -1,0 +1,51 @@
+-- A certificate that is saved, and the verdict of it.
+use Rattle.std.specs.Prelude.{◌≡◌, ◌≤◌, ℕ, List, Option, Some, length, map}
+use Rattle.pg_ast.specs.declared.tree.Desc.{Desc}
+use Rattle.pg_cert.specs.declared.cert.Cert.{Cert}
+use Rattle.pg_cert.specs.declared.cert.Family.{Family}
+use Rattle.pg_cert.specs.declared.report.Report.{Report}
+use Rattle.pg_cert.specs.Texts.{heading_of, cert_text}
+use Rattle.pg_cert.specs.Verdicts.{mark_of, verdict_of}
+use Rattle.pg_edge.specs.Shelf.{Files, HasOldOrFront, SameBut}
+use Rattle.pg_edge.specs.Told.{BothTold}
+use Rattle.pg_report.specs.Verdicts.{verdict_text}
+use Rattle.pg_verify.specs.Feeding.{most_bytes}
+use Rattle.pg_verify.specs.Verified.{IsValidOf}
+use Rattle.pg_tool.specs.declared.status.Status.{Status}
+use Rattle.pg_tool.specs.Certificates.{IsCertificate}
+use Rattle.pg_tool.specs.Judged.{verdict_status}
+use Rattle.pg_tool.specs.Meaning.{VerdictMeans}
+use Rattle.pg_tool.specs.World.{World}
+
+-- a valid certificate of a description and a family: its text under the heading that is written today, and what is kept of it
+pub record IsWritten (d : Desc) (family : Family) (bytes : List ℕ) (report : Report) : Type 0 where
+  pub cert : Cert
+  pub of_family : cert.family ≡ family
+  pub valid : IsValidOf (heading_of family) d cert
+  pub text : bytes ≡ cert_text d (heading_of family) cert
+  pub kept_family : report.family ≡ family
+  pub marks : report.marks ≡ map mark_of cert.findings
+
+-- the files hold these bytes under a name, and all others are as they were
+abbrev pub HoldsNow : List ℕ → List ℕ → Files → Files → Type 0
+HoldsNow name bytes was now = (now name ≡ Some bytes) × SameBut name was now
+
+-- they hold what they held under it, or a front of these bytes
+abbrev pub HoldsAtMost : List ℕ → List ℕ → Files → Files → Type 0
+HoldsAtMost name bytes was now = HasOldOrFront name bytes was now × SameBut name was now
+
+-- the text of a certificate is saved whole; the status and the text that is put are those of its verdict, which means what it
+-- says, and nothing else is touched. Where its text is within the limit, a verifier of the family takes it, and keeps the same
+-- of it
+pub record EndsSaved (name : List ℕ) (d : Desc) (family : Family) (bytes : List ℕ) (report : Report) (old new : World) (given : Status) (text : List ℕ) : Type 0 where
+  pub status : given ≡ verdict_status (verdict_of report.family report.marks)
+  pub wording : text ≡ verdict_text d report.family report.marks
+  pub meaning : VerdictMeans d report
+  pub again : length bytes ≤ most_bytes → IsCertificate d family bytes report
+  pub saved : BothTold old.files new.files (HoldsNow name bytes)
+  pub hw : new.hw ≡ old.hw
+
+-- where the save failed: the file has what it had, or a front of the text
+pub record LeavesUnsaved (name bytes : List ℕ) (old new : World) : Type 0 where
+  pub left : BothTold old.files new.files (HoldsAtMost name bytes)
+  pub hw : new.hw ≡ old.hw
