@@ -33,7 +33,7 @@ const HEAD: &str = "machine { word 32; address 8; size 64; } ";
 /// How many clauses the solver learns at most for one question.
 pub const BUDGET: u32 = 20_000;
 
-const KINDS: [Kind; 8] = [
+pub const KINDS: [Kind; 8] = [
     Kind::Privileged,
     Kind::Control,
     Kind::ModeDep,

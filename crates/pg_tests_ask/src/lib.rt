@@ -5,12 +5,15 @@
 //! that the definition of the kinds means what it should, and that the solver finds both answers.
 //!
 //! - `asked`: a description, asked all kinds.
+//! - `kept`: the clauses of questions, which stay as they are.
 //! - `known`: known pairs, added to the clauses.
 //! - `rows`: instructions, with the kinds that two states show.
 #![tactic(auto)]
 
 #[cfg(test)]
 mod asked;
+#[cfg(test)]
+mod kept;
 #[cfg(test)]
 mod known;
 #[cfg(test)]

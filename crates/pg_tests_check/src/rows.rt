@@ -1,6 +1,6 @@
 //! Descriptions, with what is found of each.
 
-use crate::setting::{HEAD, check, files, verify};
+use crate::setting::{HEAD, check, files, hcheck, is_taken_as_hybrid, run, verify};
 use pg_tool::Status;
 use std::alloc::Global;
 use std::process::Abort;
@@ -22,55 +22,46 @@ lr privileged yes control yes mode no location no bound no
 const HALF: &str =
     "instr half \"00000111_.......k_xxxxxxxx_yyyyyyyy\" { if (mode & k) { trap; } mem[x] = mem[y]; }\n";
 
-/// A description behind the head, and what is found of it: the whole text where it is accepted, and else its first lines.
-type Row<'a> = (&'a str, &'a str, Status);
+/// It enters user mode, in either mode.
+const RTU: &str = "instr rtu \"00000101_................_aaaaaaaa\" { mode = 1:1; pc = a; }\n";
 
-/// What is written begins as the row says, and `verify` of what was saved writes the same.
-fn expect(rt: &impl Abort, alloc: Global, rows: &[Row<'_>]) -> Result<(), Fail> {
-    for row in rows {
-        let desc = format!(in alloc; "{HEAD}{}", row.0)?;
-        let mut shelf = files(alloc, desc.as_str(), Vec::new(alloc))?;
-        let checked = check(alloc, &mut shelf, "20000")?;
-        assert!(rt;
-            checked.text.as_str().starts_with(row.1),
-            "{} {}",
-            row.0,
-            checked.text
-        );
-        assert!(rt; checked.status == row.2, "{}", row.0);
-        let again = verify(alloc, &mut shelf)?;
-        assert!(rt;
-            again.text.as_str() == checked.text.as_str(),
-            "again {}",
-            row.0
-        );
-        assert!(rt; again.status == checked.status, "again {}", row.0);
+/// A description behind the head, or the body of an instruction, and what is found of it: the whole text where it is accepted,
+/// and else its first lines.
+pub type Row<'a> = (&'a str, &'a str, Status);
+
+/// What is written begins as the row says; `verify` of what was saved, and `migrate` of it, write the same; and the states that
+/// it shows are replayed.
+fn expect_of(rt: &impl Abort, alloc: Global, desc: &str, row: &Row<'_>) -> Result<(), Fail> {
+    let mut shelf = files(alloc, desc, Vec::new(alloc))?;
+    let checked = check(alloc, &mut shelf, "20000")?;
+    let text = checked.text.as_str();
+    assert!(rt; text.starts_with(row.1), "{} {}", row.0, text);
+    assert!(rt; checked.status == row.2, "{}", row.0);
+    let commands: [&[&str]; 3] = [
+        &["pgv", "verify", "d", "c"],
+        &["pgv", "migrate", "d", "c", "n"],
+        &["pgv", "verify", "d", "n"],
+    ];
+    for words in commands {
+        let again = run(alloc, words, &mut shelf, Vec::new(alloc))?;
+        assert!(rt; again.text.as_str() == text, "{words:?} {}", row.0);
+        assert!(rt; again.status == checked.status, "{words:?} {}", row.0);
     }
+    let replayed = run(
+        alloc,
+        &["pgv", "replay", "d", "c"],
+        &mut shelf,
+        Vec::new(alloc),
+    )?;
+    assert!(rt; replayed.status == Status::Done, "{}", row.0);
     Ok(())
 }
 
-/// The same of bodies, each of an instruction `i` with a field `a` of 8 bits.
-fn expect_bodies(rt: &impl Abort, alloc: Global, rows: &[Row<'_>]) -> Result<(), Fail> {
+/// The same of instructions behind the head.
+pub fn expect(rt: &impl Abort, alloc: Global, rows: &[Row<'_>]) -> Result<(), Fail> {
     for row in rows {
-        let instr = format!(in alloc;
-            "{HEAD}instr i \"00000110_................_aaaaaaaa\" {{ {} }}\n",
-            row.0
-        )?;
-        let mut shelf = files(alloc, instr.as_str(), Vec::new(alloc))?;
-        let checked = check(alloc, &mut shelf, "20000")?;
-        assert!(rt;
-            checked.text.as_str().starts_with(row.1),
-            "{} {}",
-            row.0,
-            checked.text
-        );
-        assert!(rt; checked.status == row.2, "{}", row.0);
-        let again = verify(alloc, &mut shelf)?;
-        assert!(rt;
-            again.text.as_str() == checked.text.as_str(),
-            "again {}",
-            row.0
-        );
+        let desc = format!(in alloc; "{HEAD}{}", row.0)?;
+        expect_of(rt, alloc, desc.as_str(), row)?;
     }
     Ok(())
 }
@@ -88,7 +79,7 @@ fn machines_are_found_to_be_what_they_are(rt: HostRuntime) -> Result<(), Fail> {
         (M0, accepted.as_str(), Status::Done),
         (with_half.as_str(), half_found.as_str(), Status::Done),
         (
-            "instr rtu \"00000101_................_aaaaaaaa\" { mode = 1:1; pc = a; }\n",
+            RTU,
             "rtu privileged no control yes mode no location no bound no\nrefused rtu\nprivileged\nsize ",
             Status::Refused,
         ),
@@ -98,6 +89,7 @@ fn machines_are_found_to_be_what_they_are(rt: HostRuntime) -> Result<(), Fail> {
 
 #[test]
 fn bodies_are_found_to_be_what_they_are(rt: HostRuntime) -> Result<(), Fail> {
+    let alloc = rt.alloc();
     let rows = [
         (
             "mem[a] = ext(mode, 32);",
@@ -130,5 +122,105 @@ fn bodies_are_found_to_be_what_they_are(rt: HostRuntime) -> Result<(), Fail> {
             Status::Refused,
         ),
     ];
-    expect_bodies(&rt, rt.alloc(), &rows)
+    for row in &rows {
+        let desc = format!(in alloc;
+            "{HEAD}instr i \"00000110_................_aaaaaaaa\" {{ {} }}\n",
+            row.0
+        )?;
+        expect_of(&rt, alloc, desc.as_str(), row)?;
+    }
+    Ok(())
+}
+
+/// What is found of the kinds of Theorem 3: a verifier of theirs takes what was saved, and one of the kinds of Theorem 1 does
+/// not.
+#[test]
+fn at_user_states_other_kinds_count(rt: HostRuntime) -> Result<(), Fail> {
+    let alloc = rt.alloc();
+    let rows = [
+        ("", "accepted\n", Status::Done),
+        (
+            RTU,
+            "rtu privileged no ucontrol no ulocation no ubound no\naccepted\n",
+            Status::Done,
+        ),
+        (
+            "instr sm \"00000110_................_aaaaaaaa\" { mem[a] = ext(rel, 32); }\n",
+            "sm privileged no ucontrol no ulocation yes ubound no\nrefused sm\nprivileged\nsize ",
+            Status::Refused,
+        ),
+        (
+            "instr sb \"00000110_................_aaaaaaaa\" { mem[a] = ext(bound, 32); }\n",
+            "sb privileged no ucontrol no ulocation no ubound yes\nrefused sb\nprivileged\nsize ",
+            Status::Refused,
+        ),
+        (
+            "instr sr \"00000110_................_aaaaaaaa\" { rel = a; }\n",
+            "sr privileged no ucontrol yes ulocation no ubound no\nrefused sr\nprivileged\nsize ",
+            Status::Refused,
+        ),
+    ];
+    for row in &rows {
+        let desc = format!(in alloc; "{HEAD}{}", row.0)?;
+        let mut shelf = files(alloc, desc.as_str(), Vec::new(alloc))?;
+        let checked = hcheck(alloc, &mut shelf)?;
+        let text = checked.text.as_str();
+        assert!(rt; text.starts_with(row.1), "{} {}", row.0, text);
+        assert!(rt; checked.status == row.2, "{}", row.0);
+        assert!(rt;
+            is_taken_as_hybrid(alloc, desc.as_str(), &shelf)?,
+            "{}",
+            row.0
+        );
+        let plain = verify(alloc, &mut shelf)?;
+        assert_eq!(rt; plain.text.as_str(), "certificate: grammar 1\n");
+        assert!(rt; plain.status == Status::Certificate);
+    }
+    Ok(())
+}
+
+/// How the steps from shown states end.
+#[test]
+fn steps_from_shown_states_are_told(rt: HostRuntime) -> Result<(), Fail> {
+    let alloc = rt.alloc();
+    let rows = [
+        (
+            "instr svc \"00000011_........................\" { trap; }\n",
+            "svc privileged\nsize ",
+            "\nstep trap\n",
+        ),
+        (
+            "instr i \"00000110_................_aaaaaaaa\" { if mode { pc = a; } else { let t = mem[255:8]; } }\n",
+            "i privileged\nsize ",
+            "\nstep memtrap\n",
+        ),
+        (RTU, "rtu privileged\nsize ", "\nstep done\n"),
+    ];
+    for row in &rows {
+        let desc = format!(in alloc; "{HEAD}{}", row.0)?;
+        let mut shelf = files(alloc, desc.as_str(), Vec::new(alloc))?;
+        check(alloc, &mut shelf, "20000")?;
+        let words = ["pgv", "replay", "d", "c"];
+        let ran = run(alloc, &words, &mut shelf, Vec::new(alloc))?;
+        let text = ran.text.as_str();
+        assert!(rt; text.starts_with(row.1) && text.contains(row.2), "{text}");
+    }
+    Ok(())
+}
+
+/// Where a trap stores its cause the questions are the same, so that the certificate is.
+#[test]
+fn causes_leave_the_certificate_as_it_is(rt: HostRuntime) -> Result<(), Fail> {
+    let alloc = rt.alloc();
+    let plain = format!(in alloc; "{HEAD}{M0}")?;
+    let mut shelf = files(alloc, plain.as_str(), Vec::new(alloc))?;
+    check(alloc, &mut shelf, "20000")?;
+    let with_causes = format!(in alloc;
+        "machine {{ word 32; address 8; size 64; causes on; }}\n{M0}"
+    )?;
+    let mut other = files(alloc, with_causes.as_str(), Vec::new(alloc))?;
+    let checked = check(alloc, &mut other, "20000")?;
+    assert!(rt; checked.status == Status::Done);
+    assert!(rt; shelf.file("c") == other.file("c"));
+    Ok(())
 }

@@ -51,6 +51,10 @@ fn a_budget_that_is_spent_leaves_a_question_open(rt: HostRuntime) -> Result<(), 
     let again = verify(alloc, &mut shelf)?;
     assert!(rt; again.text.as_str() == ran.text.as_str());
     assert!(rt; again.status == Status::Unsettled);
+    let words = ["pgv", "migrate", "d", "c", "n"];
+    let anew = run(alloc, &words, &mut shelf, Vec::new(alloc))?;
+    assert!(rt; anew.text.as_str() == ran.text.as_str());
+    assert!(rt; anew.status == Status::Unsettled);
     Ok(())
 }
 

@@ -1,8 +1,11 @@
-//! What `check` and `verify` are run on.
+//! What the commands over certificates are run on.
 
 use pg_edge::{MemShelf, MemSink};
+use pg_read::read_desc;
 use pg_rig::Rig;
 use pg_tool::{Status, tool};
+use pg_valid::check as valid;
+use pg_verify::Verifier;
 use std::alloc::{AllocError, Global};
 use std::test::Fail;
 
@@ -19,11 +22,23 @@ pub struct Ran {
     pub text: String,
 }
 
-/// The files `d`, which holds a description, and `c`, which is empty; with the calls that fail, and how much each does before.
+/// The files `d`, which holds a description, and `c` and `n`, which are empty; with the calls that fail, and how much each does
+/// before.
 pub fn files(alloc: Global, desc: &str, failing: Vec<(u64, usize)>) -> Result<MemShelf, Fail> {
+    files_with(alloc, desc, "", failing)
+}
+
+/// The same, where `c` holds this text.
+pub fn files_with(
+    alloc: Global,
+    desc: &str,
+    cert: &str,
+    failing: Vec<(u64, usize)>,
+) -> Result<MemShelf, Fail> {
     let mut files = Vec::new(alloc);
     files.push((text(alloc, "d")?, desc.as_bytes().to_vec(alloc)?))?;
-    files.push((text(alloc, "c")?, Vec::new(alloc)))?;
+    files.push((text(alloc, "c")?, cert.as_bytes().to_vec(alloc)?))?;
+    files.push((text(alloc, "n")?, Vec::new(alloc)))?;
     Ok(MemShelf::new(alloc, files, ROOM, failing)?)
 }
 
@@ -54,6 +69,31 @@ pub fn run(
 pub fn check(alloc: Global, shelf: &mut MemShelf, budget: &str) -> Result<Ran, Fail> {
     let words = ["pgv", "check", "d", "--cert", "c", "--budget", budget];
     run(alloc, &words, shelf, Vec::new(alloc))
+}
+
+/// The same over the kinds of Theorem 3.
+pub fn hcheck(alloc: Global, shelf: &mut MemShelf) -> Result<Ran, Fail> {
+    run(
+        alloc,
+        &["pgv", "hcheck", "d", "--cert", "c"],
+        shelf,
+        Vec::new(alloc),
+    )
+}
+
+/// Whether what was saved is a certificate of this description over the kinds of Theorem 3.
+pub fn is_taken_as_hybrid(alloc: Global, desc: &str, shelf: &MemShelf) -> Result<bool, Fail> {
+    let Ok(desc) = read_desc(alloc, desc.as_bytes()) else {
+        return Err("it is a description".into());
+    };
+    let Ok(machine) = valid(alloc, desc) else {
+        return Err("it is valid".into());
+    };
+    let Some(bytes) = shelf.file("c") else {
+        return Ok(false);
+    };
+    let mut verifier = Verifier::hybrid(alloc, &machine);
+    Ok(verifier.feed(bytes).is_ok() && verifier.finish().is_ok())
 }
 
 /// Verifies the certificate that was saved.

@@ -56,7 +56,8 @@ fn words_that_are_not_taken_show_the_usage(rt: HostRuntime) -> Result<(), Fail> 
         ran.text.as_str(),
         "pgv bare DESC IMAGE --grant G --steps N\n\
           pgv check DESC --cert FILE [--budget K]\npgv verify DESC CERT\n\
-          pgv run DESC IMAGE --grant G --steps N\npgv print DESC\n"
+          pgv replay DESC CERT\npgv run DESC IMAGE --grant G --steps N\npgv print DESC\n\
+          pgv migrate DESC CERT FILE\npgv hcheck DESC --cert FILE [--budget K]\n"
     );
     assert!(rt; is_fresh(&ran.hw));
     Ok(())

@@ -83,6 +83,47 @@ fn what_is_open_is_told(rt: HostRuntime) -> Result<(), Fail> {
     Ok(())
 }
 
+/// What one step makes of the states of the certificate above: it is done, and leaves user mode and P at 0.
+const REPLAYED: &str = "rtu control
+size 4
+psw s 2 0 4
+0: 00000000 00000000 05000000 00000000
+step done
+size 4
+psw u 0 0 4
+0: 00000000 00000000 05000000 00000000
+size 4
+psw s 2 0 4
+0: 00000000 00000000 05000000 00000000
+step done
+size 4
+psw u 0 0 4
+0: 00000000 00000000 05000000 00000000
+";
+
+#[test]
+fn shown_states_are_replayed(rt: HostRuntime) -> Result<(), Fail> {
+    let alloc = rt.alloc();
+    let cases = [
+        (NONE, "pgcert 1\nend\n", "", Status::Done),
+        (RTU, OPEN, REPLAYED, Status::Done),
+        (
+            RTU,
+            SHOWN,
+            "certificate: missing rtu control\n",
+            Status::Certificate,
+        ),
+    ];
+    for (desc, cert, text, status) in cases {
+        let words = ["pgv", "replay", "d", "i"];
+        let ran = run(alloc, &words, desc, cert, Vec::new(alloc), Vec::new(alloc))?;
+        assert_eq!(rt; ran.text.as_str(), text);
+        assert!(rt; ran.status == status);
+        assert!(rt; is_fresh(&ran.hw));
+    }
+    Ok(())
+}
+
 #[test]
 fn a_fault_has_its_line(rt: HostRuntime) -> Result<(), Fail> {
     let unclosed = "pgcert 1\nfinding rtu privileged refuted\nend\n";
