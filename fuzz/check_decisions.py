@@ -17,16 +17,18 @@ sys.dont_write_bytecode = True  # before the modules of this folder are read, so
 from inputs.case import DESCRIPTION_FILE
 from inputs.checks import any_bodies, hard, pieced
 from inputs.pairs import PairFinder
-from judging import Ended, Judge
+from judging import OTHER_FAMILY, Ended, Judge
 from pgvmodel.command import Search
 from pgvmodel.deciding import Answer, Solver
+from pgvmodel.families import HYBRID, PURE, Family
 from pgvmodel.machine import Machine
-from pgvmodel.pairs import BOUND, CONTROL, KINDS, LOCATION, MODE, PRIVILEGED, shows
+from pgvmodel.pairs import ALL_KINDS, BOUND, CONTROL, LOCATION, MODE, PRIVILEGED, USER_SENSITIVE, shows
 from pgvmodel.questions import Questions
 from pgvmodel.reader import read
 from pgvmodel.validity import check
 
 SHOWN, GOOD, WRONG = "shown", 0, 1
+UCONTROL, ULOCATION, UBOUND = USER_SENSITIVE
 
 WIDE = "machine { word 32; address 8; size 64; }", "00000001{}{}c......."
 NARROW = "machine { word 16; address 4; size 8; }", "1{}{}c......"
@@ -154,12 +156,76 @@ ROWS = (
     Row(NARROW, "pc = ((rel * bound) * ext(mode, 4)); mode = c;", {PRIVILEGED, CONTROL, MODE, LOCATION, BOUND}),
 )
 
+HYBRID_ROWS = (
+    # The examples of the documents: a mode that is told is no matter, a place and a bound are.
+    Row(WIDE, "mode = 1:1; pc = x;", {PRIVILEGED}),
+    Row(WIDE, "mem[x] = ext(mode, 32);", {PRIVILEGED}),
+    Row(WIDE, "mem[x] = ext(rel, 32);", {PRIVILEGED, ULOCATION}),
+    Row(WIDE, "mem[x] = ext(bound, 32);", {PRIVILEGED, UBOUND}),
+    Row(WIDE, "if mode { trap; } rel = x; bound = y;", set()),
+    Row(WIDE, "if mode { trap; } mem[x] = ext(rel, 32);", set()),
+    Row(WIDE, "if mode { pc = x; } else { let t = mem[255:8]; }", {PRIVILEGED}),
+    Row(WIDE, "trap;", {PRIVILEGED}),
+    Row(NARROW, "", {PRIVILEGED}),
+    Row(NARROW, "let t = mem[15:4];", set()),
+    # Changes: from user mode, not into it.
+    Row(NARROW, "mode = 0:1;", {PRIVILEGED, UCONTROL}),
+    Row(NARROW, "mode = ~mode;", {PRIVILEGED, UCONTROL}),
+    Row(NARROW, "mode = (mode & c);", {PRIVILEGED, UCONTROL}),
+    Row(NARROW, "mode = (mode | c);", {PRIVILEGED}),
+    Row(NARROW, "if mode { mode = 1:1; }", {PRIVILEGED}),
+    Row(NARROW, "if mode { mode = 0:1; trap; }", set()),
+    Row(NARROW, "if ~mode { rel = y; bound = x; }", {PRIVILEGED}),
+    Row(NARROW, "if mode { rel = y; }", {PRIVILEGED, UCONTROL}),
+    Row(NARROW, "if mode { if (rel == x) { rel = x; } }", {PRIVILEGED}),
+    Row(NARROW, "bound = (bound << 1:1);", {PRIVILEGED, UCONTROL}),
+    Row(NARROW, "bound = (bound + ext(~mode, 4));", {PRIVILEGED}),
+    # What is told in one mode alone.
+    Row(NARROW, "if ~mode { pc = (rel ^ bound); }", {PRIVILEGED}),
+    Row(NARROW, "if mode { pc = rel; }", {PRIVILEGED, ULOCATION}),
+    Row(NARROW, "if mode { pc = (rel ^ bound); } else { mode = 1:1; }", {PRIVILEGED, ULOCATION, UBOUND}),
+    Row(NARROW, "if mode { trap; } else { pc = bound; }", set()),
+    Row(NARROW, "if ~mode { trap; } pc = bound;", {PRIVILEGED, UBOUND}),
+    Row(NARROW, "if mode { let t = mem[15:4]; } else { mode = 1:1; pc = rel; }", set()),
+    # In user mode 1 - 1 is a mask of none, and in supervisor mode one of all.
+    Row(NARROW, "pc = (rel & (ext(mode, 4) - 1:4));", {PRIVILEGED}),
+    Row(NARROW, "pc = (bound & sext(mode, 4)); rel = (rel ^ sext(~mode, 4));", {PRIVILEGED, UBOUND}),
+    Row(NARROW, "mem[y] = (mem[y] + ext((rel & ext(mode, 4)), 16));", {PRIVILEGED, ULOCATION}),
+    # A user state that traps and one that is done tell of the register; two that trap do not, whatever the causes.
+    Row(NARROW, "if (bound < y) { if mode { trap; } }", {PRIVILEGED, UBOUND}),
+    Row(NARROW, "if (bound < y) { if ~mode { trap; } }", {PRIVILEGED}),
+    Row(NARROW, "if (rel < y) { if mode { trap; } } else { if mode { let t = mem[15:4]; } }", set()),
+    Row(NARROW, "let t = mem[rel];", {PRIVILEGED, ULOCATION}),
+    Row(NARROW, "if ~mode { let t = mem[rel]; }", {PRIVILEGED}),
+    Row(NARROW, "let t = mem[bound];", set()),
+    Row(CAUSES, "if (mode & (bound < y)) { trap; }", {PRIVILEGED, UBOUND}),
+    Row(CAUSES, "if (mode & (rel < y)) { let t = mem[15:4]; }", {PRIVILEGED, ULOCATION}),
+    # Places and bounds at their edges: P is used, so the place is below the size.
+    Row(NARROW, "if (mode & (rel == 8:4)) { pc = x; }", {PRIVILEGED}),
+    Row(NARROW, "if (mode & (rel == 7:4)) { pc = x; }", {PRIVILEGED, ULOCATION}),
+    Row(NARROW, "if (mode & (bound == 0:4)) { pc = x; }", {PRIVILEGED}),
+    Row(NARROW, "if (mode & (bound == 15:4)) { pc = x; }", {PRIVILEGED, UBOUND}),
+    Row(NARROW, "let t = mem[7:4]; if mode { pc = (rel ^ bound); }", {PRIVILEGED, UBOUND}),
+    Row(FULL, "let t = mem[14:4]; if mode { pc = bound; }", {PRIVILEGED}),
+    Row(FULL, "let t = mem[13:4]; if mode { pc = bound; }", {PRIVILEGED, UBOUND}),
+    Row(ODD, "let t = mem[29:5]; pc = ((bound + rel) & sext(mode, 5));", {PRIVILEGED, ULOCATION, UBOUND}),
+)
+
 STORE = "mem[x] = ext(mode, 32);"
 LINE = "i privileged no control no mode yes location no bound no"
 STATE = ("size 4", "psw {} 2 0 4", "0: 00000000 00000000 01000000 00000000")
 LOG = b"finding i privileged refuted\ns 0 1 0\n"
 SAVED = b"pgcert 2\n" + LOG
 """As much of a certificate as the model reads where it has no clauses."""
+PLACE = "mem[x] = ext(rel, 32);"
+HYBRID_LINE = "i privileged no ucontrol no ulocation {} ubound no"
+HYBRID_SAVED = b"pghybrid 1\n" + LOG
+HYBRID_TOLD = (
+    *(HYBRID_LINE.format("yes"), "refused i", "privileged", *STATE, *STATE, "ulocation"),
+    *("size 4", "psw u 0 0 2", "0: 01010000 00000000 00000000 00000000"),
+    *("size 4", "psw u 0 1 2", "0: 00000000 01010000 00000000 00000000"),
+)
+"""The one instruction stores its place at address 1 of a window of two cells: cell 1 becomes 0, or cell 2 becomes 1."""
 TOLD = (LINE, "refused i", "privileged", *STATE, *STATE, "mode", *STATE, *STATE)
 
 
@@ -173,26 +239,53 @@ def described(row: Row) -> bytes:
 def wrong_rows(solver: Solver) -> list[str]:
     """What the rows ask and the model does not say."""
     wrong = []
-    for row in ROWS:
+    for family, row in [*((PURE, row) for row in ROWS), *((HYBRID, row) for row in HYBRID_ROWS)]:
         description = read(described(row))
         check(description)
         judge = Judge(solver, Questions())
-        found = {kind: judge.decided(description, 0, kind).answer for kind in KINDS}
+        found = {kind: judge.decided(description, 0, kind).answer for kind in family.kinds}
         told = {kind for kind, answer in found.items() if answer is Answer.SHOWN}
         if told != row.shown or Answer.UNDECIDED in found.values():
             wrong.append(f"{row.body}: {sorted(told)}, and not {sorted(row.shown)}")
     return wrong
 
 
-def complaints(solver: Solver | None, lines: tuple[str, ...], status: int, saved: bytes | None = SAVED) -> list[str]:
-    """What a judge has to say of a verdict of the body STORE; `verify` is taken to say the same, and is not modelled."""
-    text = described(Row(WIDE, STORE, set()))
+class _Again:
+    """A program whose `verify` ends so."""
+
+    def __init__(self, ended: Ended) -> None:
+        self.ended = ended
+
+    def verified(self, *_texts: bytes) -> Ended:
+        return self.ended
+
+
+class Run(NamedTuple):
+    """The body of the one instruction, the family that is asked, what is saved, and how `verify` of that ends.
+
+    Where that is None it is taken to say the same. Certificates are not modelled.
+    """
+
+    body: str = STORE
+    family: Family = PURE
+    saved: bytes | None = SAVED
+    verified: Ended | None = None
+
+
+HYBRID_RUN = Run(STORE, HYBRID, HYBRID_SAVED, OTHER_FAMILY)
+PLACE_RUN = HYBRID_RUN._replace(body=PLACE)
+
+
+def complaints(solver: Solver | None, lines: tuple[str, ...], status: int, run: Run = Run()) -> list[str]:
+    """What a judge has to say of a verdict."""
+    text = described(Row(WIDE, run.body, set()))
     modes = iter("su" * 2)
     output = "".join(line.format(next(modes)) if "{}" in line else line for line in (f"{line}\n" for line in lines)).encode()
     ended = Ended(status, output)
-    before, search = {"d": text}, Search(text, read(text), "c", 7)
-    after = before if saved is None else {**before, "c": saved}
-    return list(Judge(solver, Questions()).complaints(search, ended, before, after, lambda *_: ended))
+    before, search = {"d": text}, Search(text, read(text), run.family, "c", 7)
+    after = before if run.saved is None else {**before, "c": run.saved}
+    again = _Again(run.verified or ended)
+    return list(Judge(solver, Questions()).complaints(search, ended, before, after, again))
 
 
 def wrong_verdicts(solver: Solver) -> list[str]:
@@ -214,10 +307,37 @@ def wrong_verdicts(solver: Solver) -> list[str]:
         "not the first kind": len(complaints(solver, (*TOLD[:9], "control", *TOLD[10:]), 1)) == 2,
         "spelling": len(complaints(solver, (f"{LINE} ", *TOLD[1:]), 1)) == 1,
         "half a state": len(complaints(solver, TOLD[:-2], 1)) == 1,
-        "nothing saved": complaints(solver, TOLD, 1, None) == ["nothing is saved"],
-        "version": len(complaints(solver, TOLD, 1, b"pgcert 1\n" + LOG)) == 1,
-        "budget": len(complaints(solver, TOLD, 1, SAVED + b"finding i bound spent 8\n")) == 1,
+        "nothing saved": complaints(solver, TOLD, 1, Run(saved=None)) == ["nothing is saved"],
+        "version": len(complaints(solver, TOLD, 1, Run(saved=b"pgcert 1\n" + LOG))) == 1,
+        "budget": len(complaints(solver, TOLD, 1, Run(saved=SAVED + b"finding i bound spent 8\n"))) == 1,
         "refused": len(complaints(solver, (), 6)) == 1,
+    }
+    return [name for name, is_so in checks.items() if not is_so]
+
+
+def wrong_hybrid_verdicts(solver: Solver) -> list[str]:
+    """The same of `hcheck`: of a body that stores the mode, and of one that stores the place."""
+    quiet, unsure = HYBRID_LINE.format("no"), HYBRID_LINE.format("open")
+    in_supervisor_mode = tuple(line.replace("psw u", "psw s") for line in HYBRID_TOLD)
+    as_pure = tuple(line.replace("ulocation", "location") if line == "ulocation" else line for line in HYBRID_TOLD)
+    pure_quiet = LINE.replace("mode yes", "mode no")
+    checks = {
+        "hybrid, accepted": complaints(solver, (quiet, "accepted"), 0, HYBRID_RUN) == [],
+        "hybrid, status": len(complaints(solver, (quiet, "accepted"), 1, HYBRID_RUN)) == 1,
+        "hybrid, refused": complaints(solver, HYBRID_TOLD, 1, PLACE_RUN) == [],
+        "hybrid, quiet": len(complaints(solver, (quiet, "accepted"), 0, PLACE_RUN)) == 1,
+        "hybrid, quiet, by trying": len(complaints(None, (quiet, "accepted"), 0, PLACE_RUN)) == 1,
+        "hybrid, unsure": complaints(solver, (unsure, "open i ulocation"), 2, PLACE_RUN) == [],
+        "hybrid, another question": len(complaints(solver, (unsure, "open i location"), 2, PLACE_RUN)) == 1,
+        "hybrid, no such kind": complaints(solver, HYBRID_TOLD, 1, HYBRID_RUN)
+        == ["the states behind ulocation do not show it", "i ulocation yes, and nothing can show it"],
+        "hybrid, supervisor states": complaints(solver, in_supervisor_mode, 1, PLACE_RUN)
+        == ["the states behind ulocation do not show it"],
+        "hybrid, another family's kind": len(complaints(solver, as_pure, 1, PLACE_RUN)) == 1,
+        "hybrid, another family's line": len(complaints(solver, (pure_quiet, "accepted"), 0, HYBRID_RUN)) == 1,
+        "hybrid, first line": len(complaints(solver, HYBRID_TOLD, 1, PLACE_RUN._replace(saved=SAVED))) == 2,
+        "hybrid, verified": len(complaints(solver, HYBRID_TOLD, 1, PLACE_RUN._replace(verified=None))) == 1,
+        "hybrid, nothing saved": complaints(solver, HYBRID_TOLD, 1, PLACE_RUN._replace(saved=None)) == ["nothing is saved"],
     }
     return [name for name, is_so in checks.items() if not is_so]
 
@@ -230,7 +350,7 @@ def wrong_tries(solver: Solver, count: int) -> list[str]:
         rng = Random(f"tries {i}")
         description = read(rng.choice([any_bodies, any_bodies, pieced, hard])(rng).files[DESCRIPTION_FILE])
         machine = Machine(description)
-        number, kind = rng.randrange(len(description.instructions)), rng.choice(KINDS)
+        number, kind = rng.randrange(len(description.instructions)), rng.choice(ALL_KINDS)
         finder = PairFinder(rng, description)
         pair = rng.random() < 0.5 and finder.found(number, kind) or finder.pair(number, kind)
         is_shown = shows(machine, number, kind, *pair)
@@ -249,9 +369,9 @@ def main() -> int:
         print("check_decisions: no program z3", file=sys.stderr)
         return 2
     solver = Solver(Path(program))
-    wrong = [*wrong_rows(solver), *wrong_verdicts(solver)]
+    wrong = [*wrong_rows(solver), *wrong_verdicts(solver), *wrong_hybrid_verdicts(solver)]
     tried = wrong_tries(solver, count)
-    print("\n".join([*wrong, f"{len(ROWS)} rows, {len(wrong)} wrong", *tried]))
+    print("\n".join([*wrong, f"{len(ROWS) + len(HYBRID_ROWS)} rows, {len(wrong)} wrong", *tried]))
     return WRONG if wrong or len(tried) > 1 else GOOD
 
 

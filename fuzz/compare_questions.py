@@ -21,7 +21,7 @@ from inputs.case import DESCRIPTION_FILE
 from inputs.checks import any_bodies, as_for_certificates, hard, pieced
 from judging import Judge
 from pgvmodel.deciding import SECONDS, Answer, Solver
-from pgvmodel.pairs import KINDS
+from pgvmodel.pairs import ALL_KINDS
 from pgvmodel.questions import Questions
 from pgvmodel.reader import read
 
@@ -49,7 +49,7 @@ def differences(dimacs: Path, solver: Path, text: bytes, counts: Counter[str]) -
         file.write(text)
         file.flush()
         for number, instruction in enumerate(description.instructions):
-            for kind in KINDS:
+            for kind in ALL_KINDS:
                 words = [dimacs, file.name, instruction.name, kind]
                 clauses = subprocess.run(words, capture_output=True, check=True).stdout
                 by_clauses, by_model = solved(solver, clauses), judge.decided(description, number, kind).answer

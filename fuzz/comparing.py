@@ -11,14 +11,21 @@ from dataclasses import dataclass, field
 from pathlib import Path
 from typing import NamedTuple
 
-from inputs.case import CERTIFICATE_FILE, DESCRIPTION_FILE, Case
+from inputs.case import CERTIFICATE_FILE, DESCRIPTION_FILE, SAVED_FILE, Case
 from judging import Ended, Judge, counted
-from pgvmodel.command import CERTIFICATE, DESCRIPTION, IMAGE, Search, answer
+from judging_migrations import MigrationJudge
+from pgvmodel.command import CERTIFICATE, DESCRIPTION, IMAGE, SAVING, Answer, Migration, Search, answer, on_full_output
 from pgvmodel.deciding import Solver
 from pgvmodel.questions import NotModelled, Questions
 
+FULL = "/dev/full"
+"""A file that takes nothing."""
+
 SECONDS = 120
 """A run of the program that takes longer is stopped, and differs."""
+
+Answered = Answer | Search | Migration
+"""What the model says of a case: an answer, or what one has to be that is not told to the last byte."""
 
 REFUSED_FILES = (DESCRIPTION, IMAGE, CERTIFICATE)
 """Statuses of which the class of the fault is told beside."""
@@ -46,6 +53,14 @@ class Outcome(NamedTuple):
         """The status, and of a refused file the class of its fault."""
         words = self.output.partition(b": ")[2].split()
         return f"{self.status} {words[0].decode()}" if self.status in REFUSED_FILES and words else str(self.status)
+
+
+def beside(model: Answer, program: Outcome) -> Outcome:
+    """The outcome of an answer. Its line on standard error is the program's, where that has the form that is due."""
+    if model.error is None:
+        return Outcome(model.status, model.output, b"")
+    errors = program.errors if model.error.fits(program.errors) else model.error.spelled()
+    return Outcome(model.status, model.output, errors)
 
 
 def _failed() -> Outcome:
@@ -87,6 +102,7 @@ class Comparison:
         self.program = program
         self.questions = questions
         self.judge = Judge(solver, questions)
+        self.migrations = MigrationJudge(questions)
         self.folder = folder
         self.files = folder / "files"
         self.again = folder / "again"
@@ -95,18 +111,17 @@ class Comparison:
     def round(self, name: str, cases: Iterable[Case]) -> Tally:
         """Runs all cases of a round, but those that are not modelled."""
         tally = Tally()
-        self.judge.counts = tally.judged
+        self.judge.counts = self.migrations.counts = tally.judged
         for case in cases:
             self.place(case.files)
             model = self.by_model(case)
             if model is None:
                 tally.not_modelled += 1
                 continue
-            may_save = case.words[:1] == ("check",)
-            before = self.found() if may_save else {}
-            program = self.by_program(case.words, self.files)
-            if may_save:
-                model = self.judged(model, program, before)
+            may_save = case.words[:1] and case.words[0] in SAVING
+            before = self.found() if may_save else None
+            program = self.by_program(case.words, self.files, case.is_full)
+            model = self.compared(model, program, before)
             tally.runs += 1
             tally.seen[model.label()] += 1
             if model != program:
@@ -152,56 +167,77 @@ class Comparison:
             return False
         return bool(name)
 
-    def by_model(self, case: Case) -> Outcome | Search | None:
-        """None where the model has no answer."""
+    def by_model(self, case: Case) -> Answered | Outcome | None:
+        """None where the model has no answer; an outcome where it failed."""
         try:
             answered = answer(case.words, self.load, self.questions, self.can_save)
+            return on_full_output(answered) if case.is_full else answered
         except NotModelled:
             return None
         except Exception:  # a fault of the model is a difference too, and its input is wanted
             return _failed()
-        return answered if isinstance(answered, Search) else Outcome(*answered, b"")
 
-    def judged(self, model: Outcome | Search, program: Outcome, before: Mapping[str, bytes | None]) -> Outcome:
-        """What the model has to say of a run that may have saved: the same outcome, where nothing is wrong with it."""
-        after = self.found()
-        self.placed = None
-        if not isinstance(model, Search):
-            return model if before == after or model.errors else model._replace(errors=b"files were changed")
+    def compared(self, model: Answered | Outcome, program: Outcome, before: Mapping[str, bytes | None] | None) -> Outcome:
+        """What the model has to say of a run: the same outcome, where nothing is wrong with it.
+
+        A run that may have saved has the files `before` it; else nothing can have changed.
+        """
+        after = None
+        if before is not None:
+            after, self.placed = self.found(), None
+        if isinstance(model, Outcome):
+            return model
+        if isinstance(model, Answer):
+            outcome = beside(model, program)
+            return outcome if before == after else outcome._replace(errors=b"files were changed")
+        judge = self.judge if isinstance(model, Search) else self.migrations
         ended = Ended(program.status, program.output)
         try:
-            complaints = list(self.judge.complaints(model, ended, before, after, self.verified))
+            complaints = list(judge.complaints(model, ended, before, after, self))
         except Exception:
             return _failed()
         return Outcome(None, b"", "\n".join(complaints).encode()) if complaints else program._replace(errors=b"")
 
     def verified(self, description: bytes, certificate: bytes) -> Ended:
         """How the program's `verify` ends, on these texts in a folder of their own."""
+        return self.run_again(("verify", DESCRIPTION_FILE, CERTIFICATE_FILE), description, certificate)
+
+    def migrated(self, description: bytes, certificate: bytes) -> tuple[Ended, bytes | None]:
+        """How the program's `migrate` ends on them, and what it saves."""
+        saved = self.again / SAVED_FILE
+        saved.unlink(missing_ok=True)
+        ended = self.run_again(("migrate", DESCRIPTION_FILE, CERTIFICATE_FILE, SAVED_FILE), description, certificate)
+        return ended, saved.read_bytes() if saved.is_file() else None
+
+    def run_again(self, words: Sequence[str], description: bytes, certificate: bytes) -> Ended:
+        """Runs the program on these texts; what is on standard error is counted as output."""
         self.again.mkdir(exist_ok=True)
         (self.again / DESCRIPTION_FILE).write_bytes(description)
         (self.again / CERTIFICATE_FILE).write_bytes(certificate)
-        program = self.by_program(("verify", DESCRIPTION_FILE, CERTIFICATE_FILE), self.again)
+        program = self.by_program(words, self.again)
         return Ended(program.status, program.output + program.errors)
 
-    def by_program(self, words: Sequence[str], folder: Path) -> Outcome:
-        try:
-            ended = subprocess.run(
-                [self.program, *words],
-                cwd=folder,
-                stdin=subprocess.DEVNULL,
-                capture_output=True,
-                timeout=SECONDS,
-                check=False,
-            )
-        except subprocess.TimeoutExpired:
-            return Outcome(None, b"", b"")
-        return Outcome(ended.returncode, ended.stdout, ended.stderr)
+    def by_program(self, words: Sequence[str], folder: Path, is_full: bool = False) -> Outcome:
+        with open(FULL if is_full else os.devnull, "wb") as full:
+            try:
+                ended = subprocess.run(
+                    [self.program, *words],
+                    cwd=folder,
+                    stdin=subprocess.DEVNULL,
+                    stdout=full if is_full else subprocess.PIPE,
+                    stderr=subprocess.PIPE,
+                    timeout=SECONDS,
+                    check=False,
+                )
+            except subprocess.TimeoutExpired:
+                return Outcome(None, b"", b"")
+        return Outcome(ended.returncode, ended.stdout or b"", ended.stderr)
 
     def keep(self, folder: Path, case: Case, program: Outcome, model: Outcome) -> Difference:
         """Keeps the files, the words, and what either wrote."""
         folder.mkdir()
         shutil.copytree(self.files, folder / "files")
-        (folder / "words").write_bytes(os.fsencode(shlex.join(case.words) + "\n"))
+        (folder / "words").write_bytes(os.fsencode(shlex.join(case.words) + f" > {FULL}" * case.is_full + "\n"))
         for side, outcome in (("program", program), ("model", model)):
             (folder / f"{side}.out").write_bytes(outcome.output)
             (folder / f"{side}.err").write_bytes(outcome.errors)

@@ -1,23 +1,25 @@
-"""Judges a run of `check`, which may answer in more than one way: by what can be shown at all, and by what it says itself."""
+"""Judges a run of `check` or `hcheck`, which may answer in more than one way: by what can be shown, and by what it says itself.
+
+What other judges ask of a run too stands here as well.
+"""
 
 from collections import Counter
 from collections.abc import Callable, Iterator, Mapping
-from functools import lru_cache
+from functools import lru_cache, partial
 from os.path import normpath
 from random import Random
-from typing import NamedTuple
+from typing import NamedTuple, Protocol
 
 from inputs.pairs import PairFinder
 from pgvmodel import tree
-from pgvmodel.command import Search, answer
+from pgvmodel.command import CERTIFICATE, Search, verifying
 from pgvmodel.deciding import Answer, Decision, Solver
+from pgvmodel.families import PURE
 from pgvmodel.machine import Machine, State
-from pgvmodel.pairs import KINDS, shows
+from pgvmodel.pairs import shows
 from pgvmodel.questions import NotModelled, Questions
 from pgvmodel.told import NO, OPEN, YES, Strange, Told, concluded, is_shown, read_verdict
 from pgvmodel.verdict import ACCEPTED, REFUSED, UNSETTLED
-
-FIRST_LINE = b"pgcert 2"
 
 ROUNDS_OF_TRIES = 30
 """How often pairs are tried where there is no solver."""
@@ -36,11 +38,36 @@ class Ended(NamedTuple):
     output: bytes
 
 
+OTHER_FAMILY = Ended(CERTIFICATE, b"certificate: grammar 1\n")
+"""What `verify` answers to a certificate of the hybrid family."""
+
 Files = Mapping[str, bytes | None]
 """Files by name, as they are found; None for a folder."""
 
-Verify = Callable[[bytes, bytes], Ended]
-"""Runs `verify` of a description's text and a certificate."""
+
+class Again(Protocol):
+    """Runs the program on a description's text and a certificate, in a folder of their own."""
+
+    def verified(self, description: bytes, certificate: bytes) -> Ended:
+        """How `verify` ends."""
+
+    def migrated(self, description: bytes, certificate: bytes) -> tuple[Ended, bytes | None]:
+        """How `migrate` ends, and what it saves."""
+
+
+class Unsaved(Exception):
+    """Nothing is saved, or something else is changed."""
+
+
+def saved_file(name: str, before: Files, after: Files) -> bytes:
+    """The file that a run saved under a name; raises Unsaved where it is not the one that changed."""
+    place = normpath(name)
+    saved = after.get(place)
+    if saved is None:
+        raise Unsaved("nothing is saved")
+    if {**before, place: saved} != after:
+        raise Unsaved(f"other files than the saved one were changed: {sorted(before)} to {sorted(after)}")
+    return saved
 
 
 MOST_KEPT = 256
@@ -56,25 +83,22 @@ class Judge:
         self.counts: Counter[str] = Counter()
         self.decided = lru_cache(MOST_KEPT)(self._decided)
 
-    def complaints(self, search: Search, ended: Ended, before: Files, after: Files, verify: Verify) -> Iterator[str]:
+    def complaints(self, search: Search, ended: Ended, before: Files, after: Files, again: Again) -> Iterator[str]:
         """What is wrong with a run, in words; nothing where it is one of those that may be."""
         if ended.status not in (ACCEPTED, REFUSED, UNSETTLED):
             yield f"status {ended.status} of a search that can save"
             return
-        place = normpath(search.saved)
-        saved = after.get(place)
-        if saved is None:
-            yield "nothing is saved"
-            return
-        if {**before, place: saved} != after:
-            yield f"other files than the saved one were changed: {sorted(before)} to {sorted(after)}"
         try:
-            told = read_verdict(ended.output, search.description)
+            saved = saved_file(search.saved, before, after)
+            told = read_verdict(ended.output, search.description, search.family.kinds)
+        except Unsaved as unsaved:
+            yield str(unsaved)
+            return
         except Strange as strange:
             yield f"the text is no verdict: {strange}"
             return
         yield from self.of_verdict(search, told, ended.status)
-        yield from self.of_certificate(search, ended, saved, verify)
+        yield from self.of_certificate(search, ended, saved, again)
 
     def of_verdict(self, search: Search, told: Told, status: int) -> Iterator[str]:
         """The conclusion follows from the answers, the status from that, pairs show what they are to, no answer is wrong."""
@@ -90,7 +114,7 @@ class Judge:
             if not (all(map(machine_has(machine), states)) and shows(machine, number, kind, *states)):
                 yield f"the states behind {kind} do not show it"
         for number, (name, row) in enumerate(told.answers.items()):
-            for kind in KINDS:
+            for kind in search.family.kinds:
                 yield from self.of_answer(machine, number, f"{name} {kind}", kind, row[kind])
 
     def of_answer(self, machine: Machine, number: int, question: str, kind: str, told: str) -> Iterator[str]:
@@ -119,27 +143,31 @@ class Judge:
             raise AssertionError(f"the formula of {kind} of instruction {number} has no solution, and these show it: {pair}")
         return Decision(Answer.SHOWN, pair)
 
-    def of_certificate(self, search: Search, ended: Ended, saved: bytes, verify: Verify) -> Iterator[str]:
-        """It is of version 2, its open findings have taken what the budget says, and `verify` says the same of it."""
+    def of_certificate(self, search: Search, ended: Ended, saved: bytes, again: Again) -> Iterator[str]:
+        """It has its first line, its open findings have taken what the budget says, and its verifier says the same of it.
+
+        The program's own `verify` has to say so too, but that it refuses the first line of the hybrid family.
+        """
         lines = saved.split(b"\n")
-        if lines[0] != FIRST_LINE:
+        if lines[0] != search.family.first_line.encode():
             yield f"the certificate begins with {lines[0][:40]!r}"
         for line in lines:
             if line.startswith(b"finding ") and b" spent " in line and line.split()[-1] != b"%d" % search.budget:
                 yield f"{line.decode()!r} with a budget of {search.budget}"
-        again = verify(search.text, saved)
-        if again != ended:
-            yield f"`verify` ends with {again.status}, and writes {again.output[:200]!r}"
+        verified = again.verified(search.text, saved)
+        if verified != (ended if search.family is PURE else OTHER_FAMILY):
+            yield f"`verify` ends with {verified.status}, and writes {verified.output[:200]!r}"
         if len(saved) > MOST_MODELLED_BYTES or search.budget > MOST_MODELLED_SPENT and b" spent " in saved:
             self.counts["certificates too long"] += 1
             return
         try:
-            modelled = answer(("verify", "d", "c"), {"d": search.text, "c": saved}.__getitem__, self.questions)
+            question = partial(self.questions.clauses, search.text)
+            modelled = verifying(search.description, saved, question, search.family)
         except NotModelled:
             self.counts["certificates not modelled"] += 1
             return
         self.counts["certificates"] += 1
-        if modelled != ended:
+        if (modelled.status, modelled.output) != ended:
             yield f"the model of `verify` answers {modelled.status}, {modelled.output[:200]!r}"
 
 
@@ -156,6 +184,6 @@ def machine_has(machine: Machine) -> Callable[[State], bool]:
 
 def counted(counts: Counter[str]) -> str:
     """What was compared, in a line."""
-    told = ", ".join(f"{counts[name]} {name}" for name in (YES, NO, OPEN))
-    rest = ", ".join(f"{count} {name}" for name, count in sorted(counts.items()) if name not in (YES, NO, OPEN))
-    return f"answers {told}; {rest}"
+    answers = (YES, NO, OPEN)
+    told = f"answers {', '.join(f'{counts[name]} {name}' for name in answers)}; " if any(map(counts.get, answers)) else ""
+    return told + ", ".join(f"{count} {name}" for name, count in sorted(counts.items()) if name not in answers)

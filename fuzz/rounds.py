@@ -164,6 +164,15 @@ def operators(rng: Random) -> Case:
     return running("bare", description, b"", description.size, 1)
 
 
+def full_outputs(rng: Random, questions: Questions) -> Case:
+    """Any of these where standard output takes nothing; some without their last word. None of them saves a file."""
+    makers = [spelled_round, edited_text, edited_image, tame_bare_runs, tame_guest_runs]
+    asking = [certificates.certificates, certificates.replays]
+    make = rng.choice([*makers, *asking])
+    case = make(rng, questions) if make in asking else make(rng)
+    return case._replace(words=case.words[: None if rng.random() < 0.9 else -1], is_full=True)
+
+
 ROUNDS = (
     RandomRound("spelled", spelled_round),
     RandomRound("edited-text", edited_text),
@@ -193,6 +202,9 @@ ROUNDS = (
     QuestionRound("certificates", certificates.certificates),
     QuestionRound("spoiled-certificates", certificates.spoiled_certificates),
     QuestionRound("logs", certificates.logs),
+    QuestionRound("replays", certificates.replays),
+    QuestionRound("migrations", certificates.migrations),
+    QuestionRound("full-outputs", full_outputs),
     ListRound("certificate-lines", certificates.odd_lines),
     ListRound("log-lines", certificates.odd_logs),
     ListRound("certificate-fronts", certificates.fronts),
@@ -208,6 +220,7 @@ SEARCH_ROUNDS = (
     RandomRound("hard-checks", checks.hard),
     RandomRound("any-checks", checks.any_bodies),
     RandomRound("other-checks", checks.as_for_certificates),
+    RandomRound("hybrid-checks", checks.hybrid),
 )
 
 LONG_ROUNDS = (

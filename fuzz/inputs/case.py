@@ -9,13 +9,18 @@ from pgvmodel.printer import printed
 DESCRIPTION_FILE = "machine.isa"
 IMAGE_FILE = "storage.img"
 CERTIFICATE_FILE = "machine.cert"
+SAVED_FILE = "saved.cert"
 
 
 class Case(NamedTuple):
-    """The words behind the program's name, and files by name; a name that ends with `/` is that of an empty folder."""
+    """The words behind the program's name, and files by name; a name that ends with `/` is that of an empty folder.
+
+    Where `is_full` is true, standard output takes nothing.
+    """
 
     words: tuple[str, ...]
     files: Mapping[str, bytes]
+    is_full: bool = False
 
 
 def printing(description: bytes | tree.Description) -> Case:
@@ -35,9 +40,19 @@ def verifying(description: bytes | tree.Description, certificate: bytes) -> Case
     return Case(words, {DESCRIPTION_FILE: _text(description), CERTIFICATE_FILE: certificate})
 
 
-def checking(description: bytes | tree.Description, budget: int | None) -> Case:
-    """`check` of a description, which saves a certificate; with a budget, or with that of itself."""
-    words = ("check", DESCRIPTION_FILE, "--cert", CERTIFICATE_FILE)
+def replaying(case: Case) -> Case:
+    """`replay` in place of `verify`."""
+    return case._replace(words=("replay", *case.words[1:]))
+
+
+def migrating(case: Case, saved: str = SAVED_FILE) -> Case:
+    """`migrate` in place of `verify`, which saves under this name."""
+    return case._replace(words=("migrate", *case.words[1:], saved))
+
+
+def checking(description: bytes | tree.Description, budget: int | None, command: str = "check") -> Case:
+    """`check` or `hcheck` of a description, which saves a certificate; with a budget, or with that of itself."""
+    words = (command, DESCRIPTION_FILE, "--cert", CERTIFICATE_FILE)
     more = () if budget is None else ("--budget", str(budget))
     return Case((*words, *more), {DESCRIPTION_FILE: _text(description)})
 

@@ -8,10 +8,11 @@ from collections.abc import Sequence
 from random import Random
 
 from inputs.bodies import FREE, GUARDED, PURE
-from inputs.case import Case, verifying
+from inputs.case import CERTIFICATE_FILE, DESCRIPTION_FILE, SAVED_FILE, Case, migrating, replaying, verifying
 from inputs.certificate_edits import ODD_LINES, spoiled, with_edited_log
 from inputs.descriptions import random_description, random_shape
 from inputs.near_steps import covered_resolvent, loosened
+from inputs.padded_logs import padded
 from inputs.pairs import Pair, PairFinder
 from inputs.programs import TAME
 from inputs.search import Search
@@ -54,6 +55,14 @@ DIFFERING = (
 )
 """Bodies whose endings differ in P alone, or in how they trap: no address is usable whose bits are all one."""
 
+ENDINGS = (
+    "trap;", "if (rel < y) { trap; }", "if (bound < y) { trap; } mem[x] = ext(bound, $W);", "if ~mode { trap; } mode = ~mode;",
+    "if ~mode { let t = mem[~0:$A]; }", "if (rel < y) { let t = mem[~0:$A]; } pc = y;", "mem[0:$A] = ext(y, $W); trap;",
+    "if (bound < y) { mem[~0:$A] = 0:$W; } rel = y;", "let t = mem[rel];", "mem[(bound - 1:$A)] = ext(rel, $W);",
+    "mem[1:$A] = 0:$W; if (rel < y) { trap; }", "if (x < y) { trap; } mem[y] = ext(rel, $W); bound = x;",
+)
+"""Bodies of which pairs show steps that trap, of either kind, beside such that are done, with stores before and behind."""
+
 SEARCHED = (
     "let u = cut(mem[x], 2, 0); let v = cut(mem[y], 2, 0); if ~((u + v) == (v + u)) { mode = ~mode; }",
     "let u = cut(mem[x], 1, 0); let v = cut(mem[y], 1, 0); if ~((u * (u + v)) == ((u * u) + (u * v))) { rel = y; bound = x; }",
@@ -94,6 +103,11 @@ def differing(rng: Random) -> tree.Description:
     return _described(rng, [f"if (x == 0:$A) {{ {tells} }} else {{ {body} }}" for body in DIFFERING])
 
 
+def ending(rng: Random) -> tree.Description:
+    """Instructions whose shown pairs end in all ways."""
+    return _described(rng, ENDINGS)
+
+
 def searched(rng: Random) -> tree.Description:
     """Instructions of which some questions take a search."""
     return _described(rng, SEARCHED)
@@ -112,7 +126,7 @@ class CertificateWriter:
     """Writes the lines of a certificate for a description.
 
     Findings that could be shown or refuted are spent with the chance `spent`. Pairs and logs are not quite right with chances
-    of their own.
+    of their own, and refutations have steps that nobody needs with the chance `padding`.
     """
 
     def __init__(
@@ -123,6 +137,7 @@ class CertificateWriter:
         spent: float = 0.1,
         near_pairs: float = 0,
         near_logs: float = 0,
+        padding: float = 0,
     ) -> None:
         self.rng = rng
         self.description = description
@@ -133,6 +148,7 @@ class CertificateWriter:
         self.spent = spent
         self.near_pairs = near_pairs
         self.near_logs = near_logs
+        self.padding = padding
 
     def lines(self) -> list[str]:
         """A whole certificate."""
@@ -165,6 +181,8 @@ class CertificateWriter:
             steps = self.near_steps(question, steps)
         kept = [step for step in steps if step.literals]
         if is_closed and not (is_spent and kept):
+            if self.padding and self.rng.random() < self.padding:
+                steps = padded(self.rng, question, steps)
             return ["refuted", *self.refutation(len(question), steps)]
         budget = max(1, len(kept) - (self.rng.random() < self.near_logs))
         return [f"spent {budget}", *map(step_line, kept)] if kept else []
@@ -232,6 +250,36 @@ def logs(rng: Random, questions: Questions) -> Case:
     description = rng.choice([quiet, searched, searched, mixed, telling])(rng)
     lines = CertificateWriter(rng, description, questions, spent=0.4, near_logs=0.2).lines()
     return verifying(description, _text(with_edited_log(rng, lines) if rng.random() < 0.5 else lines))
+
+
+def padded_logs(rng: Random, questions: Questions) -> Case:
+    """Valid ones of which most refutations have steps that nobody needs."""
+    description = rng.choice([quiet, searched, searched, differing])(rng)
+    return verifying(description, _text(CertificateWriter(rng, description, questions, padding=0.8).lines()))
+
+
+SAVED_NAMES = (SAVED_FILE, CERTIFICATE_FILE, f"./{SAVED_FILE}", DESCRIPTION_FILE, "dir", f"dir/{SAVED_FILE}", "none/x", "")
+"""Names to save under: none that is there, those of the files that are read, a folder, a place in it, and no place."""
+
+
+def trapping(rng: Random, questions: Questions) -> Case:
+    """Valid ones whose pairs show traps."""
+    description = ending(rng)
+    return verifying(description, _text(CertificateWriter(rng, description, questions, spent=0.05).lines()))
+
+
+def replays(rng: Random, questions: Questions) -> Case:
+    """`replay` of mostly valid ones, half of which show traps, of spoiled ones, and of such that are mostly logs."""
+    make = rng.choices([trapping, certificates, spoiled_certificates, logs], [45, 30, 15, 10])[0]
+    return replaying(make(rng, questions))
+
+
+def migrations(rng: Random, questions: Questions) -> Case:
+    """`migrate` of all of these, and of such with steps that nobody needs; a few to odd places."""
+    make = rng.choices([certificates, spoiled_certificates, logs, padded_logs], [20, 15, 15, 50])[0]
+    case = make(rng, questions)
+    case = case._replace(files={**case.files, "dir/": b""})
+    return migrating(case, SAVED_FILE if rng.random() < 0.8 else rng.choice(SAVED_NAMES))
 
 
 def _fixed() -> tuple[tree.Description, list[str]]:

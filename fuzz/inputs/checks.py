@@ -70,6 +70,14 @@ ENDS = (
 )
 """Ends, most of which assign a register."""
 
+MODES = (
+    ("if mode {", "}"), ("if ~mode {", "}"), ("if ~mode {", "}"), ("if mode { } else {", "}"), ("if (mode & c) {", "}"),
+    ("if (mode | c) {", "}"), ("if (mode ^ c) {", "}"), ("if (mode == c) {", "}"), ("if mode { if c { trap; } }", ""),
+    ("if ~mode { trap; }", ""), ("if ~mode { trap; } else {", "}"), ("if mode { trap; } else {", "}"), ("mode = 1:1;", ""),
+    ("if ~mode { mode = 1:1; rel = y; } else {", "}"), ("if mode { let z = mem[~0:$A]; } else {", "}"),
+)
+"""What keeps a part of a body to one mode, or nearly, and what is done in the other one."""
+
 HARD = (
     "let u = cut(mem[x], 6, 0); let v = cut(mem[y], 6, 0); if (mode & ~((u * v) == (v * u))) { pc = y; }",
     "let u = cut(mem[x], 4, 0); let v = cut(mem[y], 4, 0); if ~((u * (u + v)) == ((u * u) + (u * v))) { mode = ~mode; }",
@@ -151,12 +159,16 @@ def pieced(rng: Random) -> Case:
     return checking(described(rng, shape, bodies), rng.choice(BUDGETS))
 
 
-def listed() -> list[Case]:
-    """Each guard, middle and end alone, and each middle behind the guard, on a small machine."""
-    shape = tree.Description(16, 4, 8, False, ())
+def listed_bodies() -> list[str]:
+    """Each guard, middle and end alone, and each middle behind the guard."""
     alone = [body for body in (*GUARDS, *MIDDLES, *ENDS) if body]
-    bodies = list(dict.fromkeys([*alone, *(f"if mode {{ trap; }} {middle}" for middle in MIDDLES if middle)]))
-    return [checking(described(Random(body), shape, [body]), None) for body in bodies]
+    return list(dict.fromkeys([*alone, *(f"if mode {{ trap; }} {middle}" for middle in MIDDLES if middle)]))
+
+
+def listed() -> list[Case]:
+    """Each of these bodies, on a small machine."""
+    shape = tree.Description(16, 4, 8, False, ())
+    return [checking(described(Random(body), shape, [body]), None) for body in listed_bodies()]
 
 
 def hard(rng: Random) -> Case:
@@ -192,6 +204,31 @@ def with_tellers(rng: Random, description: tree.Description) -> tree.Description
     ]
     told = (replace(it, body=(*it.body, rng.choice(tellers))) if rng.random() < 0.5 else it for it in description.instructions)
     return replace(description, instructions=tuple(told))
+
+
+def in_one_mode(rng: Random) -> Case:
+    """Bodies whose middle and end are kept to one mode, or nearly: then a hybrid monitor may have less to ask."""
+    shape = small_shape(rng)
+    bodies = [_kept_to_a_mode(rng) for _ in range(rng.choice([1, 1, 2]))]
+    return checking(described(rng, shape, bodies), rng.choice(BUDGETS))
+
+
+def _kept_to_a_mode(rng: Random) -> str:
+    body = with_new_lets([rng.choice(MIDDLES), rng.choice(ENDS)])
+    before, behind = rng.choice(MODES)
+    return f"{rng.choice(['', '', 'mem[y] = 0:$W;', 'pc = x;'])} {before} {body} {behind}"
+
+
+def hybrid(rng: Random) -> Case:
+    """`hcheck` of the bodies of all rounds of `check`, and of such as are kept to one mode."""
+    makers = [in_one_mode, pieced, hard, any_bodies, as_for_certificates, any_listed]
+    case = rng.choices(makers, [35, 25, 8, 15, 7, 10])[0](rng)
+    return case._replace(words=("hcheck", *case.words[1:]))
+
+
+def any_listed(rng: Random) -> Case:
+    """One of the listed bodies, on any small machine."""
+    return checking(described(rng, small_shape(rng), [rng.choice(listed_bodies())]), None)
 
 
 def as_for_certificates(rng: Random) -> Case:

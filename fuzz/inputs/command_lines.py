@@ -70,7 +70,18 @@ VERIFY_LINES = (
     "verify v", "n verify", "n none", "none v", "none none", "n dir", "n ./v", "n v/", "n v/x", "n /dev/null", "n empty",
     "bad badv", "d none", "bad none", "n n", "n i", "8 v",
 )
-"""Lines behind `verify`."""
+"""Lines behind `verify` and `replay`."""
+
+MIGRATE_LINES = (
+    "", "n", "n v", "n v x", "n v x y", "-- n v x", "n -- v x", "n v -- x", "n v x --", "n v x -- --", "-- -- n v x",
+    "n v -x", "n v -- -x", "n v -", "n v --", "n v --cert x", "n v --cert=x", "n v x --cert y", "n v x --budget 5",
+    "n v x --grant 8", "n v x --steps=2", "n v x --help", "--help n v x", "help n v x", "n v x -h", "n v dir", "n v dir/x",
+    "n v dir/", "n v none/x", "n v d/x", "n v x/", "n v ./x", "n v dir/../x", "n v .", "n v ..", "n v v", "n v n", "n v i",
+    "n badv x", "n badv dir", "n none x", "n none dir", "none v x", "none none dir", "none badv none/x", "bad v x",
+    "bad badv dir", "bad none x", "n dir x", "n dir dir", "dir v x", "n empty x", "n i x", "n n x", "d v x", "d v dir",
+    "v n x", "8 v x", "n v/ x", "n v/x x", "n v 8", "n /dev/null x", "migrate n v",
+)
+"""Lines behind `migrate`."""
 
 RUN_LINES = (
     "d i", "d G S", "G S", "d i G", "d i S", "d i x G S", "d i G G S", "d i G S S", "d i --grant 8 --grant=8 S", "d G i S",
@@ -99,12 +110,12 @@ CHECK_LINES = (
     "bad --cert bad", "none --cert none", "none --cert d", "dir --cert d", "bad --cert d", "n --cert dir K",
     "n --cert=n K",
 )
-"""Lines behind `check`; C and K stand for a whole option each."""
+"""Lines behind `check` and `hcheck`; C and K stand for a whole option each."""
 
 POOL = (
     "bare", "run", "print", "verify", "d", "i", "n", "v", "badv", "none", "open", "--grant", "--steps", "8", "2", "--grant=8",
     "--steps=3", "--grant=+9", "--steps=0", "--", "-", "", "--help", "-h", "x", "--grant=65", "+1", "63", "-1", "--slice=1",
-    "help", "bad", "badi", "dir", "check", "--cert", "--cert=x", "--budget", "--budget=5", "x",
+    "help", "bad", "badi", "dir", "check", "--cert", "--cert=x", "--budget", "--budget=5", "x", "replay", "migrate", "hcheck",
 )
 
 
@@ -116,14 +127,15 @@ def shapes() -> list[Case]:
     """Lines with words missing, doubled, misspelt and in other orders."""
     lines = [[], [""], ["", "print", "d"], *(line.split() for line in SHORT_LINES)]
     lines += [["print", name] for name in PRINT_FILES]
-    lines += [["verify", *line.split()] for line in VERIFY_LINES]
-    lines += [["verify", *files] for files in (["", ""], ["n", ""], ["", "v"], [f"n{NO_UTF_8}", "v"], ["n", NO_UTF_8])]
-    lines += [["check", *_filled(line)] for line in CHECK_LINES]
-    lines += [["check", *rest] for rest in (["", *CERT], ["n", "--cert", ""], ["n", "--cert", "n" * 300])]
-    lines += [["check", *rest] for rest in ([f"n{NO_UTF_8}", *CERT], ["n", "--cert", NO_UTF_8], ["n", f"--cert=x{NO_UTF_8}"])]
-    lines += [["check", "n", "--cert", "d\u00e9"], ["check", "n", "--cert", "a b c"], ["check", "n", "--cert=", *BUDGET]]
+    lines += [line for command in ("verify", "replay") for line in _verify_shapes(command)]
+    lines += [line for command in ("check", "hcheck") for line in _check_shapes(command)]
+    lines += _migrate_shapes()
     lines += [[word, "n", *CERT] for word in ("Check", "chec", "checks", "CHECK", "check ", "--check", "bare", "print", "run")]
-    lines += [[word, "n", "v"] for word in ("Verify", "verif", "verifys", "VERIFY", "verify ", "--verify", "check", "replay")]
+    lines += [[word, "n", *CERT] for word in ("Hcheck", "hchec", "hchecks", "h-check", "hcheck ", "--hcheck", "hybrid")]
+    lines += [[word, "n", *CERT] for word in ("verify", "replay", "migrate")]
+    lines += [[word, "n", "v"] for word in ("Verify", "verif", "verifys", "VERIFY", "verify ", "--verify", "check", "hcheck")]
+    lines += [[word, "n", "v"] for word in ("Replay", "repla", "replays", "REPLAY", "replay ", "--replay")]
+    lines += [[word, "n", "v", "x"] for word in ("Migrate", "migrat", "migrates", "--migrate", "verify", "replay", "check")]
     for command in ("bare", "run"):
         lines += [[command, *_filled(line)] for line in RUN_LINES]
         lines += [[command, *files, *BOTH] for files in (["", ""], ["d", ""], ["", "i"], ["d", "/dev/null"])]
@@ -131,6 +143,25 @@ def shapes() -> list[Case]:
         lines.append([command, "d", "i", f"--{NO_UTF_8}=8", *STEPS])
     lines += [["print", f"d{NO_UTF_8}"], [NO_UTF_8, "d"], ["print", "--", NO_UTF_8]]
     return [_case(line) for line in lines]
+
+
+def _verify_shapes(command: str) -> list[list[str]]:
+    lines = [[command, *line.split()] for line in VERIFY_LINES]
+    return lines + [[command, *files] for files in (["", ""], ["n", ""], ["", "v"], [f"n{NO_UTF_8}", "v"], ["n", NO_UTF_8])]
+
+
+def _check_shapes(command: str) -> list[list[str]]:
+    rests = [["", *CERT], ["n", "--cert", ""], ["n", "--cert", "n" * 300]]
+    rests += [[f"n{NO_UTF_8}", *CERT], ["n", "--cert", NO_UTF_8], ["n", f"--cert=x{NO_UTF_8}"]]
+    rests += [["n", "--cert", "d\u00e9"], ["n", "--cert", "a b c"], ["n", "--cert=", *BUDGET]]
+    return [[command, *rest] for rest in (*map(_filled, CHECK_LINES), *rests)]
+
+
+def _migrate_shapes() -> list[list[str]]:
+    lines = [line.split() for line in MIGRATE_LINES]
+    lines += [["n", "v", name] for name in ("", "n" * 300, "d\u00e9", "a b c", f"x{NO_UTF_8}", NO_UTF_8)]
+    lines += [["n", "", "x"], ["", "v", "x"], ["", "", ""], [f"n{NO_UTF_8}", "v", "x"], ["n", f"v{NO_UTF_8}", "x"]]
+    return [["migrate", *line] for line in lines]
 
 
 def _filled(line: str) -> Iterator[str]:
@@ -149,7 +180,8 @@ def numbers() -> list[Case]:
         for option in options:
             lines += [[command, "d", "i", *option], [command, *option, "d", "i"]]
     for spelling in NUMBER_SPELLINGS:
-        lines += [["check", "n", *CERT, "--budget", spelling], ["check", f"--budget={spelling}", "n", *CERT]]
+        for command in ("check", "hcheck"):
+            lines += [[command, "n", *CERT, "--budget", spelling], [command, f"--budget={spelling}", "n", *CERT]]
     return [_case(line) for line in lines]
 
 
@@ -162,19 +194,25 @@ def refusals() -> list[Case]:
     for command, description, image, grant, steps in product(("bare", "run"), descriptions, images, grants, (0, 3)):
         lines.append([command, "--grant", str(grant), "--steps", str(steps), "--", description, image])
     certificates = ("v", "badv", "none", "dir", "empty", "i", "d", "v/", "v/x", "")
-    lines += [["verify", "--", *files] for files in product(("n", *descriptions), certificates)]
+    lines += [[command, "--", *files] for command, *files in product(("verify", "replay"), ("n", *descriptions), certificates)]
     places = ("x", "none/x", "dir", "dir/x", "d/x", "d", "")
-    lines += [["check", f"--cert={place}", "--", description] for description, place in product(("n", *descriptions), places)]
+    for command, description, place in product(("check", "hcheck"), ("n", *descriptions), places):
+        lines.append([command, f"--cert={place}", "--", description])
+    lines += [["migrate", "--", *files] for files in product(("n", *descriptions), certificates, places)]
     return [_case(line) for line in lines]
+
+
+FILES_ALONE = {"print": ["d"], "verify": ["n", "v"], "replay": ["n", "v"], "migrate": ["n", "v", "x"]}
+"""What commands without an option take."""
 
 
 def random_line(rng: Random) -> Case:
     """A line that is taken, with up to three edits."""
-    command = rng.choice(["bare", "run", "print", "verify", "check"])
+    command = rng.choice(["bare", "run", "print", "verify", "check", "replay", "migrate", "hcheck"])
     words = ["d", "i", "--grant=8", "--steps=3"] if rng.random() < 0.5 else ["d", "i", *BOTH]
-    if command in ("print", "verify") and rng.random() < 0.7:
-        words = ["d"] if command == "print" else ["n", "v"]
-    if command == "check" and rng.random() < 0.9:
+    if command in FILES_ALONE and rng.random() < 0.7:
+        words = FILES_ALONE[command]
+    if command in ("check", "hcheck") and rng.random() < 0.9:
         words = ["n", *CERT, *rng.choice([[], BUDGET, ["--budget=7"]])]
     for _ in range(rng.choice([0, 1, 1, 2, 3])):
         words = _edited(rng, words)

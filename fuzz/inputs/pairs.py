@@ -5,7 +5,7 @@ from random import Random
 from pgvmodel import tree
 from pgvmodel.body import ProgramStatusWord, mask
 from pgvmodel.machine import SUPERVISOR, USER, Machine, State, window
-from pgvmodel.pairs import BOUND, CONTROL, LOCATION, shows
+from pgvmodel.pairs import BOUND, CONTROL, IN_USER_MODE, LOCATION, shows
 
 SIZES = (2, 3, 4, 4, 5, 6, 8, 9, 12, 16, 17)
 MOST_CELLS = 600
@@ -55,6 +55,9 @@ class PairFinder:
     def pair(self, number: int, kind: str) -> Pair:
         """Two states that are near to show the kind."""
         first = self.state(number)
+        if kind in IN_USER_MODE:
+            first.psw = first.psw._replace(mode=USER)
+            kind = IN_USER_MODE[kind]
         if kind == CONTROL:
             return first, first
         if kind == LOCATION:

@@ -13,15 +13,13 @@ from pgvmodel.certificate_lines import (
     REFUTED, SHOWN, Cells, End, Header, Line, NoForm, Removal, Size, Status, Version, parsed,
 )
 from pgvmodel.clauses import Clause, Clauses, Step
+from pgvmodel.families import PURE, Family
 from pgvmodel.faults import Fault
 from pgvmodel.machine import CELLS_A_LINE, Machine, State
-from pgvmodel.pairs import KINDS, shows
+from pgvmodel.pairs import shows
 
 MOST_BYTES = 268_435_456
 """Most bytes of a certificate's file."""
-
-VERSIONS = ("1", "2")
-"""In the second one a refutation may take clauses away."""
 
 _STRANGE = re.compile(rb"[^\x20-\x7e]")
 
@@ -51,7 +49,7 @@ class _Log:
 
     line: int
     header: Header
-    version: str
+    may_take_away: bool
     question: Callable[[], Sequence[Clause]]
     steps: int = 0
     is_closed: bool = False
@@ -69,10 +67,10 @@ class _Log:
         return self.header.found == REFUTED
 
     def take(self, number: int, line: Line) -> None:
-        """A step, or in a refutation of version 2 a removal."""
+        """A step, or in a refutation of a version that has them a removal."""
         if isinstance(line, Step):
             self.take_step(number, line)
-        elif isinstance(line, Removal) and self.is_refutation and self.version == "2":
+        elif isinstance(line, Removal) and self.is_refutation and self.may_take_away:
             if not self.clauses.take_away(line.numbers):
                 raise Fault(f"delete {number}")
         else:
@@ -149,11 +147,12 @@ class _Pair:
 class _Verifier:
     """Takes the lines of a certificate of a machine in order."""
 
-    def __init__(self, machine: Machine, question: Question) -> None:
+    def __init__(self, machine: Machine, question: Question, family: Family) -> None:
         self.machine = machine
         self.question = question
+        self.family = family
         self.names = [instruction.name for instruction in machine.description.instructions]
-        self.due = [(name, kind) for name in self.names for kind in KINDS]
+        self.due = [(name, kind) for name in self.names for kind in family.kinds]
         self.version: str | None = None
         self.open: _Log | _Pair | None = None
         self.marks: Marks = {}
@@ -166,7 +165,7 @@ class _Verifier:
         try:
             if not is_whole:
                 raise _Stray
-            self.take(number, parsed(text.decode("ascii"), self.machine.description))
+            self.take(number, parsed(text.decode("ascii"), self.machine.description, self.family))
         except (NoForm, _Stray):
             raise Fault(f"grammar {number}") from None
 
@@ -176,7 +175,7 @@ class _Verifier:
             raise _Stray
         match line:
             case Version(digits):
-                if digits not in VERSIONS:
+                if digits not in self.family.versions:
                     raise Fault("version 1")
                 self.version = digits
             case Header() | End():
@@ -217,18 +216,19 @@ class _Verifier:
         if header.found == SHOWN:
             instruction = self.names.index(header.name)
             return _Pair(number, lambda *states: shows(self.machine, instruction, header.kind, *states))
-        return _Log(number, header, self.version, lambda: self.question(header.name, header.kind))
+        may_take_away = self.version == self.family.versions[-1]
+        return _Log(number, header, may_take_away, lambda: self.question(header.name, header.kind))
 
 
-def verified(description: tree.Description, text: bytes, question: Question) -> Marks:
-    """The marks of a certificate for a valid description, in the order of its instructions and of the kinds.
+def verified(description: tree.Description, text: bytes, question: Question, family: Family = PURE) -> Marks:
+    """The marks of a certificate for a valid description, in the order of its instructions and of the family's kinds.
 
     Refuses `long`, before all else, or the first line at fault. A text that ends before `end` is read as if that stood behind
     it; where that is no fault, it is one of the grammar of the line where it ought to stand.
     """
     if len(text) > MOST_BYTES:
         raise Fault("long")
-    verifier = _Verifier(Machine(description), question)
+    verifier = _Verifier(Machine(description), question, family)
     *lines, rest = text.split(b"\n")
     for number, line in enumerate(lines, 1):
         verifier.line(number, line, is_whole=True)

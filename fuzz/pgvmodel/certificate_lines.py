@@ -10,8 +10,8 @@ from dataclasses import dataclass
 from pgvmodel import tree
 from pgvmodel.body import ProgramStatusWord
 from pgvmodel.clauses import Step
+from pgvmodel.families import PURE, Family
 from pgvmodel.machine import CELLS_A_LINE, SUPERVISOR, USER
-from pgvmodel.pairs import KINDS
 
 REFUTED, SHOWN, SPENT = "refuted", "shown", "spent"
 
@@ -28,9 +28,9 @@ LEAST_CELLS = 2
 
 _TEN_DIGITS = r"[1-9][0-9]{0,9}"
 _NUMBER = rf"0|{_TEN_DIGITS}"
-_VERSION = re.compile(r"pgcert (0|[1-9][0-9]*)")
+_VERSION = re.compile(r"0|[1-9][0-9]*")
 _HEADER = re.compile(
-    rf"finding ([A-Za-z][A-Za-z0-9_]{{0,31}}) ({'|'.join(KINDS)}) (?:({REFUTED}|{SHOWN})|{SPENT} ({_TEN_DIGITS}))"
+    rf"finding ([A-Za-z][A-Za-z0-9_]{{0,31}}) ([a-z]+) (?:({REFUTED}|{SHOWN})|{SPENT} ({_TEN_DIGITS}))"
 )
 _LITERAL = re.compile(rf"-?{_TEN_DIGITS}")
 _POSITIVE = re.compile(_TEN_DIGITS)
@@ -102,19 +102,17 @@ def _ask(fits: object) -> None:
         raise NoForm
 
 
-def parsed(text: str, shape: tree.Description) -> Line:
-    """What a line says, which is handed in without its line feed; raises NoForm.
+def parsed(text: str, shape: tree.Description, family: Family = PURE) -> Line:
+    """What a line says, which is handed in without its line feed; raises NoForm, also where it is one of the other family.
 
     How many words a line of cells has is not asked here: that rests on the state's size.
     """
     first, *parts = text.split(" ")
+    if first == family.word:
+        return _version(parts)
     match first:
-        case "pgcert":
-            found = _VERSION.fullmatch(text)
-            _ask(found)
-            return Version(found[1])
         case "finding":
-            return _header(text)
+            return _header(text, family)
         case "s":
             return _step(parts)
         case "d":
@@ -128,9 +126,15 @@ def parsed(text: str, shape: tree.Description) -> Line:
     return _cells(first, parts, shape)
 
 
-def _header(text: str) -> Header:
+def _version(parts: list[str]) -> Version:
+    """A number of any length."""
+    _ask(len(parts) == 1 and _VERSION.fullmatch(parts[0]))
+    return Version(parts[0])
+
+
+def _header(text: str, family: Family) -> Header:
     found = _HEADER.fullmatch(text)
-    _ask(found)
+    _ask(found and found[2] in family.kinds)
     name, kind, plain, budget = found.groups()
     if plain:
         return Header(name, kind, plain)

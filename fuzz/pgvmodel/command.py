@@ -5,13 +5,16 @@ from functools import partial
 from typing import NamedTuple
 
 from pgvmodel import tree
-from pgvmodel.certificate import Question, verified
+from pgvmodel.certificate import Marks, Question, verified
+from pgvmodel.error_lines import NO_OUTPUT, ErrorLine, missing, unreadable, unwritable
+from pgvmodel.families import HYBRID, PURE, Family
 from pgvmodel.faults import Fault
 from pgvmodel.image import read_image
 from pgvmodel.machine import MONITOR_CELLS, run_bare, run_guest, state_text
 from pgvmodel.printer import printed
 from pgvmodel.questions import Questions
 from pgvmodel.reader import read
+from pgvmodel.replayed import replayed
 from pgvmodel.rule import first_breach
 from pgvmodel.validity import check
 from pgvmodel.verdict import ACCEPTED, UNSETTLED, verdict
@@ -21,9 +24,18 @@ USAGE = (
     "pgv bare DESC IMAGE --grant G --steps N\n"
     "pgv check DESC --cert FILE [--budget K]\n"
     "pgv verify DESC CERT\n"
+    "pgv replay DESC CERT\n"
     "pgv run DESC IMAGE --grant G --steps N\n"
     "pgv print DESC\n"
+    "pgv migrate DESC CERT FILE\n"
+    "pgv hcheck DESC --cert FILE [--budget K]\n"
 )
+
+SEARCHES = {"check": PURE, "hcheck": HYBRID}
+"""Commands that ask questions, and of which kinds."""
+
+SAVING = (*SEARCHES, "migrate")
+"""Commands that save a file."""
 
 DONE, OPEN = ACCEPTED, UNSETTLED
 WORDS, DESCRIPTION, IMAGE, CERTIFICATE, ROOM, UNREADABLE, UNWRITABLE, MISSING = 3, 4, 5, 6, 7, 8, 9, 11
@@ -37,22 +49,43 @@ CanSave = Callable[[str], bool]
 
 
 class Answer(NamedTuple):
-    """The status that the program ends with, and what stands on its standard output."""
+    """The status that the program ends with, what stands on its standard output, and the line on standard error, if any."""
 
     status: int
     output: bytes
+    error: ErrorLine | None = None
 
 
 class Search(NamedTuple):
-    """What `check` is asked: it may answer in more than one way, which `told.py` and `deciding.py` judge."""
+    """What `check` or `hcheck` is asked: it may answer in more than one way, which `told.py` and `deciding.py` judge."""
 
     text: bytes
     description: tree.Description
+    family: Family
     saved: str
     budget: int
 
 
-def answer(words: Sequence[str], load: Load, questions: Questions, can_save: CanSave = bool) -> Answer | Search:
+class Migration(NamedTuple):
+    """What `migrate` is asked: its answer is one, but what it saves may be trimmed more or less, which `trimmed.py` judges."""
+
+    text: bytes
+    description: tree.Description
+    certificate: bytes
+    marks: Marks
+    saved: str
+    answer: Answer
+
+
+class _Refused(Exception):
+    """A step refuses, with this answer."""
+
+    def __init__(self, answer_: Answer) -> None:
+        super().__init__(answer_)
+        self.answer = answer_
+
+
+def answer(words: Sequence[str], load: Load, questions: Questions, can_save: CanSave = bool) -> Answer | Search | Migration:
     """What the program is to answer. The first step that refuses says so.
 
     Raises NotModelled where the answer rests on the clauses of a question, and there is no program to ask for them.
@@ -61,41 +94,86 @@ def answer(words: Sequence[str], load: Load, questions: Questions, can_save: Can
     if asked is None:
         return _told(WORDS, USAGE)
     try:
-        return _carried_out(asked, load, questions, can_save)
-    except FileNotFoundError:
-        return _told(MISSING, "")
-    except OSError:
-        return _told(UNREADABLE, "")
+        return _carried_out(asked, partial(_loaded, load), questions, can_save)
+    except _Refused as refused:
+        return refused.answer
+
+
+def on_full_output(answered: Answer) -> Answer:
+    """The same where standard output takes nothing, which is seen where there is something to write."""
+    return Answer(UNWRITABLE, b"", NO_OUTPUT) if answered.output else answered
 
 
 def _told(status: int, text: str) -> Answer:
     return Answer(status, text.encode())
 
 
-def _carried_out(asked: Request, load: Load, questions: Questions, can_save: CanSave) -> Answer | Search:
-    """The description, then what the command does with it."""
+def _loaded(load: Load, name: str) -> bytes:
     try:
-        text = load(asked.files[0])
-        description = read(text)
-        check(description)
-    except Fault as fault:
-        return _told(DESCRIPTION, f"description: {fault.line}\n")
-    if asked.command == "print":
-        return Answer(DONE, printed(description))
-    if asked.command == "check":
-        if not can_save(asked.saved):
-            return _told(UNWRITABLE, "")
-        return Search(text, description, asked.saved, asked.numbers["budget"])
-    if asked.command == "verify":
-        return _verified(description, load(asked.files[1]), partial(questions.clauses, text))
+        return load(name)
+    except FileNotFoundError:
+        raise _Refused(Answer(MISSING, b"", missing(name))) from None
+    except OSError:
+        raise _Refused(Answer(UNREADABLE, b"", unreadable(name))) from None
+
+
+def _carried_out(asked: Request, load: Load, questions: Questions, can_save: CanSave) -> Answer | Search | Migration:
+    """The description, then what the command does with it."""
+    text = load(asked.files[0])
+    description = _described(text)
+    match asked.command:
+        case "print":
+            return Answer(DONE, printed(description))
+        case "check" | "hcheck" as command:
+            _ask_to_save(can_save, asked.saved)
+            return Search(text, description, SEARCHES[command], asked.saved, asked.numbers["budget"])
+        case "verify" | "replay" | "migrate":
+            return _with_certificate(asked, text, description, load(asked.files[1]), questions, can_save)
     return _run(asked, description, load)
 
 
-def _verified(description: tree.Description, text: bytes, question: Question) -> Answer:
+def _described(text: bytes) -> tree.Description:
+    """The valid description of a text."""
     try:
-        return _told(*verdict(description, verified(description, text, question)))
+        description = read(text)
+        check(description)
     except Fault as fault:
-        return _told(CERTIFICATE, f"certificate: {fault.line}\n")
+        raise _Refused(_told(DESCRIPTION, f"description: {fault.line}\n")) from None
+    return description
+
+
+def _ask_to_save(can_save: CanSave, name: str) -> None:
+    if not can_save(name):
+        raise _Refused(Answer(UNWRITABLE, b"", unwritable(name)))
+
+
+def _with_certificate(
+    asked: Request, text: bytes, description: tree.Description, certificate: bytes, questions: Questions, can_save: CanSave
+) -> Answer | Migration:
+    """The certificate's marks, which are saved before the verdict, replayed, or come to the verdict alone."""
+    marks = _marks(description, certificate, partial(questions.clauses, text), PURE)
+    if asked.command == "replay":
+        return _told(DONE, replayed(description, marks))
+    ending = _told(*verdict(description, marks))
+    if asked.command == "verify":
+        return ending
+    _ask_to_save(can_save, asked.saved)
+    return Migration(text, description, certificate, marks, asked.saved, ending)
+
+
+def _marks(description: tree.Description, certificate: bytes, question: Question, family: Family) -> Marks:
+    try:
+        return verified(description, certificate, question, family)
+    except Fault as fault:
+        raise _Refused(_told(CERTIFICATE, f"certificate: {fault.line}\n")) from None
+
+
+def verifying(description: tree.Description, certificate: bytes, question: Question, family: Family = PURE) -> Answer:
+    """What `verify` answers to a certificate, or would to one of the hybrid family."""
+    try:
+        return _told(*verdict(description, _marks(description, certificate, question, family), family.kinds))
+    except _Refused as refused:
+        return refused.answer
 
 
 def _run(asked: Request, description: tree.Description, load: Load) -> Answer:

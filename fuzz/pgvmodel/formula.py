@@ -10,7 +10,7 @@ from typing import NamedTuple
 
 from pgvmodel import tree
 from pgvmodel.machine import SUPERVISOR, USER, Machine, State, window
-from pgvmodel.pairs import BOUND, CONTROL, LOCATION, MODE, PRIVILEGED
+from pgvmodel.pairs import BOUND, CONTROL, IN_USER_MODE, LOCATION, MODE, PRIVILEGED
 
 LEAST_CELLS = 2
 """A storage has two cells or more."""
@@ -214,7 +214,8 @@ class Formula:
     def __init__(self, machine: Machine, number_: int, kind: str) -> None:
         self.description = machine.description
         self.meaning = machine.decoders[number_]
-        self.kind = kind
+        self.kind = IN_USER_MODE.get(kind, kind)
+        self.is_of_users = kind in IN_USER_MODE
         self.script = Script(self.description.word, self.description.address)
         self.p = self.script.unknown("p", self.description.address)
         self.sides = self._two_sides()
@@ -246,10 +247,11 @@ class Formula:
         return [self.p, *sides, *(term for place in self.script.touched for term in place)]
 
     def _two_sides(self) -> tuple[Side, Side]:
-        """What a kind lets differ are two unknowns, and all else is one."""
+        """What a kind lets differ are two unknowns, and all else is one, but a mode that is asked for."""
         script, width = self.script, self.description.address
         sizes = script.unknown("size", width), script.unknown("size_", width) if self.kind == BOUND else None
-        l, b, mode = script.unknown("l", width), script.unknown("b", width), script.unknown("mode", 1)
+        l, b = script.unknown("l", width), script.unknown("b", width)
+        mode = script.named(*number(USER, 1)) if self.is_of_users else script.unknown("mode", 1)
         first = Side(sizes[0], Registers(mode, l, b))
         if self.kind in (PRIVILEGED, MODE):
             modes = (script.named(*number(mode, 1)) for mode in (SUPERVISOR, USER))

@@ -1,4 +1,4 @@
-"""Which two states show a kind of an instruction: that it is not privileged, or sensitive in one of four ways."""
+"""Which two states show a kind of an instruction: that it is not privileged, or sensitive in one of seven ways."""
 
 from collections.abc import Callable
 
@@ -13,6 +13,14 @@ SENSITIVE = (CONTROL, MODE, LOCATION, BOUND)
 KINDS = (PRIVILEGED, *SENSITIVE)
 """In the order in which they are asked and told."""
 
+USER_SENSITIVE = ("ucontrol", "ulocation", "ubound")
+"""What a hybrid monitor asks in place of SENSITIVE."""
+
+ALL_KINDS = (*KINDS, *USER_SENSITIVE)
+
+IN_USER_MODE = dict(zip(USER_SENSITIVE, (CONTROL, LOCATION, BOUND)))
+"""The kind that has to be shown, by states that are both in user mode."""
+
 Ending = Done | Cause
 
 
@@ -20,6 +28,10 @@ def shows(machine: Machine, number: int, kind: str, first: State, second: State)
     """Whether the instruction of this number stands at both states, and they show the kind of it."""
     if not (_is_at(machine, number, first) and _is_at(machine, number, second)):
         return False
+    if kind in IN_USER_MODE:
+        if not first.psw.mode == second.psw.mode == USER:
+            return False
+        kind = IN_USER_MODE[kind]
     if not _IS_PAIR[kind](first, second):
         return False
     return _SHOWN[kind](first, *(machine.attempt(window(state), state.psw) for state in (first, second)))

@@ -8,7 +8,7 @@ from typing import NamedTuple
 from pgvmodel import tree
 from pgvmodel.body import ProgramStatusWord
 from pgvmodel.machine import CELLS_A_LINE, SUPERVISOR, USER, State, state_text
-from pgvmodel.pairs import KINDS, PRIVILEGED, SENSITIVE
+from pgvmodel.pairs import KINDS, PRIVILEGED
 from pgvmodel.verdict import ACCEPTED, REFUSED, UNSETTLED
 
 YES, NO, OPEN = "yes", "no", "open"
@@ -54,27 +54,27 @@ def is_shown(kind: str, answer: str) -> bool:
 def concluded(answers: Answers) -> tuple[tuple[str, ...], tuple[str, ...]]:
     """What the answers come to: the words of the conclusion, and the kinds that are shown behind it."""
     for name, row in answers.items():
-        sensitive = [kind for kind in SENSITIVE if row[kind] == YES]
+        sensitive = [kind for kind in row if kind != PRIVILEGED and row[kind] == YES]
         if row[PRIVILEGED] == NO and sensitive:
             return ("refused", name), (PRIVILEGED, sensitive[0])
     for name, row in answers.items():
-        if row[PRIVILEGED] != YES and any(row[kind] != NO for kind in SENSITIVE):
-            return ("open", name, next(kind for kind in KINDS if row[kind] == OPEN)), ()
+        if row[PRIVILEGED] != YES and any(row[kind] != NO for kind in row if kind != PRIVILEGED):
+            return ("open", name, next(kind for kind in row if row[kind] == OPEN)), ()
     return ("accepted",), ()
 
 
-def read_verdict(text: bytes, description: tree.Description) -> Told:
-    """Reads a verdict; raises Strange where it has not the one spelling of what it says."""
+def read_verdict(text: bytes, description: tree.Description, kinds: Sequence[str] = KINDS) -> Told:
+    """Reads a verdict over kinds of one family; raises Strange where it has not the one spelling of what it says."""
     try:
         lines = text.decode("ascii").splitlines()
     except UnicodeDecodeError:
         raise Strange("it has bytes that are none of ASCII") from None
     names = [instruction.name for instruction in description.instructions]
-    answers = {name: _row(name, line) for name, line in zip(names, lines)}
+    answers = {name: _row(name, line, kinds) for name, line in zip(names, lines)}
     rest = lines[len(names) :]
     if len(answers) != len(names) or not rest:
         raise Strange("it ends before its conclusion")
-    told = Told(answers, tuple(rest[0].split(" ")), tuple(_pairs(rest[1:])))
+    told = Told(answers, tuple(rest[0].split(" ")), tuple(_pairs(rest[1:], kinds)))
     if spelled(told, description.word).encode() != text:
         raise Strange("it is not the one spelling of what it says")
     if told.conclusion[0] not in ("accepted", "refused", "open"):
@@ -84,27 +84,27 @@ def read_verdict(text: bytes, description: tree.Description) -> Told:
 
 def spelled(told: Told, word: int) -> str:
     """The text of a verdict."""
-    lines = [" ".join([name, *(f"{kind} {row[kind]}" for kind in KINDS)]) for name, row in told.answers.items()]
+    lines = [" ".join([name, *(f"{kind} {answer}" for kind, answer in row.items())]) for name, row in told.answers.items()]
     text = "".join(line + "\n" for line in (*lines, " ".join(told.conclusion)))
     return text + "".join(f"{kind}\n" + "".join(state_text(state, word) for state in states) for kind, states in told.shown)
 
 
-def _row(name: str, line: str) -> dict[str, str]:
+def _row(name: str, line: str, kinds: Sequence[str]) -> dict[str, str]:
     """The answers of a line."""
     first, *words = line.split(" ")
     row = dict(zip(words[::2], words[1::2]))
-    if first != name or tuple(row) != KINDS or any(answer not in (YES, NO, OPEN) for answer in row.values()):
+    if first != name or tuple(row) != tuple(kinds) or any(answer not in (YES, NO, OPEN) for answer in row.values()):
         raise Strange(f"it has the line {line!r}")
     return row
 
 
-def _pairs(lines: Sequence[str]) -> list[Shown]:
+def _pairs(lines: Sequence[str], kinds: Sequence[str]) -> list[Shown]:
     """Kinds, each with two states."""
     pairs = []
     rest = list(lines)
     while rest:
         kind = rest.pop(0)
-        if kind not in KINDS:
+        if kind not in kinds:
             raise Strange(f"it has the line {kind!r}")
         pairs.append(Shown(kind, (_state(rest), _state(rest))))
     return pairs

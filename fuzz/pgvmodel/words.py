@@ -9,16 +9,20 @@ OPTIONS = {"grant": range(2, 1_048_576), "steps": range(0, 1_000_001), "budget":
 """Options that have a number, and what each may be: cells, steps of a machine, and steps of a search."""
 
 BUDGET = 20_000
-"""Steps of a search where `check` is not told how many."""
+"""Steps of a search where `check` or `hcheck` is not told how many."""
 
 
 @dataclass(frozen=True)
 class Form:
-    """How many files a command names, the options that it wants, each once, and those that may be left out."""
+    """How many files a command names, the options that it wants, each once, and those that may be left out.
+
+    Where `saves_last` is true the last file is one that is written.
+    """
 
     files: int
     options: tuple[str, ...] = ()
     others: Mapping[str, int] = field(default_factory=dict)
+    saves_last: bool = False
 
 
 FORMS = {
@@ -27,6 +31,9 @@ FORMS = {
     "run": Form(2, ("grant", "steps")),
     "print": Form(1),
     "check": Form(1, ("cert",), {"budget": BUDGET}),
+    "hcheck": Form(1, ("cert",), {"budget": BUDGET}),
+    "replay": Form(2),
+    "migrate": Form(3, saves_last=True),
 }
 """The commands. Files are a description, then an image or a certificate; `cert` is the name of one that is written."""
 
@@ -58,7 +65,8 @@ def request(words: Sequence[str]) -> Request | None:
         return None
     if len(files) != form.files or any(name not in given for name in form.options):
         return None
-    return Request(words[0], tuple(files), {**form.others, **numbers}, given.get("cert"))
+    saved = files[-1] if form.saves_last else given.get("cert")
+    return Request(words[0], tuple(files), {**form.others, **numbers}, saved)
 
 
 def _sorted_out(words: Sequence[str], wanted: Sequence[str]) -> tuple[list[str], dict[str, str]]:
