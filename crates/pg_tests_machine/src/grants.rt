@@ -11,5 +11,5 @@ fn a_grant_goes_into_the_first_gap(rt: HostRuntime) {
     assert!(rt; grants.release(5) == Err(NotGranted));
     assert!(rt; grants.release(2) == Ok(()));
     assert!(rt; grants.grant(10) == Ok(2));
-    assert!(rt; grants.as_slice() == [(2, 10), (33, 31)]);
+    assert!(rt; grants.as_slice() == [(2, 10), (33, 31)].as_slice());
 }
