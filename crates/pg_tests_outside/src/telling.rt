@@ -32,7 +32,7 @@ impl Write for Paper {
 }
 
 /// A writer that fails at the call of this number, if it is not 0.
-fn paper(rt: &impl AllocGlobal, fails_at: u8) -> Paper {
+fn blank_paper(rt: &impl AllocGlobal, fails_at: u8) -> Paper {
     Paper {
         taken: Vec::new(rt.alloc()),
         calls: 0,
@@ -78,12 +78,12 @@ const SAID: [(Deed, Cause, &str, &str); 6] = [
 #[test]
 fn refusals_are_said(rt: HostRuntime) -> Result<(), Fail> {
     for (deed, cause, name, want) in SAID {
-        let mut to = paper(&rt, 0);
+        let mut to = blank_paper(&rt, 0);
         let said = tell_refused(&mut to, "pgv", &Refused::new(deed, cause, name));
         assert!(rt; said.is_ok());
         assert!(rt; to.taken.as_slice() == want.as_bytes(), "{want}");
     }
-    let mut to = paper(&rt, 2);
+    let mut to = blank_paper(&rt, 2);
     assert!(rt; tell(&mut to, "pgv", "out of memory") == Err(ErrorKind::BrokenPipe));
     assert!(rt; to.taken.as_slice() == b"pgv".as_slice());
     Ok(())
@@ -97,8 +97,9 @@ fn the_last_refusal_is_kept(rt: HostRuntime) -> Result<(), Fail> {
     let _ = shelf.save("none/below", b"x");
     let _ = shelf.load("none", 9, &mut into);
     let _ = shelf.save("kept", b"xy");
-    let _ = shelf.load("kept", 1, &mut into);
-    let mut to = paper(&rt, 0);
+    let mut more = Vec::new(rt.alloc());
+    let _ = shelf.load("kept", 1, &mut more);
+    let mut to = blank_paper(&rt, 0);
     if let Some(refused) = shelf.refused() {
         assert!(rt; refused.deed() == Deed::Read && refused.cause() == Cause::Missing);
         assert!(rt; refused.name() == b"none".as_slice() && !refused.is_cut());
@@ -111,7 +112,7 @@ fn the_last_refusal_is_kept(rt: HostRuntime) -> Result<(), Fail> {
 
 #[test]
 fn progress_is_written_over(rt: HostRuntime) -> Result<(), Fail> {
-    let mut line = Progress::new(paper(&rt, 0), true);
+    let mut line = Progress::new(blank_paper(&rt, 0), true);
     line.erase();
     line.tell("pgv", b"add", b"mode", 12);
     line.tell("pgv", b"r\x1bt", b"bound", 0);
@@ -119,11 +120,11 @@ fn progress_is_written_over(rt: HostRuntime) -> Result<(), Fail> {
     line.erase();
     let want = "\rpgv: add mode, 12 left\x1b[K\rpgv: r?t bound, 0 left\x1b[K\r\x1b[K";
     assert!(rt; line.writer().taken.as_slice() == want.as_bytes());
-    let mut off = Progress::new(paper(&rt, 0), false);
+    let mut off = Progress::new(blank_paper(&rt, 0), false);
     off.tell("pgv", b"add", b"mode", 1);
     off.erase();
     assert!(rt; off.writer().taken.is_empty());
-    let mut torn = Progress::new(paper(&rt, 2), true);
+    let mut torn = Progress::new(blank_paper(&rt, 2), true);
     torn.tell("pgv", b"add", b"mode", 2);
     torn.tell("pgv", b"add", b"bound", 1);
     torn.erase();
