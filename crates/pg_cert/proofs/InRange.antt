@@ -19,7 +19,7 @@ use Rattle.pg_word.proofs.SparseLemmas.{length-storage_of}
 use Rattle.pg_token.specs.Words.{is_word, is_reserved}
 use Rattle.pg_ast.specs.declared.tree.Instr.{Instr}
 use Rattle.pg_ast.specs.declared.tree.Desc.{Desc}
-use Rattle.pg_meaning.specs.States.{State, IsState, shape_of, in_user}
+use Rattle.pg_meaning.specs.States.{IsState, shape_of}
 use Rattle.pg_valid.specs.Twice.{instr_names}
 use Rattle.pg_image.specs.Lines.{line_cells, line_words, line_count}
 use Rattle.pg_proof.specs.declared.step.ProofFault.{ProofFault}
@@ -36,9 +36,8 @@ use Rattle.pg_proof.specs.Trimmed.{shown, IsPart, step_count, AreAscending, IsTi
 use Rattle.pg_proof.proofs.GivenLemmas.{AreKnown, known_hints, number_below}
 use Rattle.pg_proof.proofs.RemovalLemmas.{length-without}
 use Rattle.pg_type.specs.declared.kind.Kind.{Kind}
-use Rattle.pg_type.specs.declared.kind.Kind.TheVariants.{Privileged, Control, ModeDep, Location, Bound, UControl, ULocation, UBound}
-use Rattle.pg_type.specs.Kinds.{Shows}
 use Rattle.pg_type.specs.Listed.{state_of}
+use Rattle.pg_type.proofs.KindLaws.{shown_states}
 use Rattle.pg_cert.specs.declared.cert.Family.{Family}
 use Rattle.pg_cert.specs.declared.cert.Finding.{Finding}
 use Rattle.pg_cert.specs.declared.cert.Finding.TheVariants as finding
@@ -47,7 +46,6 @@ use Rattle.pg_cert.specs.declared.line.Heading.{Heading}
 use Rattle.pg_cert.specs.declared.line.Line.{Line}
 use Rattle.pg_cert.specs.declared.line.Line.TheVariants.{First, Header, Step, Remove, Size, Psw, Cells, End}
 use Rattle.pg_cert.specs.Lines.{most_budget, most_variable, most_number, ascend, are_lits, are_hints, are_removed, is_found, is_line, IsLine}
-use Rattle.pg_cert.specs.Verdicts.{kind_count}
 use Rattle.pg_cert.specs.Texts.{row_lines, rows_before, state_lines, act_line, found_of, body_lines, instr_of, kind_of, named_lines, finding_lines, findings_lines, cert_lines}
 use Rattle.pg_cert.specs.Validity.{may_remove, IsActUnder, IsValidFinding, IsValidCert}
 use Rattle.pg_cert.proofs.Fits.{instr_within}
@@ -246,24 +244,6 @@ module _ (d : Desc) (shape : IsShape (shape_of d)) where
 
   -- ---- findings
 
-  in_user_state : (s : State) → IsState d s → IsState d (in_user s)
-  in_user_state s h = record {
-    size_least = h.size_least;
-    size_most = h.size_most;
-    words = h.words;
-    fields = record { p = h.fields.p; l = h.fields.l; b = h.fields.b };
-  }
-
-  shown_states : (i : Instr) (kind : Kind) (s t : State) → Shows d i kind s t → IsState d s × IsState d t
-  shown_states i Privileged s t h = (h.pair.state, subst (IsState d) (sym h.pair.same_in_user) (in_user_state s h.pair.state))
-  shown_states i Control s t h = (h.state, subst (IsState d) (sym h.same) h.state)
-  shown_states i ModeDep s t h = (h.pair.state, subst (IsState d) (sym h.pair.same_in_user) (in_user_state s h.pair.state))
-  shown_states i Location s t h = (h.first, h.second)
-  shown_states i Bound s t h = (h.first, h.second)
-  shown_states i UControl s t h = (h.0.state, subst (IsState d) (sym h.0.same) h.0.state)
-  shown_states i ULocation s t h = (h.0.first, h.0.second)
-  shown_states i UBound s t h = (h.0.first, h.0.second)
-
   body_in_range : (question : List (List ℤ)) (heading : Heading) (i : Instr) (kind : Kind) (f : Finding) →
       IsValidFinding question heading d i kind f → IsFindingNumbered question f → InRange (body_lines f)
   unfolding IsValidFinding
@@ -276,7 +256,7 @@ module _ (d : Desc) (shape : IsShape (shape_of d)) where
           acts_in_range (shape_of d) heading acts (begun question) final e h.1 n.variables
           (rw (length-map question (λ (c : List ℤ). Some c)) n.numbers)
   body_in_range question heading i kind (finding.Shown s t) h n =
-      let both = shown_states i kind (state_of s) (state_of t) h in
+      let both = shown_states d i kind (state_of s) (state_of t) h in
       All-append (IsLine (shape_of d)) (state_lines s) (state_lines t) (state_in_range s both.0) (state_in_range t both.1)
   body_in_range question heading i kind (finding.Spent k steps) h n =
       steps_in_range (shape_of d) steps (begun question) k h.2 n.variables

@@ -3,9 +3,8 @@ use Rattle.std.proofs.Common.{◌≡◌, ℕ, zero, suc, ◌+◌, ◌-◌, ◌/�
 use Rattle.std.specs.Prelude.{slice_get}
 use Rattle.std.proofs.lemmas.Option.{get_or_from_slice_get, slice_get-get_or}
 use Rattle.std.proofs.lemmas.List.{append-nil, append_assoc}
-use Rattle.pg_edge.specs.Count.{Rose}
 use Rattle.pg_edge.specs.Told.{BothTold}
-use Rattle.pg_edge.specs.Sink.{Puts, Adds, AddsFront}
+use Rattle.pg_edge.specs.Sink.{Puts, AddsFront}
 use Rattle.pg_edge.proofs.CountLaws.{Rose-earlier}
 use Rattle.pg_edge.proofs.PutsLaws.{Adds-nil, Adds-append, AddsFront-append, Puts-stopped}
 use Rattle.pg_ast.specs.declared.tree.Desc.{Desc}

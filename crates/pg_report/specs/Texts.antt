@@ -6,7 +6,7 @@ use Rattle.pg_valid.specs.declared.fault.Limit.{Limit as Limits}
 use Rattle.pg_valid.specs.declared.fault.Limit.TheVariants.{Instructions, Accesses, Lets, Statements, Expressions}
 use Rattle.pg_cert.specs.Lines.{kind_text}
 use Rattle.pg_report.specs.declared.line.RefusalLine.{RefusalLine}
-use Rattle.pg_report.specs.declared.line.RefusalLine.TheVariants.{Description, Image, Certificate, Room, Open}
+use Rattle.pg_report.specs.declared.line.RefusalLine.TheVariants.{Description, Image, Certificate, Room}
 use Rattle.pg_report.specs.declared.line.DescriptionLine.{DescriptionLine}
 use Rattle.pg_report.specs.declared.line.DescriptionLine.TheVariants.{Long, Token, Grammar as Misplaced, Deep, Shape, Limit, Twice, Pattern, Overlap, Name, Width}
 use Rattle.pg_report.specs.declared.line.ImageLine.{ImageLine}
@@ -73,7 +73,6 @@ refusal_text (Description line) = codes "description: " ++ description_text line
 refusal_text (Image number line) = codes "image " ++ decimal number ++ codes ": " ++ image_text line ++ 10 ∷ []
 refusal_text (Certificate line) = codes "certificate: " ++ certificate_text line ++ 10 ∷ []
 refusal_text (Room wanted free) = codes "room " ++ two_numbers wanted free ++ 10 ∷ []
-refusal_text (Open name) = codes "open " ++ name_text name ++ codes " rule" ++ 10 ∷ []
 
 -- how each command is called
 abbrev pub usage_bare : List ℕ
@@ -89,7 +88,7 @@ abbrev pub usage_replay : List ℕ
 usage_replay = codes "pgv replay DESC CERT" ++ 10 ∷ []
 
 abbrev pub usage_run : List ℕ
-usage_run = codes "pgv run DESC IMAGE --grant G --steps N" ++ 10 ∷ []
+usage_run = codes "pgv run DESC CERT IMAGE.. --grant G --steps N [--slice K]" ++ 10 ∷ []
 
 abbrev pub usage_print : List ℕ
 usage_print = codes "pgv print DESC" ++ 10 ∷ []

@@ -19,9 +19,6 @@ pub enum RefusalLine {
     Certificate(CertificateLine),
     /// So many cells are wanted, and so many, which are fewer, are free.
     Room(u64, u64),
-    /// The instruction of this name is the first that breaks the plain rule, so that it stays open whether a monitor may run
-    /// the machine.
-    Open(Items<u8>),
 }
 
 /// Why a description is refused. Places are bytes of its text, and both they and instructions are counted from 0.

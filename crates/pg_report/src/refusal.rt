@@ -41,8 +41,9 @@ pub fn put_usage<S: Sink>(out: &mut S) -> Result<(), Failed>
         out,
         b"pgv bare DESC IMAGE --grant G --steps N\n\
           pgv check DESC --cert FILE [--budget K]\npgv verify DESC CERT\n\
-          pgv replay DESC CERT\npgv run DESC IMAGE --grant G --steps N\npgv print DESC\n\
-          pgv migrate DESC CERT FILE\npgv hcheck DESC --cert FILE [--budget K]\n",
+          pgv replay DESC CERT\npgv run DESC CERT IMAGE.. --grant G --steps N [--slice K]\n\
+          pgv print DESC\npgv migrate DESC CERT FILE\n\
+          pgv hcheck DESC --cert FILE [--budget K]\n",
     )
 }
 
@@ -81,11 +82,6 @@ fn push_refusal(text: &mut Line, line: &RefusalLine)
         RefusalLine::Room(wanted, free) => {
             push_pair(text, b"room ", *wanted, *free);
             text.push(b'\n');
-        }
-        RefusalLine::Open(name) => {
-            push(text, b"open ");
-            push_name(text, name.as_slice());
-            push(text, b" rule\n");
         }
     }
 }

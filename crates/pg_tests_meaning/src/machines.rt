@@ -1,9 +1,7 @@
-//! What a machine is asked for: its numbers, instructions by name and by word, fields; and whether it is plain.
+//! What a machine is asked for: its numbers, instructions by name and by word, fields; and that it is lent.
 
-use crate::texts::{M0, machine};
+use crate::texts::machine;
 use pg_meaning::{field_of, matches};
-use pg_type::laws::accepted_means_hybrid_accepted;
-use pg_type::{Accepted, HybridAccepted, plain};
 use std::test::Fail;
 
 const TWO: &str = "machine{word 16;address 5;size 8;}
@@ -56,49 +54,4 @@ fn reads_patterns(rt: HostRuntime) -> Result<(), Fail> {
     let field = field_of(b"01..aab1", b"a").ok_or("a field")?;
     assert_eq!(rt; (field.width, field.low), (2, 2));
     Ok(())
-}
-
-/// M0 with an instruction more, and the number of the first that is not plain.
-#[test]
-fn tells_plain_machines(rt: HostRuntime) -> Result<(), Fail> {
-    let alloc = rt.alloc();
-    for (more, breach) in [
-        ("", None),
-        (
-            "instr sm \"00000101_................_aaaaaaaa\" { mem[a] = ext(mode, 32); }",
-            Some(4),
-        ),
-        (
-            "instr to \"00000110_................_aaaaaaaa\" { mode = 1:1; pc = a; }",
-            Some(4),
-        ),
-        (
-            "instr ok \"00000110_................_aaaaaaaa\" { if mode { trap; } mode = 1:1; }",
-            None,
-        ),
-        (
-            "instr el \"00000110_................_aaaaaaaa\" { if mode { trap; } else { mode = 1:1; } }",
-            Some(4),
-        ),
-    ] {
-        let mut text = M0.to_string(alloc)?;
-        text.push_str(more)?;
-        assert_eq!(rt; plain(&machine(alloc, &text)?), breach, "at {more}");
-    }
-    Ok(())
-}
-
-/// What no plain rule is broken in may be lent to either monitor.
-#[test]
-fn lends_a_plain_machine(rt: HostRuntime) -> Result<(), Fail> {
-    let m = machine(rt.alloc(), M0)?;
-    match plain(&m) {
-        None => {
-            assert_eq!(rt; Accepted::of(&m).machine().count(), 4);
-            accepted_means_hybrid_accepted(&m.desc);
-            assert_eq!(rt; HybridAccepted::of(&m).machine().count(), 4);
-            Ok(())
-        }
-        Some(_) => Err("a plain machine".into()),
-    }
 }

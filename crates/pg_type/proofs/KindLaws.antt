@@ -1,11 +1,13 @@
 -- Laws of the kinds: privileged is that no pair breaks it, and the hybrid condition is the weaker one.
-use Rattle.std.proofs.Common.{◌≡◌, ◌⊎◌, refl, subst, inl, inr, get_or}
+use Rattle.std.proofs.Common.{◌≡◌, ◌⊎◌, refl, sym, subst, inl, inr, get_or}
 use Rattle.pg_word.specs.declared.psw.Mode.TheVariants.{S}
 use Rattle.pg_ast.specs.declared.tree.Instr.{Instr}
 use Rattle.pg_ast.specs.declared.tree.Desc.{Desc}
 use Rattle.pg_meaning.specs.Bodies.{Course, MemTrapped, Trapped, Going, After}
 use Rattle.pg_meaning.specs.States.{State, IsState, in_user}
-use Rattle.pg_type.specs.Kinds.{IsAt, course_at, IsDone, IsTrap, IsNoMemTrap, IsModePair}
+use Rattle.pg_type.specs.declared.kind.Kind.{Kind}
+use Rattle.pg_type.specs.declared.kind.Kind.TheVariants.{Privileged, Control, ModeDep, Location, Bound, UControl, ULocation, UBound}
+use Rattle.pg_type.specs.Kinds.{Shows, IsAt, course_at, IsDone, IsTrap, IsNoMemTrap, IsModePair}
 use Rattle.pg_type.specs.Accepting.{IsPrivileged, IsInnocuous, IsUserInnocuous, IsAccepted, IsHybridAccepted, IsNeverBroken}
 
 -- a trap is no memory trap, and nothing that is done
@@ -65,3 +67,18 @@ accepted-hybrid d h = λ k i within. elim (h k i within) [
   | inl p ↦ inl p
   | inr n ↦ inr (innocuous-user d (get_or d.instrs k i) n)
 ]
+
+-- ---- states that are shown are states of the machine
+
+pub in_user_state : (d : Desc) (s : State) → IsState d s → IsState d (in_user s)
+in_user_state d s h = record { size_least = h.size_least; size_most = h.size_most; words = h.words; fields = record { p = h.fields.p; l = h.fields.l; b = h.fields.b } }
+
+pub shown_states : (d : Desc) (i : Instr) (kind : Kind) (s t : State) → Shows d i kind s t → IsState d s × IsState d t
+shown_states d i Privileged s t h = (h.pair.state, subst (IsState d) (sym h.pair.same_in_user) (in_user_state d s h.pair.state))
+shown_states d i Control s t h = (h.state, subst (IsState d) (sym h.same) h.state)
+shown_states d i ModeDep s t h = (h.pair.state, subst (IsState d) (sym h.pair.same_in_user) (in_user_state d s h.pair.state))
+shown_states d i Location s t h = (h.first, h.second)
+shown_states d i Bound s t h = (h.first, h.second)
+shown_states d i UControl s t h = (h.0.state, subst (IsState d) (sym h.0.same) h.0.state)
+shown_states d i ULocation s t h = (h.0.first, h.0.second)
+shown_states d i UBound s t h = (h.0.first, h.0.second)

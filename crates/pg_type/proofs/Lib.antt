@@ -5,8 +5,3 @@ pub mod HybridRow
 pub mod AlikeLemmas
 pub mod AlikeSteps
 pub mod PaperLemmas
-pub mod PlainEquations
-pub mod BlindValues
-pub mod BlindDeeds
-pub mod BlindBodies
-pub mod PlainSound

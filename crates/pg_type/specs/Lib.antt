@@ -3,8 +3,6 @@ pub mod Accepting
 pub mod PaperWords
 pub mod Listed
 pub mod Alike
-pub mod Plain
-pub mod Blind
 pub mod Examples
 pub mod WorkedRuns
 pub mod WorkedKinds

@@ -1,8 +1,8 @@
 //! Machines whose instructions are known to be as a monitor needs them.
 //!
 //! `Accepted` has the condition of Theorem 1 of the 1974 paper, and `HybridAccepted` that of Theorem 3. Neither is
-//! tested when one is made, since both speak of every state: it is made where the condition is known, as where `plain`
-//! found no breach. It is a machine on loan, and is copied freely.
+//! tested when one is made, since both speak of every state: it is made where the condition is known, as where a verified
+//! certificate says so. It is a machine on loan, and is copied freely.
 
 ghost use Rattle.std.specs.Prelude.{◌≡◌};
 ghost use Rattle.pg_type.specs.Accepting.{IsAccepted, IsHybridAccepted};

@@ -1,9 +1,8 @@
 //! What follows from the definitions of kinds alone, for those who read them: none of it does anything when it runs.
 
-ghost use Rattle.std.specs.Prelude.{◌≡◌, ◌↔◌, true, false, None};
-ghost use Rattle.pg_type.specs.Accepting.{IsPrivileged, IsNeverBroken, IsInnocuous, IsAccepted, IsHybridAccepted};
+ghost use Rattle.std.specs.Prelude.{◌↔◌};
+ghost use Rattle.pg_type.specs.Accepting.{IsPrivileged, IsNeverBroken, IsAccepted, IsHybridAccepted};
 ghost use Rattle.pg_type.specs.PaperWords.{HoldPaperWords};
-ghost use Rattle.pg_type.specs.Plain.{every_control, any_has, naming, is_guarded, first_breach};
 
 use pg_ast::{Desc, Instr};
 
@@ -24,22 +23,4 @@ pub fn accepted_means_hybrid_accepted(desc: &Desc)
 pub fn accepted_means_paper_words(desc: &Desc)
     requires { IsAccepted desc.now }
     ensures { HoldPaperWords desc.now }
-{}
-
-/// An instruction whose body names none of the mode and the relocation-bounds register is innocuous.
-pub fn unnamed_control_means_innocuous(desc: &Desc, instr: &Instr)
-    requires { any_has (naming every_control) instr.now.body ≡ false }
-    ensures { IsInnocuous desc.now instr.now }
-{}
-
-/// An instruction whose body begins with `if mode { trap; }`, and has no other trap, is privileged.
-pub fn guard_means_privileged(desc: &Desc, instr: &Instr)
-    requires { is_guarded instr.now.body ≡ true }
-    ensures { IsPrivileged desc.now instr.now }
-{}
-
-/// A description of which each instruction is plain is accepted.
-pub fn plain_means_accepted(desc: &Desc)
-    requires { first_breach desc.now.instrs ≡ None }
-    ensures { IsAccepted desc.now }
 {}

@@ -8,9 +8,7 @@
 //!
 //! An `Accepted` is a machine whose instructions are as the monitor of Theorem 1 needs them, a `HybridAccepted` as that
 //! of Theorem 3. `alike` says what a monitor gains by it: what is done in user mode is done alike wherever the window and
-//! P are the same. `plain` tests a rule on the text of bodies, in `Plain`, under which a machine is accepted; `Blind`
-//! says what two runs of one body have in common where it does not read in what they differ. `laws` has what else
-//! follows from the definitions alone.
+//! P are the same. `laws` has what else follows from the definitions alone.
 //!
 //! What instructions mean stands in `pg_meaning`, and which descriptions are valid in `pg_valid`. Their public names and
 //! definitions are passed on from here.
@@ -20,11 +18,9 @@ mod accepted;
 pub mod alike;
 mod kind;
 pub mod laws;
-mod plain_rule;
 pub mod rows;
 
 pub use accepted::{Accepted, HybridAccepted};
 pub use kind::Kind;
 pub use pg_meaning::{Decoder, Field, field_of, matches};
 pub use pg_valid::{Limit, Machine, TypeFault, check};
-pub use plain_rule::plain;
