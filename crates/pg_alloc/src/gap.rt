@@ -4,8 +4,9 @@ ghost use Rattle.std.specs.Prelude.{◌≡◌, ◌+◌, ◌≤◌, nat_le, None,
 ghost use Rattle.pg_alloc.specs.Fit.{free_base};
 ghost use Rattle.pg_alloc.specs.Grants.{AreGrants, IsGap};
 
-/// The first cell behind those that are kept.
-const FIRST_CELL: u32 = 2;
+/// The cells that a monitor keeps for traps: cell 0, where one is stored, and cell 1, which is loaded then. The first grant
+/// begins behind them.
+pub const KEPT_CELLS: u32 = 2;
 
 /// Where a new grant goes: its base, and its place among the others.
 #[derive(Clone, Copy)]
@@ -28,7 +29,7 @@ pub(crate) fn first_gap(q: u32, grants: &[(u32, u32)], size: u32) -> Option<Gap>
     ensures gap { IfSome result (λ gap. IsGap q grants.now size gap.place gap.base) }
     ensures none { IfNone result (free_base q grants.now size ≡ None) }
 {
-    let mut base = FIRST_CELL;
+    let mut base = KEPT_CELLS;
     for place in 0..grants.len() {
         let (next, cells) = grants[place];
         if ends_before(base, size, next) {

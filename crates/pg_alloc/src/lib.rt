@@ -18,4 +18,5 @@ mod grants;
 pub mod laws;
 
 pub use fault::{GrantFault, NotGranted};
+pub use gap::KEPT_CELLS;
 pub use grants::Grants;

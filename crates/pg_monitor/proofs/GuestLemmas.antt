@@ -52,7 +52,7 @@ turned : (g h : Guest) → AreApart g h → AreApart h g
 turned g h (inl before) = inr before
 turned g h (inr after) = inl after
 
-virtuals-apart : (q : ℕ) (cells now : List ℕ) (g : Guest) (gs : List Guest) → LeavesOthers q cells now g → All (IsGrant q) gs → All (AreApart g) gs → virtuals now gs ≡ virtuals cells gs
+pub virtuals-apart : (q : ℕ) (cells now : List ℕ) (g : Guest) (gs : List Guest) → LeavesOthers q cells now g → All (IsGrant q) gs → All (AreApart g) gs → virtuals now gs ≡ virtuals cells gs
 virtuals-apart q cells now g [] others grants apart = refl
 virtuals-apart q cells now g (x ∷ xs) others grants apart =
     ap (λ y. y ∷ virtuals now xs) (others x (All-head (IsGrant q) x xs grants) (turned g x (All-head (AreApart g) x xs apart)))
@@ -92,7 +92,7 @@ grants_of-set (x ∷ xs) zero g psw is =
     let same : x ≡ g = cc in ap (λ (y : Guest). (y.base, y.size) ∷ grants_of xs) (sym same)
 grants_of-set (x ∷ xs) (suc k) g psw is = ap (λ l. (x.base, x.size) ∷ l) (grants_of-set xs k g psw is)
 
-disjoint-set : (gs : List Guest) (k : ℕ) (g : Guest) (psw : Psw) → slice_get gs k ≡ Some g → AreDisjoint gs → AreDisjoint (slice_set gs k (with_psw g psw))
+pub disjoint-set : (gs : List Guest) (k : ℕ) (g : Guest) (psw : Psw) → slice_get gs k ≡ Some g → AreDisjoint gs → AreDisjoint (slice_set gs k (with_psw g psw))
 disjoint-set [] k g psw is apart = tt
 disjoint-set (x ∷ xs) zero g psw is apart =
     let same : x ≡ g = cc in (subst (λ y. All (AreApart y) xs) same apart.0, apart.1)

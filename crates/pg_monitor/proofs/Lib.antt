@@ -6,3 +6,9 @@ pub mod GuestLemmas
 pub mod LoadLemmas
 pub mod BaseLemmas
 pub mod PlanLemmas
+pub mod OwnLemmas
+pub mod AdmitLemmas
+pub mod ReachLemmas
+pub mod ResetLemmas
+pub mod ReadyLemmas
+pub mod ScheduleLemmas

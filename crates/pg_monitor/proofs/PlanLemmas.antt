@@ -100,7 +100,7 @@ direct_turns-most d None s n = omega arith
 direct_turns-most d (Some g) None n = omega arith
 direct_turns-most d (Some g) (Some s) n = direct_among-most d g.base n s
 
-direct_of-most : (d : Desc) (gs : List Guest) (plan : List (ℕ × ℕ)) (ss : List State) → direct_of d gs plan ss ≤ turns_of plan
+pub direct_of-most : (d : Desc) (gs : List Guest) (plan : List (ℕ × ℕ)) (ss : List State) → direct_of d gs plan ss ≤ turns_of plan
 direct_of-most d gs [] ss = omega arith
 direct_of-most d gs (turn ∷ plan) ss =
     omega (arith, direct_turns-most d (slice_get gs turn.0) (slice_get ss turn.0) turn.1, direct_of-most d gs plan (moved d turn.0 turn.1 ss))

@@ -1,6 +1,8 @@
 -- Guests: each has a grant of the storage, and a program status word that it believes to be its machine's.
-use Rattle.std.specs.Prelude.{ℕ, ◌+◌, ◌≤◌, ◌⊎◌, List, [], ◌∷◌, map, All}
+use Rattle.std.specs.Prelude.{◌≡◌, ℕ, ◌+◌, ◌≤◌, ◌⊎◌, Bool, true, ◌==◌, ◌&&◌, List, [], ◌∷◌, map, All}
+use Rattle.std.specs.List.{list_any}
 use Rattle.pg_alloc.specs.Fit.{kept_cells}
+use Rattle.pg_alloc.specs.Grants.{Granted, AreGrants}
 use Rattle.pg_meaning.specs.States.{State}
 use Rattle.pg_routine.specs.Granting.{guest_at}
 use Rattle.pg_monitor.specs.declared.guest.Guest.{Guest}
@@ -26,3 +28,15 @@ AreApart g h = (g.base + g.size ≤ h.base) ⊎ (h.base + h.size ≤ g.base)
 abbrev pub AreDisjoint : List Guest → Type 0
 AreDisjoint [] = Unit {0}
 AreDisjoint (g ∷ gs) = All (AreApart g) gs × AreDisjoint gs
+
+-- ---- grants that a monitor made
+
+-- whether a grant is one of these
+abbrev pub is_one_of : ℕ × ℕ → List (ℕ × ℕ) → Bool
+is_one_of grant grants = list_any (λ x. (x.0 == grant.0) && (x.1 == grant.1)) grants
+
+-- grants that lie right in a storage of q cells, among which each guest has its own; those of no guest are held
+pub record AreOwned (q : ℕ) (granted : Granted) (gs : List Guest) : Type 0 where
+  pub storage : granted.q ≡ q
+  pub lie : AreGrants q granted.grants
+  pub own : All (λ g. is_one_of (g.base, g.size) granted.grants ≡ true) gs

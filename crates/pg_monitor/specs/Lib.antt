@@ -6,3 +6,6 @@ pub mod Plans
 pub mod Current
 pub mod Loading
 pub mod Monitors
+pub mod Reaching
+pub mod Schedules
+pub mod WorkedSchedules

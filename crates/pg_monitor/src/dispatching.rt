@@ -32,6 +32,7 @@ impl<'m> Monitor<'m> {
         ensures stands { Stands (desc_of self.old) (H.machinery hw.new).state self.new.guests self.new.current }
         ensures turned { Turned (desc_of self.old) k 1 (H.machinery hw.old) (H.machinery hw.new) self.old.guests self.new.guests self.old.current self.new.current }
         ensures machine { self.new.accepted.machine.now ≡ self.old.accepted.machine.now }
+        ensures granted { self.new.granted ≡ self.old.granted }
         ensures served { SameServed (H.serves hw.old) (H.serves hw.new) }
 
         // A direct turn of the current guest is one step of the hardware, which leaves its mode and R.
@@ -54,6 +55,7 @@ impl<'m> Monitor<'m> {
         ensures stands { Stands (desc_of self.old) (H.machinery hw.new).state self.new.guests self.new.current }
         ensures turned { Turned (desc_of self.old) k 1 (H.machinery hw.old) (H.machinery hw.new) self.old.guests self.new.guests self.old.current self.new.current }
         ensures machine { self.new.accepted.machine.now ≡ self.old.accepted.machine.now }
+        ensures granted { self.new.granted ≡ self.old.granted }
         ensures served { SameServed (H.serves hw.old) (H.serves hw.new) }
 
         // A direct turn of the current guest is one step of the hardware, which leaves its mode and R.
@@ -79,6 +81,7 @@ impl<'m> Monitor<'m> {
         ensures stands { Stands (desc_of self.old) (H.machinery hw.new).state self.new.guests self.new.current }
         ensures turned { Turned (desc_of self.old) k n (H.machinery hw.old) (H.machinery hw.new) self.old.guests self.new.guests self.old.current self.new.current }
         ensures machine { self.new.accepted.machine.now ≡ self.old.accepted.machine.now }
+        ensures granted { self.new.granted ≡ self.old.granted }
         ensures served { SameServed (H.serves hw.old) (H.serves hw.new) }
     {
         if n == 0 {
@@ -101,6 +104,7 @@ impl<'m> Monitor<'m> {
             ≡ option_map (steps (desc_of self.old) (turns_for j plan.now)) (slice_get (virtuals (H.machinery hw.old).state.cells self.old.guests) j) }
         ensures followed { Followed (desc_of self.old) plan.now (H.machinery hw.old) (H.machinery hw.new) self.old.guests self.new.guests self.old.current self.new.current }
         ensures machine { self.new.accepted.machine.now ≡ self.old.accepted.machine.now }
+        ensures granted { self.new.granted ≡ self.old.granted }
         ensures served { SameServed (H.serves hw.old) (H.serves hw.new) }
     {
         for turn in plan {
@@ -117,6 +121,7 @@ impl<'m> Monitor<'m> {
         ensures current { self.new.current ≡ Some k }
         ensures guests { self.new.guests ≡ self.old.guests }
         ensures machine { self.new.accepted.machine.now ≡ self.old.accepted.machine.now }
+        ensures granted { self.new.granted ≡ self.old.granted }
         ensures runs { Runs (desc_of self.old) (H.machinery hw.new).state result }
         ensures cells { (H.machinery hw.new).state.cells ≡ (H.machinery hw.old).state.cells }
         ensures same { self.old.current ≡ Some k → H.machinery hw.new ≡ H.machinery hw.old }
@@ -136,7 +141,7 @@ impl<'m> Monitor<'m> {
 }
 
 /// Whether the current guest is the one of this number.
-fn is_current(current: Option<usize>, k: usize) -> bool
+pub(crate) fn is_current(current: Option<usize>, k: usize) -> bool
     ensures { result ≡ is_current k current }
 {
     match current {

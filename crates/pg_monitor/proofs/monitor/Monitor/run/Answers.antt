@@ -13,6 +13,7 @@ loop-turn-preserved g c =
     let one = Turned-machine m.desc c.loop-turn.self.accepted.machine.now.desc _ _ _ _ _ _ _ _ same c.turns.ensures.turned in
     record {
       machine = c.turns.ensures.machine ∙ before.machine;
+      granted = c.turns.ensures.granted ∙ before.granted;
       stands = subst (λ x. Stands x (g.H.Hardware.machinery c.turns.new.hw).state c.turns.new.self.guests c.turns.new.self.current) same c.turns.ensures.stands;
       known = grants-length _ _ one.grants ∙ before.known;
       served = SameServed-then _ _ _ before.served c.turns.ensures.served;

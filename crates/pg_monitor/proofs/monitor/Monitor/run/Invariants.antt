@@ -10,6 +10,7 @@ use Rattle.pg_monitor.proofs.monitor.Monitor.run.Given as goal
 abbrev pub invariant-loop-turn : goal.invariant-loop-turn
 invariant-loop-turn g l = record {
   machine : l.self.accepted.machine.now ≡ l.initial.self.accepted.machine.now;
+  granted : l.self.granted ≡ l.initial.self.granted;
   stands : Stands l.initial.self.accepted.machine.now.desc (g.H.Hardware.machinery l.hw).state l.self.guests l.self.current;
   known : length l.self.guests ≡ length l.initial.self.guests;
   served : SameServed (g.H.Hardware.serves l.initial.hw) (g.H.Hardware.serves l.hw);

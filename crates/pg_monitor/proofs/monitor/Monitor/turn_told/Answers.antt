@@ -1,7 +1,9 @@
-use Rattle.std.proofs.Common.{ap, ◌∙◌, lit<, slice_set}
+use Rattle.std.proofs.Common.{ap, ◌∙◌, lit<, slice_set, slice_get, List}
 use Rattle.pg_valid.specs.declared.machine.Machine.{Machine}
 use Rattle.pg_hw.specs.Machinery.{Machinery}
 use Rattle.pg_hw.proofs.ServingLaws.{SameServed-then}
+use Rattle.pg_monitor.specs.declared.guest.Guest.{Guest}
+use Rattle.pg_monitor.proofs.OwnLemmas.{owned-set}
 use Rattle.pg_monitor.proofs.GuestLemmas.{Went-machine, moved-machine, Stands-some, Turned-some, turn-kept}
 use Rattle.pg_monitor.proofs.monitor.Monitor.turn_told.Goals as goal
 
@@ -29,3 +31,13 @@ returns-clause-kept g c = λ h is current direct.
     turn-kept m.desc c.args.k _ _ _ c.args.self.now.guests c.args.self.now.current c.select-guest.result h c.args.self.now.accepted.accepted m.valid c.requires.stands c.select-guest.ensures.guest is
     current (ap (λ (h : Machinery). h.state) (c.select-guest.ensures.same current))
     (moved-machine m.desc c.machine-machine.result.now.desc _ _ _ (ap (λ (x : Machine). x.desc) c.machine-machine.ensures.same) c.turn_once-trapped.ensures.direct) direct
+
+pub invariant_of-self : goal.invariant_of-self
+invariant_of-self g c =
+    let m = c.args.self.now.accepted.machine.now in
+    let went = Went-machine m.desc c.machine-machine.result.now.desc _ _ _ c.select-guest.result _ (ap (λ (x : Machine). x.desc) c.machine-machine.ensures.same) c.turn_once-trapped.ensures.went in
+    record {
+      owned = owned-set _ _ c.select-guest.new.self.guests _ c.args.k c.select-guest.result _ c.select-guest.new.self.owned
+          (ap (λ (l : List Guest). slice_get l c.args.k) c.select-guest.ensures.guests ∙ c.select-guest.ensures.guest)
+          (ap (λ (x : Guest). x.base) went.guest) (ap (λ (x : Guest). x.size) went.guest) c.set.ensures;
+    }

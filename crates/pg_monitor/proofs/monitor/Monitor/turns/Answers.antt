@@ -1,6 +1,8 @@
-use Rattle.std.proofs.Common.{ap, ◌∙◌, slice_set, arith}
+use Rattle.std.proofs.Common.{ap, ◌∙◌, slice_set, slice_get, List, arith}
 use Rattle.pg_valid.specs.declared.machine.Machine.{Machine}
 use Rattle.pg_hw.proofs.ServingLaws.{SameServed-then}
+use Rattle.pg_monitor.specs.declared.guest.Guest.{Guest}
+use Rattle.pg_monitor.proofs.OwnLemmas.{owned-set}
 use Rattle.pg_monitor.proofs.GuestLemmas.{Went-machine, Stands-some, Turned-some, Turned-zero}
 use Rattle.pg_monitor.proofs.monitor.Monitor.turns.Goals as goal
 
@@ -24,3 +26,13 @@ returns-clause-turned g c =
 
 pub returns-clause-served : goal.returns-clause-served
 returns-clause-served g c = SameServed-then _ _ _ c.select-guest.ensures.served c.turn_often.ensures.served
+
+pub invariant_of-self : goal.invariant_of-self
+invariant_of-self g c =
+    let m = c.args.self.now.accepted.machine.now in
+    let went = Went-machine m.desc c.machine-machine.result.now.desc _ _ _ c.select-guest.result _ (ap (λ (x : Machine). x.desc) c.machine-machine.ensures.same) c.turn_often.ensures.went in
+    record {
+      owned = owned-set _ _ c.select-guest.new.self.guests _ c.args.k c.select-guest.result _ c.select-guest.new.self.owned
+          (ap (λ (l : List Guest). slice_get l c.args.k) c.select-guest.ensures.guests ∙ c.select-guest.ensures.guest)
+          (ap (λ (x : Guest). x.base) went.guest) (ap (λ (x : Guest). x.size) went.guest) c.set.ensures;
+    }

@@ -1,0 +1,11 @@
+use Rattle.pg_monitor.proofs.ScheduleLemmas.{turns_for-schedule, turns_of-schedule, direct_of-schedule}
+use Rattle.pg_monitor.proofs.laws.schedule_gives_each_its_turns.Goals as goal
+
+pub returns-clause-each_turns : goal.returns-clause-each_turns
+returns-clause-each_turns c = λ count slice n j some below. turns_for-schedule count slice n j below
+
+pub returns-clause-all_turns : goal.returns-clause-all_turns
+returns-clause-all_turns c = λ count slice n some. turns_of-schedule count slice n
+
+pub returns-clause-each_direct : goal.returns-clause-each_direct
+returns-clause-each_direct c = λ d guests states slice n some same. direct_of-schedule d guests slice n states

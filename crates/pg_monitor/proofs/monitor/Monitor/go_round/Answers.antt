@@ -1,0 +1,27 @@
+use Rattle.std.proofs.Common.{length, refl, ap, ◌∙◌, subst, arith}
+use Rattle.pg_valid.specs.declared.machine.Machine.{Machine}
+use Rattle.pg_hw.proofs.ServingLaws.{SameServed-then}
+use Rattle.pg_monitor.specs.Standing.{Stands}
+use Rattle.pg_monitor.proofs.PlanLemmas.{Turned-machine, grants-length}
+use Rattle.pg_monitor.proofs.ScheduleLemmas.{Begun-guest, Begun-same}
+use Rattle.pg_monitor.proofs.monitor.Monitor.go_round.Goals as goal
+
+pub loop-k-preserved : goal.loop-k-preserved
+loop-k-preserved g c =
+    let m = c.args.self.now.accepted.machine.now in
+    let before = c.loop-k.invariant in
+    let same = ap (λ (x : Machine). x.desc) before.machine in
+    let one = Turned-machine m.desc c.loop-k.self.accepted.machine.now.desc _ _ _ _ _ _ _ _ same c.turns.ensures.turned in
+    record {
+      machine = c.turns.ensures.machine ∙ before.machine;
+      granted = c.turns.ensures.granted ∙ before.granted;
+      stands = subst (λ x. Stands x (g.H.Hardware.machinery c.turns.new.hw).state c.turns.new.self.guests c.turns.new.self.current) same c.turns.ensures.stands;
+      number = grants-length _ _ one.grants ∙ before.number;
+      served = SameServed-then _ _ _ before.served c.turns.ensures.served;
+      begun = Begun-guest m.desc c.loop-k.k c.args.turns _ _ _ _ _ _ _ _ _ m.valid before.stands before.begun one;
+    }
+
+pub returns-clause-begun : goal.returns-clause-begun
+returns-clause-begun g c =
+    let d = c.args.self.now.accepted.machine.now.desc in
+    Begun-same d d (length c.args.self.now.guests) c.loop-k.k c.args.turns c.args.turns _ _ _ _ _ _ c.loop-k.invariant.begun refl (omega arith) refl
