@@ -1,0 +1,4 @@
+pub mod FromLemmas
+pub mod BegunLemmas
+pub mod RanLemmas
+pub mod TellLemmas

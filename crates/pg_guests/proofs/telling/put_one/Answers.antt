@@ -1,0 +1,35 @@
+use Rattle.std.proofs.Common.{◌≡◌, ◌++◌, ◌∙◌, ap, sym, subst}
+use Rattle.std.proofs.lemmas.Option.{same_Some}
+use Rattle.pg_ast.specs.declared.tree.Desc.{Desc}
+use Rattle.pg_edge.specs.Sink.{Puts}
+use Rattle.pg_edge.proofs.PutsLaws.{Puts-then, Puts-stopped}
+use Rattle.pg_image.specs.Lines.{state_text}
+use Rattle.pg_monitor.specs.declared.guest.Guest.{Guest}
+use Rattle.pg_monitor.specs.Guests.{virtual}
+use Rattle.pg_monitor.proofs.DirectLemmas.{Holds-within}
+use Rattle.pg_monitor.proofs.GuestLemmas.{Holds-of}
+use Rattle.pg_report.specs.Runs.{guest_line}
+use Rattle.pg_guests.proofs.telling.put_one.Goals as goal
+
+pub put_state-requires-clause-within : goal.put_state-requires-clause-within
+put_state-requires-clause-within g c =
+    let m = c.args.ran.now.monitor in
+    Holds-within m.accepted.machine.now.desc _ c.guest-guest.result
+    (Holds-of m.accepted.machine.now.desc _ m.guests m.current c.args.k c.guest-guest.result c.requires.stands c.guest-guest.ensures)
+
+pub returns-in-Err : goal.returns-in-Err
+returns-in-Err g c = λ h is.
+    Puts-stopped _ _ _ _ (guest_line c.args.k) _ c.in-Err.failed c.in-Err.failed c.in-Err.ensures
+
+pub returns : goal.returns
+returns g c = λ h is.
+    let d = c.args.ran.now.monitor.accepted.machine.now.desc in
+    let cells = (g.H.Hardware.machinery c.args.hw.now).state.cells in
+    let who = c.guest-guest.result in
+    let same : who ≡ h = same_Some who h (sym c.guest-guest.ensures ∙ is) in
+    let width = ap (λ s. s.w) c.shape.ensures.numbers ∙ ap (λ (e : Desc). e.word) c.requires.machine in
+    subst (λ (x : Guest). Puts (g.S.Sink.written c.args.out.now) (g.S.Sink.written c.put_state.new.out) (g.S.Sink.faults c.args.out.now) (g.S.Sink.faults c.put_state.new.out)
+    (guest_line c.args.k ++ state_text d.word (virtual cells x).cells x.psw) c.put_state.result) same
+    (subst (λ w. Puts (g.S.Sink.written c.args.out.now) (g.S.Sink.written c.put_state.new.out) (g.S.Sink.faults c.args.out.now) (g.S.Sink.faults c.put_state.new.out)
+    (guest_line c.args.k ++ state_text w (virtual cells who).cells who.psw) c.put_state.result) width
+    (Puts-then _ _ _ _ _ _ (guest_line c.args.k) _ c.in-Ok.field-0 _ c.in-Ok.ensures c.put_state.ensures))
