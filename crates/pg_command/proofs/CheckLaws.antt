@@ -12,7 +12,7 @@ use Rattle.pg_command.specs.Line.{program}
 use Rattle.pg_command.specs.Check as spec
 use Rattle.pg_command.specs.Check.{HoldsCheck, budget_unsaid, check_of}
 use Rattle.pg_command.specs.declared.check.CheckWords.{CheckWords}
-use Rattle.pg_command.proofs.RowLaws.{AreSingle}
+use Rattle.pg_command.proofs.RowLaws.{AreValued}
 use Rattle.pg_command.proofs.LeafLaws.{MayBeGiven, has_text, leaf_given, leaf_may}
 use Rattle.pg_command.proofs.NumberLaws.{signed_number}
 
@@ -29,12 +29,12 @@ budget = filled spec.budget
 abbrev built_checking : Text → Shape
 built_checking name = built_leaf (inherited program (spec.checking name))
 
-checking_single : (name : Text) → AreSingle (built_checking name).rules (built_checking name).rules
-checking_single name = (
-  record { own = refl; action = refl; range = refl; defaults = refl },
+checking_valued : (name : Text) → AreValued (built_checking name).rules (built_checking name).rules
+checking_valued name = (
+  record { own = refl; action = refl; some = refl; takes = refl; defaults = refl },
   (
-    record { own = refl; action = refl; range = refl; defaults = refl },
-    (record { own = refl; action = refl; range = refl; defaults = refl }, tt),
+    record { own = refl; action = refl; some = refl; takes = refl; defaults = refl },
+    (record { own = refl; action = refl; some = refl; takes = refl; defaults = refl }, tt),
   ),
 )
 
@@ -46,12 +46,12 @@ budget_holds rows (inr given) = inr (signed_number (codes "budget") 1 1000000 ro
 pub checking_holds : (name : Text) (words : List Text) → level_fault (built_checking name) [] nothing_held words false [] ≡ []
     → HoldsCheck (rows_after (built_checking name).rules [] words)
 checking_holds name words none =
-    let given = leaf_given (built_checking name) words (checking_single name) none in
+    let given = leaf_given (built_checking name) words (checking_valued name) none in
     let rows = rows_after (built_checking name).rules [] words in
     record {
       desc = has_text desc rows (given desc refl refl);
       cert = has_text cert rows (given cert refl refl);
-      budget = budget_holds rows (leaf_may (built_checking name) words (checking_single name) none budget refl);
+      budget = budget_holds rows (leaf_may (built_checking name) words (checking_valued name) none budget refl);
     }
 
 -- what the arguments hold is something to ask for

@@ -1,5 +1,5 @@
 -- A command without subcommands that takes its words has a value of each argument that is required.
-use Rattle.std.proofs.Common.{◌≡◌, ◌∙◌, ◌&&◌, ◌||◌, ◌⊎◌, ap, subst, sym, inl, inr, refl, cond, Bool, true, false, not, true≢false, List, [], ◌∷◌, Option, Some, None, unwrap_or}
+use Rattle.std.proofs.Common.{◌≡◌, ◌≤◌, ◌∙◌, ◌&&◌, ◌||◌, ◌⊎◌, ap, subst, sym, inl, inr, refl, cond, Bool, true, false, not, true≢false, List, [], ◌∷◌, length, Option, Some, None, arith, unwrap_or}
 use Rattle.std.specs.Prelude.{find, fold, option_and_then, slice_get}
 use Rattle.std.specs.Option.{option_map_or, is_some}
 use Rattle.std.specs.List.{list_any}
@@ -12,13 +12,13 @@ use Rattle.clap.specs.Simple.{Shape}
 use Rattle.clap.specs.Takes.{is_given, value_passes}
 use Rattle.clap.specs.Kinds.{Kinds, check_kinds}
 use Rattle.clap.specs.Faults.{check_fault, level_fault, settle_fault, walk_fault}
-use Rattle.pg_command.specs.Arguments.{HasText}
-use Rattle.pg_command.proofs.RowLaws.{AllFit, AreSingle, Fits, IsSingle, fault_absurd, no_fault}
+use Rattle.pg_command.specs.Arguments.{HasText, texts_of}
+use Rattle.pg_command.proofs.RowLaws.{AllFit, AreValued, Fits, IsValued, fault_absurd, no_fault}
 use Rattle.pg_command.proofs.WalkLaws.{settle_fits, walk_fits}
 
 -- ---- no argument has a default
 
-adds_nothing : (rules : List Rule) (rows : List Row) (a : Rule) → IsSingle rules a → with_default rows a ≡ rows
+adds_nothing : (rules : List Rule) (rows : List Row) (a : Rule) → IsValued rules a → with_default rows a ≡ rows
 adds_nothing rules rows a s =
     ap (λ (texts : List Text). cond (has_row a.id rows) rows (default_rows a.id (reading_by a) texts rows)) s.defaults ∙ go (has_row a.id rows)
   where
@@ -26,9 +26,9 @@ adds_nothing rules rows a s =
     go true = refl
     go false = refl
 
-no_defaults : (rules xs : List Rule) (rows : List Row) → AreSingle rules xs → fold with_default rows xs ≡ rows
-no_defaults rules [] rows single = refl
-no_defaults rules (a ∷ xs) rows single = no_defaults rules xs (with_default rows a) single.1 ∙ adds_nothing rules rows a single.0
+no_defaults : (rules xs : List Rule) (rows : List Row) → AreValued rules xs → fold with_default rows xs ≡ rows
+no_defaults rules [] rows valued = refl
+no_defaults rules (a ∷ xs) rows valued = no_defaults rules xs (with_default rows a) valued.1 ∙ adds_nothing rules rows a valued.0
 
 -- ---- the last checks
 
@@ -60,12 +60,14 @@ required_given p (x ∷ xs) rows a found none required = go (p x) found (λ rest
 
 -- ---- the value of an argument
 
--- the argument has a value that passed its parser
+-- the argument has a value that passed its parser, and maybe more
 pub record IsGiven (a : Rule) (rows : List Row) : Type 0 where
   pub text : Text
+  pub more : List Text
   pub passes : value_passes a text ≡ true
   pub is_first : first_of a.id rows ≡ Some text
   pub is_one : one_of a.id rows ≡ Some (read_as (reading_by a) text)
+  pub are_all : texts_of a.id rows ≡ text ∷ more
 
 found_fits : (rules : List Rule) (id : Text) (rows : List Row) (r : Row) → AllFit rules rows → find (λ x. bytes_eq x.id id) rows ≡ Some r
     → Fits rules r × (bytes_eq r.id id ≡ true)
@@ -95,9 +97,11 @@ one_value rules rows a own fits = go (find (λ r. bytes_eq r.id a.id) rows) (λ 
         let first : slice_get r.values 0 ≡ Some f.first = ap (λ (vs : List Text). slice_get vs 0) f.are_values in
         record {
           text = f.first;
+          more = f.more;
           passes = f.passes;
           is_first = ap (option_and_then (λ (x : Row). slice_get x.values 0)) is ∙ first;
           is_one = ap (option_and_then row_text) is ∙ ap (Rattle.std.specs.Prelude.option_map (read_as r.reading)) first ∙ ap (λ how. Some (read_as how f.first)) f.reading;
+          are_all = ap (λ (o : Option Row). unwrap_or (Rattle.std.specs.Prelude.option_map (λ x. x.values) o) []) is ∙ f.are_values;
         })
 
 given_value : (rows : List Row) (a : Rule) → MayBeGiven a rows → is_given a.id rows ≡ true → IsGiven a rows
@@ -107,6 +111,10 @@ given_value rows a (inr value) given = value
 -- so it has a text
 pub has_text : (a : Rule) (rows : List Row) → IsGiven a rows → HasText a.id rows
 has_text a rows g = ap is_some g.is_first
+
+-- and its texts are one at least
+pub has_texts : (a : Rule) (rows : List Row) → IsGiven a rows → 1 ≤ length (texts_of a.id rows)
+has_texts a rows g = rw g.are_all (omega arith)
 
 -- ---- all of a command
 
@@ -125,27 +133,27 @@ sound_level s names words has below none =
     let r = no_fault _ _ q.1 in
     record { words_pass = p.0; below_passes = q.0; last_passes = r.0; is_checked = (no_fault _ _ r.1).1 }
 
-leaf_fits : (s : Shape) (words : List Text) → AreSingle s.rules s.rules → IsSound s [] words false [] → AllFit s.rules (rows_after s.rules [] words)
-leaf_fits s words single sound =
+leaf_fits : (s : Shape) (words : List Text) → AreValued s.rules s.rules → IsSound s [] words false [] → AllFit s.rules (rows_after s.rules [] words)
+leaf_fits s words valued sound =
     let end = (walk s.rules [] nothing_held words).held in
-    let walked = walk_fits s (walk_from nothing_held) words single sound.words_pass tt in
-    let fits = settle_fits s.rules s.args_override_self end single sound.last_passes walked in
-    subst (AllFit s.rules) (sym (no_defaults s.rules s.rules (settled s.rules end).rows single)) fits
+    let walked = walk_fits s (walk_from nothing_held) words valued sound.words_pass tt in
+    let fits = settle_fits s.rules s.args_override_self end valued sound.last_passes walked in
+    subst (AllFit s.rules) (sym (no_defaults s.rules s.rules (settled s.rules end).rows valued)) fits
 
 -- each argument has no row, or a value that passed its parser
-pub leaf_may : (s : Shape) (words : List Text) → AreSingle s.rules s.rules → level_fault s [] nothing_held words false [] ≡ []
+pub leaf_may : (s : Shape) (words : List Text) → AreValued s.rules s.rules → level_fault s [] nothing_held words false [] ≡ []
     → (a : Rule) → arg_by_id s.rules a.id ≡ Some a → MayBeGiven a (rows_after s.rules [] words)
-leaf_may s words single none a own =
-    one_value s.rules (rows_after s.rules [] words) a own (leaf_fits s words single (sound_level s [] words false [] none))
+leaf_may s words valued none a own =
+    one_value s.rules (rows_after s.rules [] words) a own (leaf_fits s words valued (sound_level s [] words false [] none))
 
 -- and a value, where it is required
-pub leaf_given : (s : Shape) (words : List Text) → AreSingle s.rules s.rules → level_fault s [] nothing_held words false [] ≡ []
+pub leaf_given : (s : Shape) (words : List Text) → AreValued s.rules s.rules → level_fault s [] nothing_held words false [] ≡ []
     → (a : Rule) → arg_by_id s.rules a.id ≡ Some a → a.required ≡ true → IsGiven a (rows_after s.rules [] words)
-leaf_given s words single none a own required =
+leaf_given s words valued none a own required =
     let sound = sound_level s [] words false [] none in
     let rows = rows_after s.rules [] words in
     let checked = check_passes _ _ _ sound.is_checked in
-    given_value rows a (leaf_may s words single none a own) (required_given _ s.rules rows a own (none_missing s.subcommand_negates_reqs _ checked.1) required)
+    given_value rows a (leaf_may s words valued none a own) (required_given _ s.rules rows a own (none_missing s.subcommand_negates_reqs _ checked.1) required)
 
 wanted : (needs has : Bool) → needs ≡ true → (not has && needs) ≡ false → has ≡ true
 wanted needs true is e = refl

@@ -1,12 +1,15 @@
 mod AnswerLaws
+mod BareLaws
 mod CheckLaws
 mod LeafLaws
 mod LineLaws
 mod MigrateLaws
+mod NamedLaws
 mod NumberLaws
 mod PrintLaws
 mod ReplayLaws
 mod RowLaws
+mod RunLaws
 mod RunningLaws
 mod VerifyLaws
 mod WalkLaws

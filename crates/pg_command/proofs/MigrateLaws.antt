@@ -10,7 +10,7 @@ use Rattle.pg_command.specs.Line.{program}
 use Rattle.pg_command.specs.Migrate as spec
 use Rattle.pg_command.specs.Migrate.{HoldsMigrate, migrate_of}
 use Rattle.pg_command.specs.declared.migrate.MigrateWords.{MigrateWords}
-use Rattle.pg_command.proofs.RowLaws.{AreSingle}
+use Rattle.pg_command.proofs.RowLaws.{AreValued}
 use Rattle.pg_command.proofs.LeafLaws.{has_text, leaf_given}
 
 abbrev desc : Rule
@@ -25,18 +25,18 @@ file = with_index 3 (filled (place (codes "FILE")))
 abbrev built_migrate : Shape
 built_migrate = built_leaf (inherited program spec.migrate.shape)
 
-migrate_single : AreSingle built_migrate.rules built_migrate.rules
-migrate_single = (
-  record { own = refl; action = refl; range = refl; defaults = refl },
+migrate_valued : AreValued built_migrate.rules built_migrate.rules
+migrate_valued = (
+  record { own = refl; action = refl; some = refl; takes = refl; defaults = refl },
   (
-    record { own = refl; action = refl; range = refl; defaults = refl },
-    (record { own = refl; action = refl; range = refl; defaults = refl }, tt),
+    record { own = refl; action = refl; some = refl; takes = refl; defaults = refl },
+    (record { own = refl; action = refl; some = refl; takes = refl; defaults = refl }, tt),
   ),
 )
 
 pub migrate_holds : (words : List Text) → level_fault built_migrate [] nothing_held words false [] ≡ [] → HoldsMigrate (rows_after built_migrate.rules [] words)
 migrate_holds words none =
-    let given = leaf_given built_migrate words migrate_single none in
+    let given = leaf_given built_migrate words migrate_valued none in
     let rows = rows_after built_migrate.rules [] words in
     record {
       desc = has_text desc rows (given desc refl refl);

@@ -10,7 +10,7 @@ use Rattle.pg_command.specs.Line.{program}
 use Rattle.pg_command.specs.Print as spec
 use Rattle.pg_command.specs.Print.{HoldsPrint, print_of}
 use Rattle.pg_command.specs.declared.print.PrintWords.{PrintWords}
-use Rattle.pg_command.proofs.RowLaws.{AreSingle}
+use Rattle.pg_command.proofs.RowLaws.{AreValued}
 use Rattle.pg_command.proofs.LeafLaws.{has_text, leaf_given}
 
 abbrev desc : Rule
@@ -19,12 +19,12 @@ desc = with_index 1 (filled (place (codes "DESC")))
 abbrev built_print : Shape
 built_print = built_leaf (inherited program spec.print.shape)
 
-print_single : AreSingle built_print.rules built_print.rules
-print_single = (record { own = refl; action = refl; range = refl; defaults = refl }, tt)
+print_valued : AreValued built_print.rules built_print.rules
+print_valued = (record { own = refl; action = refl; some = refl; takes = refl; defaults = refl }, tt)
 
 pub print_holds : (words : List Text) → level_fault built_print [] nothing_held words false [] ≡ [] → HoldsPrint (rows_after built_print.rules [] words)
 print_holds words none =
-    record { desc = has_text desc (rows_after built_print.rules [] words) (leaf_given built_print words print_single none desc refl refl) }
+    record { desc = has_text desc (rows_after built_print.rules [] words) (leaf_given built_print words print_valued none desc refl refl) }
 
 -- what the arguments of `print` hold is something to ask for
 pub print_asks : (rows : List Row) → HoldsPrint rows → is_some (print_of rows) ≡ true

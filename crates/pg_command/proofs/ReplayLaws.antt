@@ -10,7 +10,7 @@ use Rattle.pg_command.specs.Line.{program}
 use Rattle.pg_command.specs.Replay as spec
 use Rattle.pg_command.specs.Replay.{HoldsReplay, replay_of}
 use Rattle.pg_command.specs.declared.replay.ReplayWords.{ReplayWords}
-use Rattle.pg_command.proofs.RowLaws.{AreSingle}
+use Rattle.pg_command.proofs.RowLaws.{AreValued}
 use Rattle.pg_command.proofs.LeafLaws.{has_text, leaf_given}
 
 abbrev desc : Rule
@@ -22,15 +22,15 @@ cert = with_index 2 (filled (place (codes "CERT")))
 abbrev built_replay : Shape
 built_replay = built_leaf (inherited program spec.replay.shape)
 
-replay_single : AreSingle built_replay.rules built_replay.rules
-replay_single = (
-  record { own = refl; action = refl; range = refl; defaults = refl },
-  (record { own = refl; action = refl; range = refl; defaults = refl }, tt),
+replay_valued : AreValued built_replay.rules built_replay.rules
+replay_valued = (
+  record { own = refl; action = refl; some = refl; takes = refl; defaults = refl },
+  (record { own = refl; action = refl; some = refl; takes = refl; defaults = refl }, tt),
 )
 
 pub replay_holds : (words : List Text) → level_fault built_replay [] nothing_held words false [] ≡ [] → HoldsReplay (rows_after built_replay.rules [] words)
 replay_holds words none =
-    let given = leaf_given built_replay words replay_single none in
+    let given = leaf_given built_replay words replay_valued none in
     let rows = rows_after built_replay.rules [] words in
     record { desc = has_text desc rows (given desc refl refl); cert = has_text cert rows (given cert refl refl) }
 

@@ -1,17 +1,15 @@
--- What the rows of a walk hold, where each argument takes one value.
-use Rattle.std.proofs.Common.{◌≡◌, ◌∙◌, ◌++◌, ◌==◌, ◌<◌, ap, ap₂, subst, sym, refl, cond, Bool, true, false, not, true≢false, ℕ, List, [], ◌∷◌, length, Some, arith, unwrap_or}
+-- What the rows of a walk hold, where each use of an argument gives it a value.
+use Rattle.std.proofs.Common.{◌≡◌, ◌∙◌, ◌++◌, ap, subst, sym, refl, cond, Bool, true, false, true≢false, ℕ, List, [], ◌∷◌, length, nat_lt, Some, unwrap_or}
 use Rattle.std.specs.Prelude.{find}
 use Rattle.std.specs.Option.{option_map_or}
 use Rattle.std.specs.Str.{bytes_eq}
-use Rattle.std.proofs.lemmas.Bool.{ne_eqb}
 use Rattle.clap.specs.Facts.{unwrap_or_range}
 use Rattle.clap.specs.Walk.{Row, Rule, Text, action_of, arg_by_id, at_row, more_values, reading_by, takes_values, used, used_as, values_or_missing, with_values, without}
 use Rattle.clap.specs.Takes.{value_passes}
 use Rattle.clap.specs.Kinds.{Kinds, or_else, range_kinds}
-use Rattle.clap.specs.Faults.{action_fault, set_fault, use_fault, values_fault}
+use Rattle.clap.specs.Faults.{action_fault, use_fault, values_fault}
 use Rattle.clap.specs.declared.builder.action.ArgAction.{ArgAction}
-use Rattle.clap.specs.declared.builder.action.ArgAction.TheVariants.{Set}
-use Rattle.clap.specs.declared.builder.range.ValueRange.{ValueRange}
+use Rattle.clap.specs.declared.builder.action.ArgAction.TheVariants.{Append, Count, Help, HelpLong, HelpShort, Set, SetFalse, SetTrue, Version}
 use Rattle.clap.specs.declared.error.kind.ErrorKind.{ErrorKind}
 use Rattle.clap.specs.declared.parser.matches.ValueSource.TheVariants.{CommandLine}
 
@@ -31,29 +29,33 @@ no_fault (k ∷ ks) b e = absurd (cons≢nil k ks e)
 pub fault_absurd : (k : ErrorKind) (ks : Kinds) → k ∷ ks ≡ [] → ⊥
 fault_absurd k ks e = cons≢nil k ks e
 
--- ---- arguments of one value
+-- ---- arguments with values
 
--- the argument is the one of its id, and takes one value, once
-pub record IsSingle (rules : List Rule) (a : Rule) : Type 0 where
+-- a use leaves its values in the argument's row, alone or after those of earlier uses
+abbrev pub keeps_values : ArgAction → Bool
+keeps_values Set = true
+keeps_values Append = true
+keeps_values _ = false
+
+-- the argument is the one of its id, and each use gives it one value at least
+pub record IsValued (rules : List Rule) (a : Rule) : Type 0 where
   pub own : arg_by_id rules a.id ≡ Some a
-  pub action : action_of a ≡ Set
-  pub range : unwrap_or_range a.range ≡ record { start_inclusive = 1; end_inclusive = 1 }
+  pub action : keeps_values (action_of a) ≡ true
+  pub some : nat_lt 0 (unwrap_or_range a.range).start_inclusive ≡ true
+  pub takes : takes_values a ≡ true
   pub defaults : a.defaults ≡ []
 
-abbrev pub AreSingle : List Rule → List Rule → Type 0
-AreSingle rules [] = Unit {0}
-AreSingle rules (a ∷ more) = IsSingle rules a × AreSingle rules more
+abbrev pub AreValued : List Rule → List Rule → Type 0
+AreValued rules [] = Unit {0}
+AreValued rules (a ∷ more) = IsValued rules a × AreValued rules more
 
-pub found_single : (rules : List Rule) (p : Rule → Bool) (xs : List Rule) (a : Rule) → AreSingle rules xs → find p xs ≡ Some a → IsSingle rules a
-found_single rules p [] a h e = absurd (true≢false (sym (ap (λ o. Rattle.std.specs.Option.is_some o) e)))
-found_single rules p (x ∷ xs) a h e = go (p x) e (λ rest. found_single rules p xs a h.1 rest)
+pub found_valued : (rules : List Rule) (p : Rule → Bool) (xs : List Rule) (a : Rule) → AreValued rules xs → find p xs ≡ Some a → IsValued rules a
+found_valued rules p [] a h e = absurd (true≢false (sym (ap (λ o. Rattle.std.specs.Option.is_some o) e)))
+found_valued rules p (x ∷ xs) a h e = go (p x) e (λ rest. found_valued rules p xs a h.1 rest)
   where
-    go : (b : Bool) → cond b (Some x) (find p xs) ≡ Some a → (find p xs ≡ Some a → IsSingle rules a) → IsSingle rules a
-    go true e rec = subst (IsSingle rules) (ap (λ o. unwrap_or o x) e) h.0
+    go : (b : Bool) → cond b (Some x) (find p xs) ≡ Some a → (find p xs ≡ Some a → IsValued rules a) → IsValued rules a
+    go true e rec = subst (IsValued rules) (ap (λ o. unwrap_or o x) e) h.0
     go false e rec = rec e
-
-pub takes_value : (rules : List Rule) (a : Rule) → IsSingle rules a → takes_values a ≡ true
-takes_value rules a s = ap (λ (r : ValueRange). not (r.end_inclusive == 0)) s.range
 
 -- ---- rows
 
@@ -85,14 +87,14 @@ at_row_fit rules id change missing (r ∷ rows) h changed new = go (bytes_eq r.i
     go true rec = both_fit rules (change r) rows (changed r h.0) h.1
     go false rec = (h.0, rec)
 
-with_values_fit : (rules : List Rule) (a : Rule) (v : Text) (rows : List Row) → IsSingle rules a → value_passes a v ≡ true → AllFit rules rows
-    → AllFit rules (with_values a.id (reading_by a) CommandLine (v ∷ []) rows)
-with_values_fit rules a v rows s passes h = at_row_fit rules a.id (more_values CommandLine (v ∷ [])) _ rows h
+with_values_fit : (rules : List Rule) (a : Rule) (v : Text) (vs : List Text) (rows : List Row) → IsValued rules a → value_passes a v ≡ true → AllFit rules rows
+    → AllFit rules (with_values a.id (reading_by a) CommandLine (v ∷ vs) rows)
+with_values_fit rules a v vs rows s passes h = at_row_fit rules a.id (more_values CommandLine (v ∷ vs)) _ rows h
     (λ r fits. (
       λ b found. let old = fits b found in record {
         first = old.first;
-        more = old.more ++ v ∷ [];
-        are_values = ap (λ vs. vs ++ v ∷ []) old.are_values;
+        more = old.more ++ v ∷ vs;
+        are_values = ap (λ xs. xs ++ v ∷ vs) old.are_values;
         passes = old.passes;
         reading = old.reading;
       },
@@ -100,7 +102,7 @@ with_values_fit rules a v rows s passes h = at_row_fit rules a.id (more_values C
     )) (
       λ b found. let same : a ≡ b = ap (λ o. unwrap_or o a) (sym s.own ∙ found) in record {
         first = v;
-        more = [];
+        more = vs;
         are_values = refl;
         passes = subst (λ (x : Rule). value_passes x v ≡ true) same passes;
         reading = ap reading_by same;
@@ -110,35 +112,37 @@ with_values_fit rules a v rows s passes h = at_row_fit rules a.id (more_values C
 
 -- ---- one use
 
-one_value : (values : List Text) → range_kinds 1 1 (length values) ≡ [] → (v : Text) × (values ≡ v ∷ [])
-one_value [] e = absurd (fault_absurd _ _ e)
-one_value (v ∷ []) e = (v, refl)
-one_value (v ∷ w ∷ vs) e = absurd (go (length (v ∷ w ∷ vs)) (omega arith) e)
-  where
-    go : (n : ℕ) → 1 < n → range_kinds 1 1 n ≡ [] → ⊥
-    go n more e =
-        let not_none : (n == 0) ≡ false = ne_eqb n 0 (omega arith) in
-        let not_one : (1 == n) ≡ false = ne_eqb 1 n (omega arith) in
-        fault_absurd _ _ (rw (not_none, not_one) at e)
+some_value : (least most : ℕ) (values : List Text) → nat_lt 0 least ≡ true → range_kinds least most (length values) ≡ []
+    → (v : Text) × (vs : List Text) × (values ≡ v ∷ vs)
+some_value least most [] some e = absurd (fault_absurd _ _ (rw some at e))
+some_value least most (v ∷ vs) some e = (v, vs, refl)
 
-passing : (a : Rule) (v : Text) → values_fault a (v ∷ []) ≡ [] → value_passes a v ≡ true
-passing a v e = go (value_passes a v) _ (no_fault _ _ e).0
+passing : (a : Rule) (v : Text) (vs : List Text) → values_fault a (v ∷ vs) ≡ [] → value_passes a v ≡ true
+passing a v vs e = go (value_passes a v) _ (no_fault _ _ e).0
   where
     go : (b : Bool) (k : ErrorKind) → cond b [] (k ∷ []) ≡ [] → b ≡ true
     go true k e = refl
     go false k e = absurd (fault_absurd _ _ e)
 
+kept_fits : (rules : List Rule) (again : Bool) (a : Rule) (v : Text) (vs : List Text) (rows : List Row) (x : ArgAction) → IsValued rules a → keeps_values x ≡ true
+    → action_fault x again a (v ∷ vs) rows ≡ [] → AllFit rules rows → AllFit rules (used_as x a.id (reading_by a) (v ∷ vs) rows)
+kept_fits rules again a v vs rows Set s keeps none h = with_values_fit rules a v vs (without a.id rows) s (passing a v vs (no_fault _ _ none).1)
+    (at_row_fit rules a.id (λ _. []) [] rows h (λ r fits. tt) tt)
+kept_fits rules again a v vs rows Append s keeps none h = with_values_fit rules a v vs rows s (passing a v vs none) h
+kept_fits rules again a v vs rows SetTrue s keeps none h = absurd (true≢false (sym keeps))
+kept_fits rules again a v vs rows SetFalse s keeps none h = absurd (true≢false (sym keeps))
+kept_fits rules again a v vs rows Count s keeps none h = absurd (true≢false (sym keeps))
+kept_fits rules again a v vs rows Help s keeps none h = absurd (true≢false (sym keeps))
+kept_fits rules again a v vs rows HelpShort s keeps none h = absurd (true≢false (sym keeps))
+kept_fits rules again a v vs rows HelpLong s keeps none h = absurd (true≢false (sym keeps))
+kept_fits rules again a v vs rows Version s keeps none h = absurd (true≢false (sym keeps))
+
 -- a use with no fault leaves fitting rows
-pub use_fits : (rules : List Rule) (again : Bool) (a : Rule) (values : List Text) (rows : List Row) → IsSingle rules a
+pub use_fits : (rules : List Rule) (again : Bool) (a : Rule) (values : List Text) (rows : List Row) → IsValued rules a
     → use_fault again a values rows ≡ [] → AllFit rules rows → AllFit rules (used a values rows)
 use_fits rules again a values rows s none h =
-    let at_one : use_fault again a values rows ≡ or_else (range_kinds 1 1 (length values)) (set_fault again a (values_or_missing a values) rows) =
-    ap₂ (λ (r : ValueRange) (x : ArgAction). or_else (range_kinds r.start_inclusive r.end_inclusive (length values)) (action_fault x again a (values_or_missing a values) rows)) s.range s.action in
-    let parts = no_fault _ _ (sym at_one ∙ none) in
-    let one = one_value values parts.0 in
-    let rest = subst (λ (vs : List Text). set_fault again a (values_or_missing a vs) rows ≡ []) one.1 parts.1 in
-    let passes = passing a one.0 (no_fault _ _ rest).1 in
-    let is : with_values a.id (reading_by a) CommandLine (one.0 ∷ []) (without a.id rows) ≡ used a values rows =
-    ap₂ (λ (x : ArgAction) (vs : List Text). used_as x a.id (reading_by a) (values_or_missing a vs) rows) (sym s.action) (sym one.1) in
-    subst (AllFit rules) is (with_values_fit rules a one.0 (without a.id rows) s passes
-    (at_row_fit rules a.id (λ _. []) [] rows h (λ r fits. tt) tt))
+    let parts = no_fault _ _ none in
+    let first = some_value _ _ values s.some parts.0 in
+    let fine = subst (λ (vs : List Text). action_fault (action_of a) again a (values_or_missing a vs) rows ≡ []) first.2 parts.1 in
+    subst (λ (vs : List Text). AllFit rules (used_as (action_of a) a.id (reading_by a) (values_or_missing a vs) rows)) (sym first.2)
+    (kept_fits rules again a first.0 first.1 rows (action_of a) s s.action fine h)

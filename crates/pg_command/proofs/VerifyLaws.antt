@@ -10,7 +10,7 @@ use Rattle.pg_command.specs.Line.{program}
 use Rattle.pg_command.specs.Verify as spec
 use Rattle.pg_command.specs.Verify.{HoldsVerify, verify_of}
 use Rattle.pg_command.specs.declared.verify.VerifyWords.{VerifyWords}
-use Rattle.pg_command.proofs.RowLaws.{AreSingle}
+use Rattle.pg_command.proofs.RowLaws.{AreValued}
 use Rattle.pg_command.proofs.LeafLaws.{has_text, leaf_given}
 
 abbrev desc : Rule
@@ -22,15 +22,15 @@ cert = with_index 2 (filled (place (codes "CERT")))
 abbrev built_verify : Shape
 built_verify = built_leaf (inherited program spec.verify.shape)
 
-verify_single : AreSingle built_verify.rules built_verify.rules
-verify_single = (
-  record { own = refl; action = refl; range = refl; defaults = refl },
-  (record { own = refl; action = refl; range = refl; defaults = refl }, tt),
+verify_valued : AreValued built_verify.rules built_verify.rules
+verify_valued = (
+  record { own = refl; action = refl; some = refl; takes = refl; defaults = refl },
+  (record { own = refl; action = refl; some = refl; takes = refl; defaults = refl }, tt),
 )
 
 pub verify_holds : (words : List Text) → level_fault built_verify [] nothing_held words false [] ≡ [] → HoldsVerify (rows_after built_verify.rules [] words)
 verify_holds words none =
-    let given = leaf_given built_verify words verify_single none in
+    let given = leaf_given built_verify words verify_valued none in
     let rows = rows_after built_verify.rules [] words in
     record { desc = has_text desc rows (given desc refl refl); cert = has_text cert rows (given cert refl refl) }
 

@@ -1,8 +1,9 @@
 -- The arguments that commands are made of: their rules, their values, and what they hold once their words were taken.
-use Rattle.std.specs.Prelude.{◌≡◌, ◌≤◌, ◌⊎◌, ℕ, List, Option, Some, None, true, is_some, option_and_then}
+use Rattle.std.specs.Prelude.{◌≡◌, ◌≤◌, ◌⊎◌, ℕ, List, [], Option, Some, None, true, is_some, option_and_then, unwrap_or}
 use Rattle.std.specs.Option.{option_map_or}
 use Rattle.std.specs.Str.Parse.{IsNumeral, digits_value, without_leading_plus}
-use Rattle.clap.specs.Walk.{Row, Rule, Text, first_of, one_of}
+use Rattle.clap.specs.Lexer.{usize_max}
+use Rattle.clap.specs.Walk.{Row, Rule, Text, all_of, first_of, one_of}
 use Rattle.clap.specs.Simple.{new_rule}
 use Rattle.clap.specs.declared.builder.value_parser.ValueParser.{ValueParser}
 
@@ -11,6 +12,10 @@ use Rattle.clap.specs.declared.builder.value_parser.ValueParser.{ValueParser}
 -- a text in its place, which has to be there
 abbrev pub place : Text → Rule
 place name = record (new_rule name) { required = true }
+
+-- texts in their place, of which one has to be there at least
+abbrev pub places : Text → Rule
+places name = record (place name) { range = Some (record { start_inclusive = 1; end_inclusive = usize_max }) }
 
 -- a text after `--name`, which has to be there
 abbrev pub named : Text → Rule
@@ -29,6 +34,10 @@ option name numbers = record (new_rule name) { long = Some name; parser = Some n
 -- the number that a text writes in decimal digits
 abbrev pub number_of : Text → ℕ
 number_of text = digits_value 10 (without_leading_plus text)
+
+-- all the values of an argument, and none where the words have none
+abbrev pub texts_of : Text → List Row → List Text
+texts_of id rows = unwrap_or (all_of id rows) []
 
 -- what is made of the value of an argument, where it has one
 abbrev pub with_text : {X : Type 0} → Text → List Row → (Text → Option X) → Option X

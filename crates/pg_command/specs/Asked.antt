@@ -1,5 +1,5 @@
 -- What the words of a command line ask for.
-use Rattle.std.specs.Prelude.{List, [], ◌∷◌, Option, None, cond, option_and_then}
+use Rattle.std.specs.Prelude.{◌≡◌, List, [], ◌∷◌, Option, Some, None, codes, cond, option_and_then}
 use Rattle.std.specs.Str.{bytes_eq}
 use Rattle.clap.specs.Walk.{Row, Text}
 use Rattle.clap.specs.Simple.{subcommand_of}
@@ -7,6 +7,7 @@ use Rattle.clap.specs.Faults.{fault_of}
 use Rattle.clap.specs.Kinds.{Kinds}
 use Rattle.pg_command.specs.Entries.{Entry}
 use Rattle.pg_command.specs.Line.{commands, line}
+use Rattle.pg_command.specs.Run.{HasTooManyImages}
 use Rattle.pg_command.specs.declared.ask.Request.{Request}
 
 -- what the command of a name asks for, by the values of its arguments
@@ -23,6 +24,12 @@ unless_fault [] asked = asked
 unless_fault (fault ∷ more) asked = None
 
 -- what the words ask for, of which the first is the program's name: nothing where the line refuses them, and else
--- what the command that they name asks for
+-- what the command that they name asks for, which is nothing where `run` is named with too many images
 unfoldable pub request_of : List Text → Option Request
 request_of words = unless_fault (fault_of line words) (named_as (subcommand_of line words))
+
+-- the words name `run`, with more than 8 images
+pub record NamesTooManyImages (words : List Text) : Type 0 where
+  pub rows : List Row
+  pub is_run : subcommand_of line words ≡ Some (codes "run", rows)
+  pub are_too_many : HasTooManyImages rows

@@ -2,9 +2,10 @@
 //!
 //! A parse that succeeds has given each argument that has to be there a value, and each number passed its range. What is
 //! read here requires that of the matches, and takes the values without a test.
-ghost use Rattle.std.specs.Prelude.{◌≡◌, IfOk, Some, false, string_bytes};
+ghost use Rattle.std.specs.Prelude.{◌≡◌, ◌≤◌, IfOk, Some, false, length, map, string_bytes};
 ghost use Rattle.clap.specs.Words.{found_of, rows_of, rule_of, first_of};
 ghost use Rattle.pg_command.specs.Arguments as spec;
+ghost use Rattle.pg_command.specs.Arguments.{texts_of};
 
 use crate::values::FileName;
 use clap::builder::ValueParser;
@@ -17,6 +18,14 @@ pub(crate) fn place<'a>(alloc: Global, name: &'a str) -> Arg<'a>
     ensures local { result.global ≡ false }
 {
     Arg::new(alloc, name).required(true)
+}
+
+/// Texts in their place, of which one has to be there at least.
+pub(crate) fn places<'a>(alloc: Global, name: &'a str) -> Arg<'a>
+    ensures rule { rule_of result ≡ spec.places name.entry.now }
+    ensures local { result.global ≡ false }
+{
+    place(alloc, name).num_args(1..)
 }
 
 /// A text after `--name`, which has to be there.
@@ -64,4 +73,12 @@ fn text(alloc: Global, matches: &ArgMatches<'_>, id: &str) -> Result<String, All
     ensures { IfOk result (λ s. first_of id.now (rows_of (found_of matches.now)) ≡ Some (string_bytes s)) }
 {
     String::from_str(alloc, matches.get_str(id).unwrap())
+}
+
+/// All the texts of an argument, as they stand among the words.
+pub(crate) fn texts<'m>(matches: &'m ArgMatches<'_>, id: &str) -> &'m [&'m str]
+    requires { 1 ≤ length (texts_of id.now (rows_of (found_of matches.now))) }
+    ensures { map (λ text. text.now) result.now ≡ texts_of id.now (rows_of (found_of matches.now)) }
+{
+    matches.get_strs(id).unwrap()
 }

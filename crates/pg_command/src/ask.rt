@@ -1,25 +1,26 @@
 //! What a command line asks for, and why there is nothing that it asks for.
 //!
 //! Contracts see a request as plain data: the names in it as their bytes, and the numbers as what they are.
+use crate::bare::BareWords;
 use crate::check::CheckWords;
 use crate::migrate::MigrateWords;
 use crate::print::PrintWords;
 use crate::replay::ReplayWords;
-use crate::running::RunWords;
+use crate::run::RunWords;
 use crate::verify::VerifyWords;
 
 /// What the words ask for.
 #[derive(Drop)]
 pub enum Request {
     /// `bare`: run an image on a bare machine.
-    Bare(RunWords),
+    Bare(BareWords),
     /// `check`: classify each instruction of a description, and save the certificate.
     Check(CheckWords),
     /// `verify`: check a certificate against a description.
     Verify(VerifyWords),
     /// `replay`: show the states of a certificate, each with the step from it.
     Replay(ReplayWords),
-    /// `run`: run an image as a guest under a monitor.
+    /// `run`: run images as guests under a monitor.
     Run(RunWords),
     /// `print`: print a description.
     Print(PrintWords),

@@ -3,12 +3,13 @@
 //! [`request`] says what the words of a command line ask for, as a [`Request`] with one variant a command.
 //! Which words it takes is said by a description of the line alone, its commands and their arguments, under
 //! the rules of `clap`: how options and values are written, in which order, how often, and which numbers
-//! they may be. Nothing is added to those rules, and nothing is taken away. The line has no word for help or
-//! for a version, so a user who asks for either is refused like one who mistypes a command.
+//! they may be. One refusal is added to those rules, that of more than 8 images after `run`, and nothing is taken away. The
+//! line has no word for help or for a version, so a user who asks for either is refused like one who mistypes a command.
 //!
-//! A request is handed out only where the line takes the words, and a refusal only where it does not. That a
-//! line which was taken has each argument that has to be there, and numbers within their bounds, is proved
-//! of `clap`'s rules and not tested again, so the only other answer is that there was no memory.
+//! A request is handed out only where the line takes the words and names no more images than may be, and a refusal only
+//! where it does not. That a line which was taken has each argument that has to be there, one image at least, and numbers
+//! within their bounds, is proved of `clap`'s rules and not tested again, so the only other answer is that there was no
+//! memory.
 //!
 //! A command is a module of its own, as [`print`](PrintWords): what it adds to the line, and what its arguments ask for. A
 //! command more is such a module in the code, in the definitions and among the laws, each named in its `Lib.antt`; a variant
@@ -16,10 +17,10 @@
 //! (`specs/Line.antt`), and the two laws of each command (`proofs/CommandLaws.antt`).
 #![tactic(auto)]
 
-ghost use Rattle.std.specs.Prelude.{◌≡◌, ◌≢◌, ◌↔◌, IfOk, IsErrOf, Some, None, [], map, string_bytes};
+ghost use Rattle.std.specs.Prelude.{◌≡◌, ◌≢◌, ◌↔◌, ◌⊎◌, IfOk, IsErrOf, Some, None, [], map, string_bytes};
 ghost use Rattle.clap.specs.Faults.{fault_of};
 ghost use Rattle.clap.specs.declared.error.kind.ErrorKind.TheVariants.{OutOfMemory};
-ghost use Rattle.pg_command.specs.Asked.{request_of};
+ghost use Rattle.pg_command.specs.Asked.{NamesTooManyImages, request_of};
 ghost use Rattle.pg_command.specs.Line.{line};
 ghost use Rattle.pg_command.specs.declared.ask.Fault.TheVariants.{Memory, Refused};
 
@@ -38,26 +39,29 @@ mod values;
 mod verify;
 
 pub use ask::{Fault, Request};
+pub use bare::BareWords;
 pub use check::CheckWords;
 use clap::error::ErrorKind;
 use line::{asked, command_line};
 pub use migrate::MigrateWords;
 pub use print::PrintWords;
 pub use replay::ReplayWords;
-pub use running::RunWords;
+pub use run::RunWords;
 use std::alloc::Global;
-pub use values::{Budget, FileName, Grant, Steps};
+pub use values::{Budget, FileName, Grant, Images, Slice, Steps};
 pub use verify::VerifyWords;
 
 /// What the words ask for, of which the first is the program's name.
 ///
 /// # Errors
-/// `Refused` where the command line takes no such words, and `Memory` where there is no memory to read them.
+/// `Refused` where the command line takes no such words, or `run` is named with more than 8 images, and `Memory` where there
+/// is no memory to read them.
 pub fn request(alloc: Global, words: &[String]) -> Result<Request, Fault>
     ensures ok { IfOk result (λ r. request_of (map string_bytes words.now) ≡ Some r) }
     ensures refused { IsErrOf result Refused → request_of (map string_bytes words.now) ≡ None }
-    // nothing is asked for exactly where the rules of `clap` refuse the line
-    ensures faults { (request_of (map string_bytes words.now) ≡ None) ↔ (fault_of line (map string_bytes words.now) ≢ []) }
+    // nothing is asked for exactly where the rules of `clap` refuse the line, or `run` is named with more than 8 images
+    ensures faults { (request_of (map string_bytes words.now) ≡ None)
+        ↔ ((fault_of line (map string_bytes words.now) ≢ []) ⊎ NamesTooManyImages (map string_bytes words.now)) }
 {
     let command = match command_line(alloc) {
         Ok(command) => command,
@@ -68,7 +72,8 @@ pub fn request(alloc: Global, words: &[String]) -> Result<Request, Fault>
         Err(error) => return Err(cause(error.kind())),
     };
     match asked(alloc, &matches) {
-        Ok(request) => Ok(request),
+        Ok(Some(request)) => Ok(request),
+        Ok(None) => Err(Fault::Refused),
         Err(_) => Err(Fault::Memory),
     }
 }

@@ -39,34 +39,34 @@ fn program<'a>(alloc: Global) -> Command<'a>
         .subcommand_required(true)
 }
 
-/// What the command that was named asks for.
-pub(crate) fn asked(alloc: Global, matches: &ArgMatches<'_>) -> Result<Request, AllocError>
+/// What the command that was named asks for, if the program does not refuse its arguments.
+pub(crate) fn asked(alloc: Global, matches: &ArgMatches<'_>) -> Result<Option<Request>, AllocError>
     requires { HoldsCommand (subcommand_rows_of matches.now) }
-    ensures { IfOk result (λ r. named_as (subcommand_rows_of matches.now) ≡ Some r) }
+    ensures { IfOk result (λ r. named_as (subcommand_rows_of matches.now) ≡ r) }
 {
     if let Some(found) = matches.subcommand_matches("bare") {
-        return bare::asked(alloc, found);
+        return Ok(Some(bare::asked(alloc, found)?));
     }
     if let Some(found) = matches.subcommand_matches("check") {
-        return check::asked(alloc, found);
+        return Ok(Some(check::asked(alloc, found)?));
     }
     if let Some(found) = matches.subcommand_matches("verify") {
-        return verify::asked(alloc, found);
+        return Ok(Some(verify::asked(alloc, found)?));
     }
     if let Some(found) = matches.subcommand_matches("replay") {
-        return replay::asked(alloc, found);
+        return Ok(Some(replay::asked(alloc, found)?));
     }
     if let Some(found) = matches.subcommand_matches("run") {
         return run::asked(alloc, found);
     }
     if let Some(found) = matches.subcommand_matches("print") {
-        return print::asked(alloc, found);
+        return Ok(Some(print::asked(alloc, found)?));
     }
     if let Some(found) = matches.subcommand_matches("migrate") {
-        return migrate::asked(alloc, found);
+        return Ok(Some(migrate::asked(alloc, found)?));
     }
     if let Some(found) = matches.subcommand_matches("hcheck") {
-        return hcheck::asked(alloc, found);
+        return Ok(Some(hcheck::asked(alloc, found)?));
     }
     unreachable!()
 }

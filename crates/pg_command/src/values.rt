@@ -1,8 +1,9 @@
 //! What arguments give: names of files, and numbers that passed their ranges.
 //!
-//! Contracts see a name as its bytes and a number as that number, so that what the words ask for is plain data to them. The
-//! range of a number is kept by its type: who is given one need not ask for it.
-ghost use Rattle.std.specs.Prelude.{◌≡◌, ◌≤◌, string_bytes};
+//! Contracts see a name as its bytes, names as the list of theirs, and a number as that number, so that what the words ask
+//! for is plain data to them. The range of a number, and of how many names there are, is kept by its type: who is given one
+//! need not ask for it.
+ghost use Rattle.std.specs.Prelude.{◌≡◌, ◌≤◌, length, string_bytes};
 
 use std::marker::Model;
 
@@ -33,6 +34,54 @@ impl FileName {
         ensures { result.now ≡ self.now }
     {
         self.text.as_str()
+    }
+}
+
+/// The names of the files with the images of guests: 1 to 8, in the order in which they are named.
+#[derive(Drop)]
+pub struct Images {
+    names: Vec<FileName>,
+}
+
+impl Model for Images {
+    ghost use Rattle.std.specs.Prelude.{◌≤◌, ℕ, List, length};
+
+    ghost Value = { List (List ℕ) };
+
+    ghost view = { λ images. images.names.items };
+
+    ghost invariant = { λ images. (1 ≤ length images.names.items) × (length images.names.items ≤ 8) };
+}
+
+impl Images {
+    /// The most images that may be named.
+    pub const MOST: usize = 8;
+
+    /// The images of these names.
+    pub(crate) fn new(names: Vec<FileName>) -> Images
+        requires least { 1 ≤ length names.items }
+        requires most { length names.items ≤ 8 }
+        ensures { result ≡ names.items }
+    {
+        Images { names }
+    }
+
+    /// How many images there are.
+    pub fn len(&self) -> usize
+        ensures len { result ≡ length self.now }
+        ensures least { 1 ≤ length self.now }
+        ensures most { length self.now ≤ 8 }
+    {
+        self.names.len()
+    }
+
+    /// The names, in their order.
+    pub fn as_slice(&self) -> &[FileName]
+        ensures names { result.now ≡ self.now }
+        ensures least { 1 ≤ length self.now }
+        ensures most { length self.now ≤ 8 }
+    {
+        self.names.as_slice()
     }
 }
 
@@ -139,5 +188,41 @@ impl Budget {
         ensures most { self.now ≤ 1000000 }
     {
         self.clauses
+    }
+}
+
+/// How many steps a guest does before the next guest has its turn: 1 to 1,000,000.
+#[derive(Drop)]
+pub struct Slice {
+    steps: u64,
+}
+
+impl Model for Slice {
+    ghost use Rattle.std.specs.Prelude.{◌≤◌, ℕ};
+
+    ghost Value = { ℕ };
+
+    ghost view = { λ slice. slice.steps };
+
+    ghost invariant = { λ slice. (1 ≤ slice.steps) × (slice.steps ≤ 1000000) };
+}
+
+impl Slice {
+    /// The slice of so many steps.
+    pub(crate) fn new(steps: u64) -> Slice
+        requires least { 1 ≤ steps }
+        requires most { steps ≤ 1000000 }
+        ensures { result ≡ steps }
+    {
+        Slice { steps }
+    }
+
+    /// The number of steps.
+    pub fn steps(&self) -> u64
+        ensures steps { result ≡ self.now }
+        ensures least { 1 ≤ self.now }
+        ensures most { self.now ≤ 1000000 }
+    {
+        self.steps
     }
 }

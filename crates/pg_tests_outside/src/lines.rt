@@ -16,9 +16,10 @@ fn asked(alloc: Global, line: &str) -> Result<Result<Request, Fault>, AllocError
     }
 }
 
-/// Lines that are taken, with the command, the grant, and the steps or the budget that they ask for. The description is
-/// `d`, and the image, the certificate or the file for a new one, where the command has one, `i`, `c` or `f`.
-const TAKEN: [(&str, &str, u32, u64); 22] = [
+/// Lines of all commands but `run` that are taken, with the command, the grant, and the steps or the budget that they ask
+/// for. The description is `d`, and the image, the certificate or the file for a new one, where the command has one, `i`, `c`
+/// or `f`.
+const TAKEN: [(&str, &str, u32, u64); 20] = [
     ("pgv|bare|d|i|--grant|8|--steps|0", "bare", 8, 0),
     (
         "pgv|bare|--steps=1000000|d|--grant=8|i",
@@ -49,13 +50,6 @@ const TAKEN: [(&str, &str, u32, u64); 22] = [
     ("pgv|verify|d|c", "verify", 0, 0),
     ("x|verify|d|--|c", "verify", 0, 0),
     ("pgv|replay|d|c", "replay", 0, 0),
-    ("pgv|run|d|i|--grant|8|--steps|3", "run", 8, 3),
-    (
-        "pgv|run|--steps=1000000|d|i|--grant=1048575",
-        "run",
-        1_048_575,
-        1_000_000,
-    ),
     ("pgv|print|d", "print", 0, 0),
     ("x|print|--|d", "print", 0, 0),
     ("pgv|migrate|d|c|f", "migrate", 0, 0),
@@ -66,58 +60,134 @@ const TAKEN: [(&str, &str, u32, u64); 22] = [
 #[test]
 fn lines_that_are_taken(rt: HostRuntime) -> Result<(), Fail> {
     for (line, command, grant, number) in TAKEN {
-        let (name, words) = match asked(rt.alloc(), line)? {
-            Ok(Request::Bare(words)) => ("bare", Some(words)),
-            Ok(Request::Run(words)) => ("run", Some(words)),
+        let name = match asked(rt.alloc(), line)? {
+            Ok(Request::Bare(words)) => {
+                assert!(rt; words.desc.as_str() == "d", "{line}");
+                assert!(rt; words.image.as_str() == "i", "{line}");
+                assert!(rt;
+                    (words.grant.cells(), words.steps.count()) == (grant, number),
+                    "{line}"
+                );
+                "bare"
+            }
             Ok(Request::Check(words)) => {
                 assert!(rt; words.desc.as_str() == "d", "{line}");
                 assert!(rt; words.cert.as_str() == "c", "{line}");
                 assert!(rt; u64::from(words.budget.clauses()) == number, "{line}");
-                ("check", None)
+                "check"
             }
             Ok(Request::Hcheck(words)) => {
                 assert!(rt; words.desc.as_str() == "d", "{line}");
                 assert!(rt; words.cert.as_str() == "c", "{line}");
                 assert!(rt; u64::from(words.budget.clauses()) == number, "{line}");
-                ("hcheck", None)
+                "hcheck"
             }
             Ok(Request::Verify(words)) => {
                 assert!(rt; words.desc.as_str() == "d", "{line}");
                 assert!(rt; words.cert.as_str() == "c", "{line}");
-                ("verify", None)
+                "verify"
             }
             Ok(Request::Replay(words)) => {
                 assert!(rt; words.desc.as_str() == "d", "{line}");
                 assert!(rt; words.cert.as_str() == "c", "{line}");
-                ("replay", None)
+                "replay"
             }
             Ok(Request::Migrate(words)) => {
                 assert!(rt; words.desc.as_str() == "d", "{line}");
                 assert!(rt; words.cert.as_str() == "c", "{line}");
                 assert!(rt; words.file.as_str() == "f", "{line}");
-                ("migrate", None)
+                "migrate"
             }
             Ok(Request::Print(words)) => {
                 assert!(rt; words.desc.as_str() == "d", "{line}");
-                ("print", None)
+                "print"
             }
-            Err(_) => ("refused", None),
+            Ok(Request::Run(_words)) => "run",
+            Err(_) => "refused",
         };
         assert!(rt; name == command, "{line}");
-        if let Some(words) = words {
-            assert!(rt; words.desc.as_str() == "d", "{line}");
-            assert!(rt; words.image.as_str() == "i", "{line}");
-            assert!(rt;
-                (words.grant.cells(), words.steps.count()) == (grant, number),
-                "{line}"
-            );
+    }
+    Ok(())
+}
+
+/// Lines of `run` that are taken, with the images, the grant, the steps and the slice that they ask for. The description is
+/// `d`, and the certificate `c`.
+const RUNS: [(&str, &str, u32, u64, u64); 8] = [
+    ("pgv|run|d|c|i|--grant|8|--steps|3", "i", 8, 3, 1_000),
+    (
+        "pgv|run|d|c|1|2|3|4|5|6|7|8|--grant=8|--steps=3",
+        "1|2|3|4|5|6|7|8",
+        8,
+        3,
+        1_000,
+    ),
+    (
+        "pgv|run|--steps=1000000|d|--slice|1|c|--grant=1048575|i",
+        "i",
+        1_048_575,
+        1_000_000,
+        1,
+    ),
+    (
+        "pgv|run|d|c|1|--slice=3|2|--grant|2|3|4|--steps=0|5",
+        "1|2|3|4|5",
+        2,
+        0,
+        3,
+    ),
+    (
+        "pgv|run|d|c|i|i|--grant=8|--steps=3|--slice|1000000",
+        "i|i",
+        8,
+        3,
+        1_000_000,
+    ),
+    (
+        "pgv|run|d|c|i|--grant=+08|--steps=03|--slice=+0999",
+        "i",
+        8,
+        3,
+        999,
+    ),
+    (
+        "x|run|--grant=8|--steps=3|--|d|c|--slice|-9|--",
+        "--slice|-9|--",
+        8,
+        3,
+        1_000,
+    ),
+    ("pgv|run|d|c||--grant=8|--steps=3", "", 8, 3, 1_000),
+];
+
+#[test]
+fn lines_of_run_that_are_taken(rt: HostRuntime) -> Result<(), Fail> {
+    for (line, images, grant, steps, slice) in RUNS {
+        let got = asked(rt.alloc(), line)?;
+        match &got {
+            Ok(Request::Run(words)) => {
+                assert!(rt; words.desc.as_str() == "d", "{line}");
+                assert!(rt; words.cert.as_str() == "c", "{line}");
+                assert!(rt; words.images.len() == images.split('|').count(), "{line}");
+                for (name, image) in words.images.as_slice().iter().zip(images.split('|')) {
+                    assert!(rt; name.as_str() == image, "{line}");
+                }
+                assert!(rt;
+                    (
+                        words.grant.cells(),
+                        words.steps.count(),
+                        words.slice.steps()
+                    ) == (grant, steps, slice),
+                    "{line}"
+                );
+            }
+            _ => assert!(rt; false, "{line}"),
         }
     }
     Ok(())
 }
 
 /// Lines that are refused.
-const REFUSED: [&str; 66] = [
+const REFUSED: [&str; 77] = [
     "pgv",
     "pgv|verify",
     "pgv|--help",
@@ -161,13 +231,24 @@ const REFUSED: [&str; 66] = [
     "pgv|check|d|--cert=c|--budget=7|--budget=7",
     "pgv|check|d|--cert=c|--steps=3",
     "pgv|run",
-    "pgv|run|d|i|--grant=1|--steps=3",
-    "pgv|run|d|i|--grant=1048576|--steps=3",
-    "pgv|run|d|i|--grant=8|--steps=1000001",
-    "pgv|run|d|i|--grant=8",
-    "pgv|run|d|i|--steps=3",
-    "pgv|run|d|i|e|--grant=8|--steps=3",
+    "pgv|run|d|c|i|--grant=1|--steps=3",
+    "pgv|run|d|c|i|--grant=1048576|--steps=3",
+    "pgv|run|d|c|i|--grant=8|--steps=1000001",
+    "pgv|run|d|c|i|--grant=8",
+    "pgv|run|d|c|i|--steps=3",
+    "pgv|run|d|c|1|2|3|4|5|6|7|8|9|--grant=8|--steps=3",
+    "pgv|run|d|c|1|2|3|4|--grant=8|5|6|7|8|--steps=3|9",
+    "pgv|run|--grant=8|--steps=3|--|d|c|1|2|3|4|5|6|7|8|9",
+    "pgv|run|d|c|--grant=8|--steps=3",
+    "pgv|run|d|i|--grant=8|--steps=3",
     "pgv|run|d|--grant=8|--steps=3",
+    "pgv|run|d|c|i|--grant=8|--steps=3|--slice=0",
+    "pgv|run|d|c|i|--grant=8|--steps=3|--slice=1000001",
+    "pgv|run|d|c|i|--grant=8|--steps=3|--slice=-1",
+    "pgv|run|d|c|i|--grant=8|--steps=3|--slice=",
+    "pgv|run|d|c|i|--grant=8|--steps=3|--slice",
+    "pgv|run|d|c|i|--grant=8|--steps=3|--slice=3|--slice=3",
+    "pgv|run|d|c|i|--grant=8|--steps=3|--cert=c",
     "pgv|verify|d",
     "pgv|verify|d|c|e",
     "pgv|verify|d|c|--steps=0",

@@ -23,14 +23,23 @@ asked-requires c =
     (c.in-Ok-try_get_matches_from.ensures.matches (ap is_simple line_is ∙ line_plain)).1 ∙ ap (λ (a : App). subcommand_of a words) line_is in
     subst HoldsCommand (sym named) (line_holds words fine)
 
-pub returns-in-Ok-asked-clause-ok : goal.returns-in-Ok-asked-clause-ok
-returns-in-Ok-asked-clause-ok c =
+pub returns-in-Ok-Some-clause-ok : goal.returns-in-Ok-Some-clause-ok
+returns-in-Ok-Some-clause-ok c =
     let words = map (string_bytes {Z = Global}) c.args.words.now in
     let line_is = c.in-Ok.ensures in
     let fine : fault_of line words ≡ [] = ap (λ (a : App). fault_of a words) (sym line_is) ∙ c.in-Ok-try_get_matches_from.ensures.kinds (ap is_simple_and_free line_is ∙ line_simple) in
     let named : subcommand_rows_of c.in-Ok-try_get_matches_from.matches ≡ subcommand_of line words =
     (c.in-Ok-try_get_matches_from.ensures.matches (ap is_simple line_is ∙ line_plain)).1 ∙ ap (λ (a : App). subcommand_of a words) line_is in
-    asks_by_name words fine ∙ ap named_as (sym named) ∙ c.in-Ok-asked.ensures
+    asks_by_name words fine ∙ ap named_as (sym named) ∙ c.in-Ok-Some.ensures ∙ c.in-Ok-Some.field-0-is
+
+pub returns-in-Ok-None-clause-refused : goal.returns-in-Ok-None-clause-refused
+returns-in-Ok-None-clause-refused c refused =
+    let words = map (string_bytes {Z = Global}) c.args.words.now in
+    let line_is = c.in-Ok.ensures in
+    let fine : fault_of line words ≡ [] = ap (λ (a : App). fault_of a words) (sym line_is) ∙ c.in-Ok-try_get_matches_from.ensures.kinds (ap is_simple_and_free line_is ∙ line_simple) in
+    let named : subcommand_rows_of c.in-Ok-try_get_matches_from.matches ≡ subcommand_of line words =
+    (c.in-Ok-try_get_matches_from.ensures.matches (ap is_simple line_is ∙ line_plain)).1 ∙ ap (λ (a : App). subcommand_of a words) line_is in
+    asks_by_name words fine ∙ ap named_as (sym named) ∙ c.in-Ok-None.ensures ∙ c.in-Ok-None.field-0-is
 
 pub returns-in-Err-clause-faults : goal.returns-in-Err-clause-faults
 returns-in-Err-clause-faults c = nothing_at_fault _
@@ -38,8 +47,11 @@ returns-in-Err-clause-faults c = nothing_at_fault _
 pub returns-in-Err-try_get_matches_from-clause-faults : goal.returns-in-Err-try_get_matches_from-clause-faults
 returns-in-Err-try_get_matches_from-clause-faults c = nothing_at_fault _
 
-pub returns-in-Ok-asked-clause-faults : goal.returns-in-Ok-asked-clause-faults
-returns-in-Ok-asked-clause-faults c = nothing_at_fault _
+pub returns-in-Ok-Some-clause-faults : goal.returns-in-Ok-Some-clause-faults
+returns-in-Ok-Some-clause-faults c = nothing_at_fault _
+
+pub returns-in-Ok-None-clause-faults : goal.returns-in-Ok-None-clause-faults
+returns-in-Ok-None-clause-faults c = nothing_at_fault _
 
 pub returns-clause-faults : goal.returns-clause-faults
 returns-clause-faults c = nothing_at_fault _

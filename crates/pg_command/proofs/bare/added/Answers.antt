@@ -2,14 +2,14 @@
 use Rattle.std.proofs.Common.{◌≡◌, ◌∙◌, ap, ap₂, rules, []}
 use Rattle.std.proofs.lemmas.Result.{IfOk-weaker}
 use Rattle.clap.specs.Words.{App, app_of, with_rule, with_subcommand}
-use Rattle.pg_command.specs.Running as spec
-use Rattle.pg_command.proofs.running.added.Goals as goal
+use Rattle.pg_command.specs.Bare as spec
+use Rattle.pg_command.proofs.bare.added.Goals as goal
 
 pub returns : goal.returns
 returns c =
     let desc = c.in_ok-arg.ensures.shape (search rules) ∙ ap₂ with_rule c.new.ensures.app c.place.ensures.rule in
     let image = c.in_ok-arg-2.ensures.shape (search rules) ∙ ap₂ with_rule desc c.place-2.ensures.rule in
     let grant = c.in_ok-arg-3.ensures.shape (search rules) ∙ ap₂ with_rule image c.grant_rule.ensures.rule in
-    let made : app_of c.in_ok-running.running ≡ record { top = spec.running c.args.name.now; subs = [] } =
-    c.in_ok-running.ensures.shape (search rules) ∙ ap₂ with_rule grant c.steps_rule.ensures.rule in
+    let made : app_of c.in_ok-bare.bare ≡ record { top = spec.bare.shape; subs = [] } =
+    c.in_ok-bare.ensures.shape (search rules) ∙ ap₂ with_rule grant c.steps_rule.ensures.rule in
     IfOk-weaker c.subcommand.result _ _ (λ r h. h.shape (search rules) ∙ ap (λ (a : App). with_subcommand (app_of c.args.program) a.top) made) c.subcommand.ensures
