@@ -16,7 +16,7 @@ use Rattle.pg_hw.specs.Serving.{blank}
 use Rattle.pg_hw.specs.Tallies.{after_load}
 use Rattle.pg_image.specs.Lines.{state_text}
 use Rattle.pg_report.specs.Spans.{span}
-use Rattle.pg_command.specs.declared.running.RunWords.{RunWords}
+use Rattle.pg_command.specs.declared.bare.BareWords.{BareWords}
 use Rattle.pg_edge.specs.Shelf.{Files}
 use Rattle.pg_tool.specs.declared.refusal.Refusal.{Refusal}
 use Rattle.pg_tool.specs.declared.refusal.Stop.{Stop}
@@ -108,29 +108,29 @@ text-of r s shape psw is same loaded whole =
 -- ---- its steps
 
 -- what comes behind the image, the room and the description
-abbrev pub behind_image : RunWords → Desc → List ℕ → Step Refusal BareRun
+abbrev pub behind_image : BareWords → Desc → List ℕ → Step Refusal BareRun
 behind_image b d image = Gives (record { desc = d; image = image; grant = b.grant; steps = b.steps })
 
-abbrev pub behind_room : Option Files → RunWords → Desc → ℕ → Step Refusal BareRun
+abbrev pub behind_room : Option Files → BareWords → Desc → ℕ → Step Refusal BareRun
 behind_room told b d cells = Then (ImageDue told 0 b.image d.word cells) (behind_image b d)
 
-abbrev pub behind_desc : Option Files → RunWords → Desc → Step Refusal BareRun
+abbrev pub behind_desc : Option Files → BareWords → Desc → Step Refusal BareRun
 behind_desc told b d = Then (RoomDue b.grant d.size) (behind_room told b d)
 
 -- the description stops it
-pub bare-stopped : {T U : Type 0} (view : T → Desc) (shows : U → BareRun) (told : Option Files) (b : RunWords) (before after : ℕ) (why : Stop) →
+pub bare-stopped : {T U : Type 0} (view : T → Desc) (shows : U → BareRun) (told : Option Files) (b : BareWords) (before after : ℕ) (why : Stop) →
     Comes view (DescDue told b.desc) before after (Err why) → Comes shows (BareDue b told) before after (Err why)
 unfolding BareDue
 bare-stopped view shows told b before after why h = comes-stopped view shows (DescDue told b.desc) (behind_desc told b) before after after why h (omega arith)
 
 -- the room stops it
-pub bare-no_room : (told : Option Files) (b : RunWords) (d : Desc) → DescDue told b.desc (Came d) → d.size < b.grant →
+pub bare-no_room : (told : Option Files) (b : BareWords) (d : Desc) → DescDue told b.desc (Came d) → d.size < b.grant →
     BareDue b told (Refused (of_room (record { wanted = b.grant; free = d.size })))
 unfolding BareDue
 bare-no_room told b d h passes = inr (d, h, inl (room-refused b.grant d.size passes))
 
 -- what comes behind the room
-bare-behind : {U : Type 0} (shows : U → BareRun) (told : Option Files) (b : RunWords) (d : Desc) (before mid after : ℕ) (r : Result U Stop) →
+bare-behind : {U : Type 0} (shows : U → BareRun) (told : Option Files) (b : BareWords) (d : Desc) (before mid after : ℕ) (r : Result U Stop) →
     DescDue told b.desc (Came d) → b.grant ≤ d.size → before ≤ mid → Comes shows (behind_room told b d b.grant) mid after r → Comes shows (BareDue b told) before after r
 unfolding BareDue
 bare-behind shows told b d before mid after r h fits earlier k =
@@ -138,7 +138,7 @@ bare-behind shows told b d before mid after r h fits earlier k =
     (comes-behind shows (RoomDue b.grant d.size) (behind_room told b d) b.grant mid mid after r (room-came b.grant d.size fits) (omega arith) k)
 
 -- the image stops it
-pub bare-no_image : {T U : Type 0} (view : T → List ℕ) (shows : U → BareRun) (told : Option Files) (b : RunWords) (d : Desc) (before mid after : ℕ) (why : Stop) →
+pub bare-no_image : {T U : Type 0} (view : T → List ℕ) (shows : U → BareRun) (told : Option Files) (b : BareWords) (d : Desc) (before mid after : ℕ) (why : Stop) →
     DescDue told b.desc (Came d) → b.grant ≤ d.size → before ≤ mid → Comes view (ImageDue told 0 b.image d.word b.grant) mid after (Err why) →
     Comes shows (BareDue b told) before after (Err why)
 bare-no_image view shows told b d before mid after why h fits earlier k =
@@ -146,7 +146,7 @@ bare-no_image view shows told b d before mid after why h fits earlier k =
     (comes-stopped view shows (ImageDue told 0 b.image d.word b.grant) (behind_image b d) mid after after why k (omega arith))
 
 -- nothing stops it
-pub bare-runs : (told : Option Files) (b : RunWords) (d : Desc) (image : List ℕ) → DescDue told b.desc (Came d) → b.grant ≤ d.size →
+pub bare-runs : (told : Option Files) (b : BareWords) (d : Desc) (image : List ℕ) → DescDue told b.desc (Came d) → b.grant ≤ d.size →
     ImageDue told 0 b.image d.word b.grant (Came image) → BareDue b told (Came (record { desc = d; image = image; grant = b.grant; steps = b.steps }))
 unfolding BareDue
 bare-runs told b d image h fits k = (d, h, (b.grant, room-came b.grant d.size fits, (image, k, refl)))

@@ -20,7 +20,7 @@ use Rattle.pg_tool.specs.Judged.{Judged, JudgedDue, verdict_status}
 use Rattle.pg_tool.specs.Meaning.{AreShown, VerdictMeans}
 use Rattle.pg_tool.specs.Steps.{Step, Came, Then, Gives}
 use Rattle.pg_tool.proofs.StepLemmas.{comes-stopped, comes-behind}
-use Rattle.pg_tool.proofs.VerdictMeanings.{verdict_means, marks_whole, marks_fit, marks_shown}
+use Rattle.pg_tool.proofs.VerdictMeanings.{marks_family, verdict_means, marks_whole, marks_fit, marks_shown}
 
 -- ---- its steps
 
@@ -52,15 +52,17 @@ judged-came told desc cert d report came h = (d, came, (report, h, refl))
 -- ---- what is known of its work
 
 -- a certificate that was read: its marks can be put, its states show what they are shown for, and its verdict means what it says
-pub record IsRead (j : Judged) : Type 0 where
+pub record IsRead (family : Family) (j : Judged) : Type 0 where
+  pub of_family : j.report.family ≡ family
   pub whole : length j.report.marks ≡ length j.desc.instrs * kind_count j.report.family
   pub fit : All (DoMarkWordsFit j.desc.word) j.report.marks
   pub shown : AreShown j.desc j.report
   pub means : VerdictMeans j.desc j.report
 
 pub is-read : (d : Desc) (family : Family) (bytes : List ℕ) (report : Report) → IsValid d → IsCertificate d family bytes report →
-    IsRead (record { desc = d; report = report })
+    IsRead family (record { desc = d; report = report })
 is-read d family bytes report valid h = record {
+  of_family = marks_family d family bytes h.progress report valid h.taken h.kept;
   whole = marks_whole d family bytes h.progress report valid h.taken h.kept;
   fit = marks_fit d family bytes h.progress report valid h.taken h.kept;
   shown = marks_shown d family bytes h.progress report valid h.taken h.kept;
@@ -68,17 +70,17 @@ is-read d family bytes report valid h = record {
 }
 
 pub certificate-read : (d : Desc) (told : Option Files) (name : List ℕ) (report : Report) → IsValid d → CertDue d told name (Came report) →
-    IsRead (record { desc = d; report = report })
+    IsRead Plain (record { desc = d; report = report })
 unfolding CertDue
 certificate-read d told name report valid h = is-read d Plain h.0 report valid h.2
 
-desc-valid : (told : Option Files) (name : List ℕ) (d : Desc) → DescDue told name (Came d) → IsValid d
+pub desc-valid : (told : Option Files) (name : List ℕ) (d : Desc) → DescDue told name (Came d) → IsValid d
 unfolding DescDue
 desc-valid told name d h = h.2.1
 
-pub judged-read : (told : Option Files) (desc cert : List ℕ) (j : Judged) → JudgedDue desc cert told (Came j) → IsRead j
+pub judged-read : (told : Option Files) (desc cert : List ℕ) (j : Judged) → JudgedDue desc cert told (Came j) → IsRead Plain j
 unfolding JudgedDue
-judged-read told desc cert j h = subst IsRead (sym h.2.2) (certificate-read h.0 told cert h.2.0 (desc-valid told desc h.0 h.1) h.2.1)
+judged-read told desc cert j h = subst (IsRead Plain) (sym h.2.2) (certificate-read h.0 told cert h.2.0 (desc-valid told desc h.0 h.1) h.2.1)
 
 -- a verdict ends a command
 pub verdict-ended : (v : Verdict) → class_of (verdict_status v) ≡ Ended

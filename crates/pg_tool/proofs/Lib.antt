@@ -6,6 +6,7 @@ pub mod OneSteps
 pub mod OneCertificate
 pub mod OnlyOne
 pub mod BareLemmas
+pub mod ImageLemmas
 pub mod RunLemmas
 pub mod PartLemmas
 pub mod VerdictMeanings
@@ -16,3 +17,4 @@ pub mod SavingLemmas
 pub mod CheckLemmas
 pub mod MigrateLemmas
 pub mod OneState
+pub mod EndsLemmas

@@ -1,5 +1,5 @@
 -- `migrate`: a certificate that is loaded whole, and what is left once the new one was saved.
-use Rattle.std.proofs.Common.{◌≡◌, ℕ, ◌≤◌, Bool, List, length, map, Option, Some, Result, Ok, Err, inr, refl, sym, ap, subst, ◌∙◌}
+use Rattle.std.proofs.Common.{◌≡◌, ℕ, ◌≤◌, Bool, List, length, map, Option, Some, Ok, Err, inr, sym, ap, ◌∙◌}
 use Rattle.std.specs.Prelude.{if◌then◌else◌}
 use Rattle.std.proofs.lemmas.Bool.{le-ltb}
 use Rattle.pg_ast.specs.declared.tree.Desc.{Desc}
@@ -17,7 +17,6 @@ use Rattle.pg_report.specs.declared.line.CertificateLine.TheVariants as told_lin
 use Rattle.pg_report.specs.Verdicts.{verdict_text}
 use Rattle.pg_verify.specs.declared.fault.VerifyFault.{VerifyFault}
 use Rattle.pg_verify.specs.declared.fault.VerifyFault.TheVariants as fault
-use Rattle.pg_verify.specs.Reader.{Reader}
 use Rattle.pg_verify.specs.Feeding.{most_bytes, verified, verified_whole, IsAnswer}
 use Rattle.pg_tool.specs.declared.refusal.Stop.{Stop}
 use Rattle.pg_tool.specs.declared.refusal.Stop.TheVariants as stop

@@ -9,7 +9,7 @@ use Rattle.pg_meaning.specs.States.{State}
 use Rattle.pg_monitor.specs.declared.guest.Guest.{Guest}
 use Rattle.pg_monitor.specs.Plans.{IsOutside}
 use Rattle.pg_report.specs.Spans.{span}
-use Rattle.pg_tool.specs.Run.{GuestRun, RanGuests, granted, guests_of}
+use Rattle.pg_guests.specs.Runs.{GuestRun, RanGuests, granted, guests_of}
 
 abbrev first : List (List ℕ) → List ℕ
 first [] = []

@@ -1,19 +1,17 @@
 -- A command comes to one thing, for told files.
-use Rattle.std.specs.Prelude.{option_and_then, slice_get}
-use Rattle.std.proofs.Common.{◌≡◌, ◌≢◌, ℕ, ◌-◌, ◌≤◌, cond, nat_lt, List, length, Option, Some, None, Result, Ok, Err, sym, ◌∙◌, ap}
+use Rattle.std.proofs.Common.{◌≡◌, ◌≢◌, ℕ, suc, ◌-◌, ◌*◌, ◌≤◌, cond, nat_lt, List, [], ◌∷◌, length, Option, Some, None, Result, Ok, Err, sym, ◌∙◌, ap}
 use Rattle.std.proofs.lemmas.Bool.{lt-ltb, le-ltb}
 use Rattle.pg_ast.specs.declared.tree.Desc.{Desc}
 use Rattle.pg_valid.specs.declared.fault.TypeFault.{TypeFault}
 use Rattle.pg_valid.specs.Valid.{fault_of}
 use Rattle.pg_valid.proofs.FaultLemmas.{no_fault}
-use Rattle.pg_valid.specs.Twice.{instr_names}
-use Rattle.pg_type.specs.Plain.{first_breach}
 use Rattle.pg_edge.specs.Shelf.{Files}
 use Rattle.pg_alloc.specs.Fit.{kept_cells}
 use Rattle.pg_command.specs.Asked.{request_of}
 use Rattle.pg_command.specs.declared.ask.Request.{Request}
 use Rattle.pg_command.specs.declared.ask.Request.TheVariants as request
-use Rattle.pg_command.specs.declared.running.RunWords.{RunWords}
+use Rattle.pg_command.specs.declared.bare.BareWords.{BareWords}
+use Rattle.pg_command.specs.declared.run.RunWords.{RunWords}
 use Rattle.pg_command.specs.declared.print.PrintWords.{PrintWords}
 use Rattle.pg_command.specs.declared.check.CheckWords.{CheckWords}
 use Rattle.pg_read.specs.declared.fault.DescFault.{DescFault}
@@ -28,21 +26,19 @@ use Rattle.pg_report.specs.declared.line.DescriptionLine.TheVariants as told_lin
 use Rattle.pg_report.specs.declared.line.ImageLine.{ImageLine}
 use Rattle.pg_report.specs.declared.line.ImageLine.TheVariants as told_image
 use Rattle.pg_tool.specs.declared.refusal.Refusal.{Refusal}
-use Rattle.pg_tool.specs.Steps.{Settles, IsOne}
+use Rattle.pg_tool.specs.Steps.{Settles, Then, Gives, IsOne}
 use Rattle.pg_tool.specs.FileSteps.{FromFile}
 use Rattle.pg_tool.specs.Refusals.{of_file}
 use Rattle.pg_tool.specs.Descriptions.{ReadsAs, IsInvalid, TextDue, told_of_reading, told_of_type, DescDue}
-use Rattle.pg_tool.specs.Images.{told_of_image, BytesDue, ImageDue}
+use Rattle.pg_tool.specs.Images.{told_of_image, BytesDue, ImageDue, ImagesDue}
 use Rattle.pg_tool.specs.Rooms.{TooMany, RoomFor, of_room, RoomDue}
-use Rattle.pg_tool.specs.Rule.{KeepsRule, of_breach, RuleDue}
 use Rattle.pg_tool.specs.Bare.{BareRun, BareDue}
-use Rattle.pg_tool.specs.Run.{GuestRun, RunDue}
+use Rattle.pg_tool.specs.Run.{RunDue}
 use Rattle.pg_tool.specs.Print.{PrintDue}
 use Rattle.pg_tool.specs.Certificates.{CertDue}
 use Rattle.pg_tool.specs.Judged.{JudgedDue}
 use Rattle.pg_tool.specs.Check.{CheckDue}
 use Rattle.pg_tool.specs.Asking.{WordsRefused, command_of, command_or_none, command_for}
-use Rattle.pg_tool.specs.Plans.{lone_run}
 use Rattle.pg_tool.proofs.BareLemmas as bare
 use Rattle.pg_tool.proofs.RunLemmas as run
 use Rattle.pg_tool.proofs.JudgedLemmas as judged
@@ -103,6 +99,9 @@ only-desc files name =
     (file_answer most_desc_bytes told_line.Long (λ text. read_answer (answer_due text)) (files name))
     (only-file files name most_desc_bytes told_line.Long TextDue (λ text. read_answer (answer_due text)) text-only)
 
+one-desc : (files : Files) (name : List ℕ) → IsOne (DescDue (Some files) name)
+one-desc files name = one-of (DescDue (Some files) name) (desc_answer files name) (only-desc files name)
+
 -- ---- the room
 
 abbrev room_answer : ℕ → ℕ → Result ℕ TooMany
@@ -117,6 +116,9 @@ room-only wanted free (Err why) h =
 only-room : (wanted free : ℕ) → Only (RoomDue wanted free) (lifted of_room (room_answer wanted free))
 unfolding RoomDue
 only-room wanted free = only-as of_room (Settles (RoomFor wanted free)) (room_answer wanted free) (only-settles (RoomFor wanted free) (room_answer wanted free) (room-only wanted free))
+
+one-room : (wanted free : ℕ) → IsOne (RoomDue wanted free)
+one-room wanted free = one-of (RoomDue wanted free) (lifted of_room (room_answer wanted free)) (only-room wanted free)
 
 -- ---- an image
 
@@ -143,115 +145,87 @@ only-image files number name w size =
     (file_answer most_image_bytes told_image.Long (λ text. bytes_answer (image_due w size text)) (files name))
     (only-file files name most_image_bytes told_image.Long (BytesDue w size) (λ text. bytes_answer (image_due w size text)) (bytes-only w size))
 
--- ---- the verdict
+one-image : (files : Files) (number : ℕ) (name : List ℕ) (w size : ℕ) → IsOne (ImageDue (Some files) number name w size)
+one-image files number name w size =
+    one-of (ImageDue (Some files) number name w size) (image_answer files number name w size) (only-image files number name w size)
 
-abbrev name_answer : Option (List ℕ) → Result (Unit {0}) (List ℕ)
-name_answer None = Ok tt
-name_answer (Some name) = Err name
+-- ---- images, one behind another
 
-abbrev breach_answer : List (List ℕ) → Option ℕ → Result (Unit {0}) (List ℕ)
-breach_answer names None = Ok tt
-breach_answer names (Some k) = name_answer (slice_get names k)
-
-breach-open : (names : List (List ℕ)) (breach : Option ℕ) (name : List ℕ) → option_and_then (λ k. slice_get names k) breach ≡ Some name →
-    breach_answer names breach ≡ Err name
-breach-open names None name h = absurd (cc h)
-breach-open names (Some k) name h = ap name_answer h
-
-rule-only : (d : Desc) (due : Result (Unit {0}) (List ℕ)) → KeepsRule d due → breach_answer (instr_names d.instrs) (first_breach d.instrs) ≡ due
-rule-only d (Ok kept) h = ap (breach_answer (instr_names d.instrs)) h
-rule-only d (Err name) h = breach-open (instr_names d.instrs) (first_breach d.instrs) name h
-
-abbrev rule_answer : Desc → Result (Unit {0}) Refusal
-rule_answer d = lifted of_breach (breach_answer (instr_names d.instrs) (first_breach d.instrs))
-
-only-rule : (d : Desc) → Only (RuleDue d) (rule_answer d)
-unfolding RuleDue
-only-rule d =
-    only-as of_breach (Settles (KeepsRule d)) (breach_answer (instr_names d.instrs) (first_breach d.instrs))
-    (only-settles (KeepsRule d) (breach_answer (instr_names d.instrs) (first_breach d.instrs)) (rule-only d))
+one-images : (files : Files) (number : ℕ) (names : List (List ℕ)) (w size : ℕ) → IsOne (ImagesDue (Some files) number names w size)
+unfolding ImagesDue
+one-images files number [] w size = one-gives []
+one-images files number (name ∷ names) w size =
+    one-then (ImageDue (Some files) number name w size) (λ image. Then (ImagesDue (Some files) (suc number) names w size) (λ images. Gives (image ∷ images)))
+    (one-image files number name w size)
+    (λ image. one-then (ImagesDue (Some files) (suc number) names w size) (λ images. Gives (image ∷ images)) (one-images files (suc number) names w size)
+    (λ images. one-gives (image ∷ images)))
 
 -- ---- `bare`
 
-abbrev bare_answer : RunWords → Desc → List ℕ → Result BareRun Refusal
+abbrev bare_answer : BareWords → Desc → List ℕ → Result BareRun Refusal
 bare_answer b d image = Ok (record { desc = d; image = image; grant = b.grant; steps = b.steps })
 
-abbrev image_then : Files → RunWords → Desc → ℕ → Result BareRun Refusal
+abbrev image_then : Files → BareWords → Desc → ℕ → Result BareRun Refusal
 image_then files b d cells = bind (image_answer files 0 b.image d.word cells) (bare_answer b d)
 
-abbrev room_then : Files → RunWords → Desc → Result BareRun Refusal
+abbrev room_then : Files → BareWords → Desc → Result BareRun Refusal
 room_then files b d = bind (lifted of_room (room_answer b.grant d.size)) (image_then files b d)
 
-only-image_then : (files : Files) (b : RunWords) (d : Desc) (cells : ℕ) → Only (bare.behind_room (Some files) b d cells) (image_then files b d cells)
+only-image_then : (files : Files) (b : BareWords) (d : Desc) (cells : ℕ) → Only (bare.behind_room (Some files) b d cells) (image_then files b d cells)
 only-image_then files b d cells =
     only-then (ImageDue (Some files) 0 b.image d.word cells) (bare.behind_image b d) (image_answer files 0 b.image d.word cells) (bare_answer b d)
     (only-image files 0 b.image d.word cells) (λ image. only-gives (record { desc = d; image = image; grant = b.grant; steps = b.steps }))
 
-only-room_then : (files : Files) (b : RunWords) (d : Desc) → Only (bare.behind_desc (Some files) b d) (room_then files b d)
+only-room_then : (files : Files) (b : BareWords) (d : Desc) → Only (bare.behind_desc (Some files) b d) (room_then files b d)
 only-room_then files b d =
     only-then (RoomDue b.grant d.size) (bare.behind_room (Some files) b d) (lifted of_room (room_answer b.grant d.size)) (image_then files b d)
     (only-room b.grant d.size) (only-image_then files b d)
 
-only-bare : (files : Files) (b : RunWords) → Only (BareDue b (Some files)) (bind (desc_answer files b.desc) (room_then files b))
+only-bare : (files : Files) (b : BareWords) → Only (BareDue b (Some files)) (bind (desc_answer files b.desc) (room_then files b))
 unfolding BareDue
 only-bare files b =
     only-then (DescDue (Some files) b.desc) (bare.behind_desc (Some files) b) (desc_answer files b.desc) (room_then files b) (only-desc files b.desc) (only-room_then files b)
 
-one-bare : (files : Files) (b : RunWords) → IsOne (BareDue b (Some files))
+one-bare : (files : Files) (b : BareWords) → IsOne (BareDue b (Some files))
 one-bare files b = one-of (BareDue b (Some files)) (bind (desc_answer files b.desc) (room_then files b)) (only-bare files b)
 
 -- ---- `run`
 
-abbrev run_answer : RunWords → Desc → List ℕ → Unit {0} → Result GuestRun Refusal
-run_answer r d image kept = Ok (lone_run d image r.steps)
+one-behind_images : (files : Files) (r : RunWords) (d : Desc) (images : List (List ℕ)) → IsOne (run.behind_images (Some files) r d images)
+one-behind_images files r d images =
+    one-then (CertDue d (Some files) r.cert) (run.behind_cert r d images) (one-certificate d files r.cert)
+    (λ report. one-gives (record { run = record { desc = d; images = images; slice = r.slice; steps = r.steps }; grant = r.grant; report = report }))
 
-abbrev rule_behind : RunWords → Desc → List ℕ → Result GuestRun Refusal
-rule_behind r d image = bind (rule_answer d) (run_answer r d image)
+one-behind_room : (files : Files) (r : RunWords) (d : Desc) (cells : ℕ) → IsOne (run.behind_room (Some files) r d cells)
+one-behind_room files r d cells =
+    one-then (ImagesDue (Some files) 0 r.images d.word r.grant) (run.behind_images (Some files) r d) (one-images files 0 r.images d.word r.grant) (one-behind_images files r d)
 
-abbrev image_behind : Files → RunWords → Desc → ℕ → Result GuestRun Refusal
-image_behind files r d cells = bind (image_answer files 0 r.image d.word r.grant) (rule_behind r d)
-
-abbrev room_behind : Files → RunWords → Desc → Result GuestRun Refusal
-room_behind files r d = bind (lifted of_room (room_answer r.grant (d.size - kept_cells))) (image_behind files r d)
-
-only-rule_behind : (r : RunWords) (d : Desc) (image : List ℕ) → Only (run.behind_image r d image) (rule_behind r d image)
-only-rule_behind r d image =
-    only-then (RuleDue d) (run.behind_rule r d image) (rule_answer d) (run_answer r d image) (only-rule d) (λ kept. only-gives (lone_run d image r.steps))
-
-only-image_behind : (files : Files) (r : RunWords) (d : Desc) (cells : ℕ) → Only (run.behind_room (Some files) r d cells) (image_behind files r d cells)
-only-image_behind files r d cells =
-    only-then (ImageDue (Some files) 0 r.image d.word r.grant) (run.behind_image r d) (image_answer files 0 r.image d.word r.grant) (rule_behind r d)
-    (only-image files 0 r.image d.word r.grant) (only-rule_behind r d)
-
-only-room_behind : (files : Files) (r : RunWords) (d : Desc) → Only (run.behind_desc (Some files) r d) (room_behind files r d)
-only-room_behind files r d =
-    only-then (RoomDue r.grant (d.size - kept_cells)) (run.behind_room (Some files) r d) (lifted of_room (room_answer r.grant (d.size - kept_cells))) (image_behind files r d)
-    (only-room r.grant (d.size - kept_cells)) (only-image_behind files r d)
-
-only-run : (files : Files) (r : RunWords) → Only (RunDue r (Some files)) (bind (desc_answer files r.desc) (room_behind files r))
-unfolding RunDue
-only-run files r =
-    only-then (DescDue (Some files) r.desc) (run.behind_desc (Some files) r) (desc_answer files r.desc) (room_behind files r) (only-desc files r.desc) (only-room_behind files r)
+one-behind_desc : (files : Files) (r : RunWords) (d : Desc) → IsOne (run.behind_desc (Some files) r d)
+one-behind_desc files r d =
+    one-then (RoomDue (length r.images * r.grant) (d.size - kept_cells)) (run.behind_room (Some files) r d) (one-room (length r.images * r.grant) (d.size - kept_cells))
+    (one-behind_room files r d)
 
 one-run : (files : Files) (r : RunWords) → IsOne (RunDue r (Some files))
-one-run files r = one-of (RunDue r (Some files)) (bind (desc_answer files r.desc) (room_behind files r)) (only-run files r)
+unfolding RunDue
+one-run files r =
+    one-then (DescDue (Some files) r.desc) (run.behind_desc (Some files) r) (one-desc files r.desc) (one-behind_desc files r)
 
 -- ---- `print`
 
 one-print : (files : Files) (p : PrintWords) → IsOne (PrintDue p (Some files))
-one-print files p = one-of (DescDue (Some files) p.desc) (desc_answer files p.desc) (only-desc files p.desc)
+one-print files p = one-desc files p.desc
 
 -- ---- `check`
 
 one-check : (files : Files) (c : CheckWords) → IsOne (CheckDue c (Some files))
-one-check files c = one-of (DescDue (Some files) c.desc) (desc_answer files c.desc) (only-desc files c.desc)
+one-check files c = one-desc files c.desc
 
 -- ---- `verify`, `replay` and `migrate`
 
 one-judged : (files : Files) (desc cert : List ℕ) → IsOne (JudgedDue desc cert (Some files))
 unfolding JudgedDue
 one-judged files desc cert =
-    one-then (DescDue (Some files) desc) (judged.behind_desc (Some files) cert) (one-of (DescDue (Some files) desc) (desc_answer files desc) (only-desc files desc))
+    one-then (DescDue (Some files) desc) (judged.behind_desc (Some files) cert) (one-desc files desc)
     (λ d. one-then (CertDue d (Some files) cert) (judged.behind_cert d) (one-certificate d files cert) (λ report. one-gives (record { desc = d; report = report })))
 
 -- ---- every command

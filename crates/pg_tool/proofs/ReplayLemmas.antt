@@ -1,25 +1,18 @@
 -- `replay`: what it leaves, and what its text needs.
-use Rattle.std.proofs.Common.{◌≡◌, ◌*◌, ◌<◌, ℕ, List, length, All, get_or, Option, Some, refl, sym, subst}
+use Rattle.std.proofs.Common.{◌≡◌, ℕ, List, length, All, get_or, Option, Some, refl}
 use Rattle.std.specs.Prelude.{slice_get}
 use Rattle.std.proofs.lemmas.Option.{slice_get-get_or, slice_get_within}
-use Rattle.pg_word.specs.declared.psw.Mode.TheVariants.{U}
-use Rattle.pg_ast.specs.declared.tree.Instr.{Instr}
-use Rattle.pg_ast.specs.declared.tree.Desc.{Desc}
-use Rattle.pg_meaning.specs.States.{State, IsState, in_user}
-use Rattle.pg_type.specs.declared.kind.Kind.{Kind}
-use Rattle.pg_type.specs.declared.kind.Kind.TheVariants.{Privileged, Control, ModeDep, Location, Bound, UControl, ULocation, UBound}
-use Rattle.pg_type.specs.Kinds.{Shows}
 use Rattle.pg_type.specs.Listed.{state_of}
+use Rattle.pg_type.proofs.KindLaws.{shown_states}
+use Rattle.pg_cert.specs.declared.cert.Family.TheVariants.{Plain}
 use Rattle.pg_cert.specs.declared.report.Mark.{Mark}
 use Rattle.pg_cert.specs.declared.report.Mark.TheVariants.{Refuted, Shown, Spent}
-use Rattle.pg_cert.specs.Verdicts.{kind_count}
 use Rattle.pg_cert.specs.Texts.{instr_of, kind_of}
 use Rattle.pg_cert.proofs.Fits.{instr_within}
 use Rattle.pg_edge.specs.Shelf.{Files}
 use Rattle.pg_report.specs.Replays.{AreMarkStates}
 use Rattle.pg_tool.specs.declared.status.Status.TheVariants.{Done}
 use Rattle.pg_tool.specs.Judged.{Judged, JudgedDue}
-use Rattle.pg_tool.specs.Meaning.{AreShown}
 use Rattle.pg_tool.specs.Replay.{ReplayEnds, replayed}
 use Rattle.pg_tool.specs.Steps.{Came}
 use Rattle.pg_tool.specs.World.{World, IsUntouched}
@@ -31,23 +24,7 @@ pub replay-ends : (told : Option Files) (desc cert : List ℕ) (j : Judged) (old
 replay-ends told desc cert j old new due same =
     record { status = refl; wording = refl; shown = (judged-read told desc cert j due).shown; untouched = same }
 
--- ---- states that are shown are states of the machine
-
-module _ (d : Desc) (i : Instr) where
-  in_user_state : (s : State) → IsState d s → IsState d (in_user s)
-  in_user_state s h = record { size_least = h.size_least; size_most = h.size_most; words = h.words; fields = record { p = h.fields.p; l = h.fields.l; b = h.fields.b } }
-
-  shown_states : (kind : Kind) (s t : State) → Shows d i kind s t → IsState d s × IsState d t
-  shown_states Privileged s t h = (h.pair.state, subst (IsState d) (sym h.pair.same_in_user) (in_user_state s h.pair.state))
-  shown_states Control s t h = (h.state, subst (IsState d) (sym h.same) h.state)
-  shown_states ModeDep s t h = (h.pair.state, subst (IsState d) (sym h.pair.same_in_user) (in_user_state s h.pair.state))
-  shown_states Location s t h = (h.first, h.second)
-  shown_states Bound s t h = (h.first, h.second)
-  shown_states UControl s t h = (h.0.state, subst (IsState d) (sym h.0.same) h.0.state)
-  shown_states ULocation s t h = (h.0.first, h.0.second)
-  shown_states UBound s t h = (h.0.first, h.0.second)
-
-module _ (j : Judged) (h : IsRead j) where
+module _ (j : Judged) (h : IsRead Plain j) where
   mark_states : (n : ℕ) (m : Mark) → slice_get j.report.marks n ≡ Some m → AreMarkStates j.desc m
   mark_states n Refuted e = tt
   mark_states n (Shown s t) e =

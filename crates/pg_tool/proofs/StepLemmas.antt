@@ -1,5 +1,5 @@
 -- What functions for steps answer, one step behind another.
-use Rattle.std.proofs.Common.{◌≡◌, ℕ, ◌<◌, ◌≤◌, subst, Result, Ok, Err, inl, inr, refl, arith}
+use Rattle.std.proofs.Common.{◌≡◌, ℕ, ◌<◌, ◌≤◌, subst, Result, Ok, Err, inl, inr, refl, sym, arith}
 use Rattle.pg_edge.specs.Count.{Rose}
 use Rattle.pg_tool.specs.declared.refusal.Refusal.{Refusal}
 use Rattle.pg_tool.specs.declared.refusal.Stop.{Stop}
@@ -36,6 +36,13 @@ room-came wanted free fits = (fits, refl)
 pub room-refused : (wanted free : ℕ) → free < wanted → RoomDue wanted free (Refused (of_room (record { wanted = wanted; free = free })))
 unfolding RoomDue
 room-refused wanted free passes = (record { wanted = wanted; free = free }, (passes, refl), refl)
+
+pub room-stopped : {T : Type 0} (view : T → ℕ) (wanted free w f before after : ℕ) (s : Stop) → w ≡ wanted → f ≡ free → f < w →
+    s ≡ stop.Refused (of_room (record { wanted = w; free = f })) → Comes view (RoomDue wanted free) before after (Err s)
+room-stopped view wanted free w f before after s more less passes is =
+    subst (λ n. Comes view (RoomDue n free) before after (Err s)) more
+    (subst (λ n. Comes view (RoomDue w n) before after (Err s)) less
+    (subst (λ x. Comes view (RoomDue w f) before after (Err x)) (sym is) (room-refused w f passes)))
 
 -- the same of equal files, widths and grants
 pub same_three : {A B C : Type 0} (P : A → B → C → Type 0) (a a' : A) (b b' : B) (c c' : C) → a ≡ a' → b ≡ b' → c ≡ c' → P a b c → P a' b' c'

@@ -1,5 +1,5 @@
 -- What the marks of a certificate say, and what follows of the verdict of them.
-use Rattle.std.proofs.Common.{◌≡◌, ℕ, zero, suc, ◌+◌, ◌*◌, ◌/◌, ◌%◌, ◌<◌, ◌≤◌, Bool, true, false, not, cond, ◌||◌, List, [], ◌∷◌, All, length, map, get_or, drop, Option, None, Some, Ok, ◌⊎◌, inl, inr, refl, sym, ap, subst, ◌∙◌, arith, slice_get}
+use Rattle.std.proofs.Common.{◌≡◌, ℕ, zero, suc, ◌+◌, ◌*◌, ◌%◌, ◌<◌, ◌≤◌, Bool, true, false, not, cond, ◌||◌, List, [], ◌∷◌, All, length, map, get_or, drop, Option, None, Some, Ok, ◌⊎◌, inl, inr, refl, sym, ap, subst, ◌∙◌, arith, slice_get}
 use Rattle.std.specs.Prelude.{◌==◌, nat_lt, position, unwrap_or, if◌then◌else◌}
 use Rattle.std.proofs.lemmas.Bool.{eqb-true, eqb-false, and_parts, lt-ltb, ltb-true}
 use Rattle.std.specs.List.{position_or_len}
@@ -491,6 +491,13 @@ shown_there d family report h =
 pub marks_shown : (d : Desc) (family : Family) (bytes : List ℕ) (p : Progress) (report : Report) → IsValid d → verified d family bytes ≡ Ok p →
     IsReportOf p report → AreShown d report
 marks_shown d family bytes p report valid taken is = shown_there d family report (all_say d family bytes p report valid taken is)
+
+-- the family of a text that is not refused
+pub marks_family : (d : Desc) (family : Family) (bytes : List ℕ) (p : Progress) (report : Report) → IsValid d → verified d family bytes ≡ Ok p →
+    IsReportOf p report → report.family ≡ family
+marks_family d family bytes p report valid taken is =
+    let h : AllSay d family report = all_say d family bytes p report valid taken is in
+    h.of_family
 
 -- ---- what can be put
 

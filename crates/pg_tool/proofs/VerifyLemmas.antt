@@ -12,4 +12,5 @@ use Rattle.pg_tool.proofs.JudgedLemmas.{judged-read}
 pub verify-ends : (told : Option Files) (desc cert : List ℕ) (j : Judged) (old new : World) → JudgedDue desc cert told (Came j) → IsUntouched old new →
     VerifyEnds j old new (verdict_status (verdict_on j)) (verdict_text j.desc j.report.family j.report.marks)
 verify-ends told desc cert j old new due same =
-    record { status = refl; wording = refl; meaning = (judged-read told desc cert j due).means; untouched = same }
+    let read = judged-read told desc cert j due in
+    record { family = read.of_family; status = refl; wording = refl; meaning = read.means; untouched = same }

@@ -1,7 +1,7 @@
 -- `bare`: a run of a bare machine.
 use Rattle.std.specs.Prelude.{◌≡◌, ℕ, ◌+◌, List, Option, None}
 use Rattle.pg_ast.specs.declared.tree.Desc.{Desc}
-use Rattle.pg_command.specs.declared.running.RunWords.{RunWords}
+use Rattle.pg_command.specs.declared.bare.BareWords.{BareWords}
 use Rattle.pg_edge.specs.Shelf.{Files}
 use Rattle.pg_hw.specs.Bursts.{untrapped_among, BottomRises}
 use Rattle.pg_image.specs.Lines.{state_text}
@@ -30,7 +30,7 @@ abbrev pub reached : BareRun → State
 reached r = bare r.desc r.image r.grant r.steps
 
 -- the description, the room, the image, and then the run
-unfoldable pub BareDue : RunWords → Option Files → Step Refusal BareRun
+unfoldable pub BareDue : BareWords → Option Files → Step Refusal BareRun
 BareDue b told =
     Then (DescDue told b.desc) (λ d. Then (RoomDue b.grant d.size) (λ cells. Then (ImageDue told 0 b.image d.word cells) (λ image.
     Gives (record { desc = d; image = image; grant = b.grant; steps = b.steps }))))
@@ -54,7 +54,7 @@ pub record BareEnds (r : BareRun) (old new : World) (given : Status) (text : Lis
   pub saves : new.save_faults ≡ old.save_faults
 
 -- memory is refused before its first step, and then nothing was done
-abbrev pub bare_command : RunWords → Command
+abbrev pub bare_command : BareWords → Command
 bare_command b = record {
   Work = BareRun;
   due = BareDue b;

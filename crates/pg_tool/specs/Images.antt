@@ -1,5 +1,5 @@
 -- An image: what bytes come to as one, and the step that loads and reads it.
-use Rattle.std.specs.Prelude.{◌≡◌, ℕ, List, Option, None, Some, Result, Ok, Err}
+use Rattle.std.specs.Prelude.{◌≡◌, ◌<◌, ◌^◌, ℕ, suc, List, [], ◌∷◌, length, All, Option, None, Some, Result, Ok, Err}
 use Rattle.pg_edge.specs.Shelf.{Files}
 use Rattle.pg_image.specs.declared.fault.ImageFault.{ImageFault}
 use Rattle.pg_image.specs.declared.fault.ImageFault.TheVariants as image_fault
@@ -8,7 +8,7 @@ use Rattle.pg_report.specs.declared.line.RefusalLine.TheVariants.{Image}
 use Rattle.pg_report.specs.declared.line.ImageLine.{ImageLine}
 use Rattle.pg_report.specs.declared.line.ImageLine.TheVariants as told_image
 use Rattle.pg_tool.specs.declared.refusal.Refusal.{Refusal}
-use Rattle.pg_tool.specs.Steps.{Step, As}
+use Rattle.pg_tool.specs.Steps.{Step, As, Then, Gives}
 use Rattle.pg_tool.specs.FileSteps.{FromFile}
 use Rattle.pg_tool.specs.Refusals.{of_file}
 
@@ -35,3 +35,14 @@ BytesDue w size text (Err told) = IsNoImage w size text told
 -- the image of this number is loaded, and then read, for words of w bits and so many cells
 unfoldable pub ImageDue : Option Files → ℕ → List ℕ → ℕ → ℕ → Step Refusal (List ℕ)
 ImageDue told number name w size = As (of_file (Image number)) (FromFile told name most_image_bytes told_image.Long (BytesDue w size))
+
+-- the images of these names, in order, the first of this number
+unfoldable pub ImagesDue : Option Files → ℕ → List (List ℕ) → ℕ → ℕ → Step Refusal (List (List ℕ))
+ImagesDue told number [] w size = Gives []
+ImagesDue told number (name ∷ names) w size =
+    Then (ImageDue told number name w size) (λ image. Then (ImagesDue told (suc number) names w size) (λ images. Gives (image ∷ images)))
+
+-- an image for so many cells, of words of w bits
+pub record Fills (w size : ℕ) (image : List ℕ) : Type 0 where
+  pub whole : length image ≡ size
+  pub words : All (λ word. word < 2 ^ w) image

@@ -1,11 +1,15 @@
 -- A certificate of a description, and its verdict: what is kept of the two, and the steps that load them.
-use Rattle.std.specs.Prelude.{ℕ, List, Option}
+use Rattle.std.specs.Prelude.{ℕ, List, All, Option}
+use Rattle.std.proofs.Props.{props}
 use Rattle.pg_ast.specs.declared.tree.Desc.{Desc}
+use Rattle.pg_cert.specs.declared.report.Mark.{Mark}
+use Rattle.pg_cert.specs.declared.report.Mark.TheVariants.{Refuted, Shown, Spent}
 use Rattle.pg_cert.specs.declared.report.Report.{Report}
 use Rattle.pg_cert.specs.declared.report.Verdict.{Verdict}
 use Rattle.pg_cert.specs.declared.report.Verdict.TheVariants as verdict
 use Rattle.pg_cert.specs.Verdicts.{verdict_of}
 use Rattle.pg_edge.specs.Shelf.{Files}
+use Rattle.pg_report.specs.Verdicts.{DoMarkWordsFit}
 use Rattle.pg_tool.specs.declared.status.Status.{Status}
 use Rattle.pg_tool.specs.declared.status.Status.TheVariants as status
 use Rattle.pg_tool.specs.declared.refusal.Refusal.{Refusal}
@@ -31,3 +35,11 @@ abbrev pub verdict_status : Verdict → Status
 verdict_status verdict.Accepted = status.Done
 verdict_status (verdict.Refused instr) = status.Refused
 verdict_status (verdict.Unsettled instr kind) = status.Unsettled
+
+DoMarkWordsFit-prop : (w : ℕ) (m : Mark) → IsProp (DoMarkWordsFit w m)
+DoMarkWordsFit-prop w Refuted = hlevel props
+DoMarkWordsFit-prop w (Shown s t) = hlevel props
+DoMarkWordsFit-prop w (Spent budget) = hlevel props
+
+pub DoMarksFit-prop : (w : ℕ) (marks : List Mark) → IsProp (All (DoMarkWordsFit w) marks)
+DoMarksFit-prop w marks = hlevel (props, DoMarkWordsFit-prop)

@@ -11,7 +11,6 @@ pub mod Meaning
 pub mod Judged
 pub mod Saving
 pub mod Rooms
-pub mod Rule
 pub mod World
 pub mod Commands
 pub mod Bare

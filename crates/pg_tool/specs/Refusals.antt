@@ -1,7 +1,7 @@
 -- Refusals: how the reasons of steps are told, with which status and which text.
 use Rattle.std.specs.Prelude.{ℕ, List, Option, None, Some}
 use Rattle.pg_report.specs.declared.line.RefusalLine.{RefusalLine}
-use Rattle.pg_report.specs.declared.line.RefusalLine.TheVariants.{Description, Image, Certificate, Room, Open}
+use Rattle.pg_report.specs.declared.line.RefusalLine.TheVariants.{Description, Image, Certificate, Room}
 use Rattle.pg_report.specs.Texts.{refusal_text, usage_text}
 use Rattle.pg_tool.specs.declared.status.Status.{Status}
 use Rattle.pg_tool.specs.declared.status.Status.TheVariants as status
@@ -20,7 +20,6 @@ line_status (Description line) = status.Description
 line_status (Image number line) = status.Image
 line_status (Certificate line) = status.Certificate
 line_status (Room wanted free) = status.Room
-line_status (Open name) = status.Unsettled
 
 -- the status of a refusal
 abbrev pub refusal_status : Refusal → Status

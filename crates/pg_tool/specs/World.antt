@@ -1,11 +1,11 @@
 -- What surrounds a command, and what is left of it as it was.
-use Rattle.std.specs.Prelude.{◌≡◌, ℕ, ◌<◌, ◌^◌, List, Option, None, Some}
+use Rattle.std.specs.Prelude.{◌≡◌, ℕ, List, Option, None, Some}
 use Rattle.pg_edge.specs.Count.{Rose}
 use Rattle.pg_edge.specs.Shelf.{Files, SameBut}
 use Rattle.pg_edge.specs.Sink.{Adds, AddsFront}
 use Rattle.pg_edge.specs.Told.{BothTold}
-use Rattle.pg_hw.specs.declared.counts.Counts.{Counts}
 use Rattle.pg_hw.specs.Machinery.{Machinery}
+pub use Rattle.pg_guests.specs.Runs.{CanCount}
 
 -- a sink: its bytes, where it tells them, and its count of faults
 pub record Output : Type 0 where
@@ -50,10 +50,3 @@ SaysFront (Some text) old new = Breaks text old new
 abbrev pub SavesOnly : Option (List ℕ) → Option Files → Option Files → Type 0
 SavesOnly None was now = now ≡ was
 SavesOnly (Some name) was now = BothTold was now (SameBut name)
-
--- counts that have room for the steps and pokes of any command
-pub record CanCount (c : Counts) : Type 0 where
-  pub steps : c.steps < 2 ^ 62
-  pub untrapped : c.untrapped < 2 ^ 62
-  pub pokes : c.pokes < 2 ^ 62
-  pub loads : c.loads < 2 ^ 62

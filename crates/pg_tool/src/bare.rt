@@ -11,6 +11,7 @@ ghost use Rattle.pg_edge.specs.Sink.{Puts};
 ghost use Rattle.pg_hw.specs.Serving.{SameServed};
 ghost use Rattle.pg_image.specs.Lines.{state_text};
 ghost use Rattle.pg_tool.specs.Bare.{BareDue, RanBare, bare_command, reached};
+ghost use Rattle.pg_valid.specs.Valid.{IsValid};
 ghost use Rattle.pg_tool.specs.Commands.{Carries};
 ghost use Rattle.pg_tool.specs.Answering.{Comes, OnlyReads};
 ghost use Rattle.pg_tool.specs.Plans.{bare_run};
@@ -23,7 +24,7 @@ use crate::refusal::Stop;
 use crate::room::no_room;
 use crate::status::Status;
 use crate::stop::stopped;
-use pg_command::RunWords;
+use pg_command::BareWords;
 use pg_edge::{Failed, Shelf, Sink};
 use pg_hw::{Hardware, bare, power_on};
 use pg_report::put_state;
@@ -33,12 +34,12 @@ use std::alloc::{AllocError, Global};
 /// Carries out `bare`.
 pub(crate) fn carry_bare<F: Shelf, S: Sink, H: Hardware>(
     alloc: Global,
-    words: &RunWords,
+    words: &BareWords,
     shelf: &mut F,
     out: &mut S,
     hw: &mut H,
 ) -> Status
-    requires serves { (d : Desc) → H.serves hw.old d }
+    requires serves { (d : Desc) → IsValid d → H.serves hw.old d }
     requires room { 1048575 ≤ (H.machinery hw.old).room }
     requires counts { CanCount (H.machinery hw.old).tally }
     ensures carries { Carries (bare_command words.now) (around (F.files shelf.old) (F.reads shelf.old) (F.saves shelf.old) (output (S.written out.old) (S.faults out.old)) (H.machinery hw.old))
@@ -64,7 +65,7 @@ pub(crate) fn carry_bare<F: Shelf, S: Sink, H: Hardware>(
 }
 
 /// The run that is to be done; or why there is none.
-fn prepare_bare<F: Shelf>(alloc: Global, words: &RunWords, shelf: &mut F) -> Result<BarePlan, Stop>
+fn prepare_bare<F: Shelf>(alloc: Global, words: &BareWords, shelf: &mut F) -> Result<BarePlan, Stop>
     ensures comes { Comes bare_run (BareDue words.now (F.files shelf.old)) (F.reads shelf.old) (F.reads shelf.new) result }
     ensures reads { OnlyReads (F.files shelf.old) (F.files shelf.new) (F.saves shelf.old) (F.saves shelf.new) (F.reads shelf.old) (F.reads shelf.new) }
 {
@@ -89,7 +90,7 @@ fn prepare_bare<F: Shelf>(alloc: Global, words: &RunWords, shelf: &mut F) -> Res
 
 /// Runs a bare machine on the hardware. No memory is taken from its first step on.
 pub(crate) fn run_bare<H: Hardware>(plan: &BarePlan, hw: &mut H) -> Result<(), AllocError>
-    requires serves { (d : Desc) → H.serves hw.old d }
+    requires serves { (d : Desc) → IsValid d → H.serves hw.old d }
     requires room { 1048575 ≤ (H.machinery hw.old).room }
     requires counts { CanCount (H.machinery hw.old).tally }
     ensures ran { OnOk result (RanBare (bare_run plan.now) (H.machinery hw.old) (H.machinery hw.new)) }

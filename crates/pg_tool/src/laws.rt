@@ -8,7 +8,7 @@ ghost use Rattle.pg_tool.specs.Bare.{BareRun, RanBare};
 ghost use Rattle.pg_tool.specs.Commands.{Carries};
 ghost use Rattle.pg_tool.specs.World.{World};
 ghost use Rattle.pg_tool.specs.declared.status.Status.TheVariants.{ReadFault};
-ghost use Rattle.pg_tool.specs.Run.{GuestRun, RanGuests};
+ghost use Rattle.pg_guests.specs.Runs.{GuestRun, RanGuests};
 ghost use Rattle.pg_tool.specs.Asking.{command_for};
 ghost use Rattle.pg_tool.specs.Steps.{IsOne};
 

@@ -22,6 +22,7 @@ ghost use Rattle.pg_ast.specs.declared.tree.Desc.{Desc};
 ghost use Rattle.pg_edge.specs.Shelf.{Files};
 ghost use Rattle.pg_hw.specs.Serving.{SameServed};
 ghost use Rattle.pg_tool.specs.Asking.{command_for, command_of};
+ghost use Rattle.pg_valid.specs.Valid.{IsValid};
 ghost use Rattle.pg_tool.specs.Commands.{Carries, Exactly};
 ghost use Rattle.pg_tool.specs.Answering.{stop_of_words};
 ghost use Rattle.pg_tool.specs.World.{CanCount, SavesOnly, around, output};
@@ -76,7 +77,7 @@ pub fn tool<F: Shelf, S: Sink, H: Hardware>(
     out: &mut S,
     hw: &mut H,
 ) -> Status
-    requires serves { (d : Desc) → H.serves hw.old d }
+    requires serves { (d : Desc) → IsValid d → H.serves hw.old d }
     requires room { 1048575 ≤ (H.machinery hw.old).room }
     requires counts { CanCount (H.machinery hw.old).tally }
     // What is left of files, sink and hardware, by the status.
@@ -107,7 +108,7 @@ pub fn tool_watched<F: Shelf, S: Sink, H: Hardware, W: Watcher>(
     hw: &mut H,
     watcher: &mut W,
 ) -> Status
-    requires serves { (d : Desc) → H.serves hw.old d }
+    requires serves { (d : Desc) → IsValid d → H.serves hw.old d }
     requires room { 1048575 ≤ (H.machinery hw.old).room }
     requires counts { CanCount (H.machinery hw.old).tally }
     // What is left of files, sink and hardware, by the status.
@@ -141,7 +142,7 @@ fn carry<F: Shelf, S: Sink, H: Hardware, W: Watcher>(
     hw: &mut H,
     watcher: &mut W,
 ) -> Status
-    requires serves { (d : Desc) → H.serves hw.old d }
+    requires serves { (d : Desc) → IsValid d → H.serves hw.old d }
     requires room { 1048575 ≤ (H.machinery hw.old).room }
     requires counts { CanCount (H.machinery hw.old).tally }
     ensures carries { Carries (command_of request.now) (around (F.files shelf.old) (F.reads shelf.old) (F.saves shelf.old) (output (S.written out.old) (S.faults out.old)) (H.machinery hw.old))

@@ -11,7 +11,7 @@ ghost use Rattle.pg_edge.specs.Count.{Rose};
 ghost use Rattle.pg_edge.specs.declared.shelf.LoadFault.TheVariants.{Missing, Long, Failed};
 ghost use Rattle.pg_tool.specs.FileSteps.{HoldsWithin};
 ghost use Rattle.pg_tool.specs.Descriptions.{DescDue};
-ghost use Rattle.pg_tool.specs.Images.{ImageDue};
+ghost use Rattle.pg_tool.specs.Images.{Fills, ImageDue, ImagesDue};
 ghost use Rattle.pg_tool.specs.Answering.{Comes, OnlyReads, stop_as};
 
 use crate::described::machine_of;
@@ -24,6 +24,7 @@ use pg_read::DESC_BYTES;
 use pg_report::{DescriptionLine, ImageLine, RefusalLine};
 use pg_valid::Machine;
 use pg_word::Shape;
+use sqlite_items::Items;
 use std::alloc::Global;
 
 /// The machine that a file describes, or why there is none.
@@ -77,6 +78,36 @@ pub(crate) fn load_image<F: Shelf>(
         Err(None) => Err(Stop::Memory),
         Err(Some(line)) => Err(Stop::Refused(Refusal::Line(RefusalLine::Image(number, line)))),
     }
+}
+
+/// The images of these files, in order, each for `size` cells, or why there are none.
+pub(crate) fn load_images<F: Shelf>(
+    alloc: Global,
+    names: &[FileName],
+    shape: &Shape,
+    size: u32,
+    shelf: &mut F,
+) -> Result<Items<Image>, Stop>
+    requires shape { IsShape shape.now }
+    requires least { 2 ≤ size }
+    requires most { size ≤ shape.now.q }
+    ensures comes { Comes (λ images. images) (ImagesDue (F.files shelf.old) 0 names.now shape.now.w size) (F.reads shelf.old) (F.reads shelf.new) result }
+    ensures count { IfOk result (λ images. length images ≡ length names.now) }
+    ensures each { IfOk result (λ images. All (Fills shape.now.w size) images) }
+    ensures reads { OnlyReads (F.files shelf.old) (F.files shelf.new) (F.saves shelf.old) (F.saves shelf.new) (F.reads shelf.old) (F.reads shelf.new) }
+{
+    let mut images = Items::new(alloc);
+    for (number, name) in names.iter().enumerate() {
+        let image = match load_image(alloc, number, name, shape, size, shelf) {
+            Ok(image) => image,
+            Err(stop) => return Err(stop),
+        };
+        match images.push(image) {
+            Ok(()) => {}
+            Err(_) => return Err(Stop::Memory),
+        }
+    }
+    Ok(images)
 }
 
 /// The bytes of a file, if it has at most `limit`.

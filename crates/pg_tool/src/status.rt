@@ -18,8 +18,7 @@ pub enum Status {
     Done,
     /// A monitor may not run the machine: a certificate shows an instruction that is neither privileged nor innocuous.
     Refused,
-    /// It stays open whether a monitor may run the machine: an instruction breaks the plain rule, or a certificate leaves a
-    /// question open.
+    /// It stays open whether a monitor may run the machine: a certificate leaves a question open.
     Unsettled,
     /// The words are none that the program takes.
     Words,

@@ -55,6 +55,5 @@ fn status_of(line: &RefusalLine) -> Status
         RefusalLine::Image(..) => Status::Image,
         RefusalLine::Certificate(_) => Status::Certificate,
         RefusalLine::Room(..) => Status::Room,
-        RefusalLine::Open(_) => Status::Unsettled,
     }
 }
