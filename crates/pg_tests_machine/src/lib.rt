@@ -8,8 +8,8 @@
 //! - `hardware`: a hardware that is poked, loaded, stepped, switched on and run.
 //! - `routine`: a guest's composed program status word, and its interpreted steps.
 //! - `grants`: grants that are placed and released.
-//! - `monitor`: a monitor with a guest, its turns and plans.
-//! - `setting`: the machine without instructions, on which all of them run.
+//! - `monitor`: a monitor that takes guests, reaches them, and gives them turns, by plans and by slices.
+//! - `setting`: the machine without instructions, on which all of them run, and what is asked of a hardware.
 #![tactic(auto)]
 
 #[cfg(test)]

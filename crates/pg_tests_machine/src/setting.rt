@@ -3,6 +3,7 @@
 ghost use Rattle.std.specs.Prelude.{◌≡◌, [], IfOk};
 
 use pg_ast::Desc;
+use pg_hw::{Counts, Hardware};
 use pg_valid::{Machine, check};
 use pg_word::{Mode, Psw};
 use sqlite_items::Items;
@@ -34,4 +35,24 @@ pub(crate) fn psw(mode: Mode, p: u32, l: u32, b: u32) -> Psw
     ensures { result ≡ record { mode = mode; p = p; l = l; b = b } }
 {
     Psw { mode, p, l, b }
+}
+
+/// Counts of a hardware on which no step is untrapped.
+pub(crate) fn counts(steps: u64, pokes: u64, loads: u64) -> Counts {
+    Counts {
+        steps,
+        untrapped: 0,
+        pokes,
+        loads,
+    }
+}
+
+/// Whether cells of a hardware hold these words, each of which stands behind its address.
+pub(crate) fn has_words<H: Hardware>(hw: &H, words: &[(u32, u64)]) -> bool {
+    for word in words {
+        if word.0 >= hw.size() || hw.peek(word.0) != word.1 {
+            return false;
+        }
+    }
+    true
 }

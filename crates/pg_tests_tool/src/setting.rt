@@ -23,6 +23,17 @@ instr svc \"00000011_........................\" { trap; }
 instr lr \"00000100_........_llllllll_bbbbbbbb\" { if mode { trap; } rel = l; bound = b; }
 ";
 
+/// What is written where the words are none that the program takes.
+pub(crate) const USAGE: &str = "pgv bare DESC IMAGE --grant G --steps N
+pgv check DESC --cert FILE [--budget K]
+pgv verify DESC CERT
+pgv replay DESC CERT
+pgv run DESC CERT IMAGE.. --grant G --steps N [--slice K]
+pgv print DESC
+pgv migrate DESC CERT FILE
+pgv hcheck DESC --cert FILE [--budget K]
+";
+
 /// How a command ended, what was written, and the hardware.
 #[derive(Drop)]
 pub(crate) struct Ran {
@@ -79,14 +90,55 @@ fn run_on(
 ) -> Result<Ran, Fail> {
     let given = words_of(alloc, words)?;
     let mut shelf = MemShelf::new(alloc, files, 0, shelf_fails)?;
+    run_words(alloc, &given, &mut shelf, sink_fails)
+}
+
+/// Runs the words on a shelf.
+fn run_words(
+    alloc: Global,
+    words: &[String],
+    shelf: &mut MemShelf,
+    sink_fails: Vec<(u64, usize)>,
+) -> Result<Ran, Fail> {
     let mut out = MemSink::new(alloc, 4096, sink_fails)?;
     let mut hw = Rig::new(alloc);
-    let status = tool(alloc, &given, &mut shelf, &mut out, &mut hw);
+    let status = tool(alloc, words, shelf, &mut out, &mut hw);
     let text = match str::from_utf8(out.bytes()) {
         Ok(written) => text(alloc, written)?,
         Err(_) => return Err(Fail::from("what is written is text")),
     };
     Ok(Ran { status, text, hw })
+}
+
+/// How many bytes a command may save in a file.
+const ROOM: usize = 1 << 18;
+
+/// A shelf of these files, by name and content, where the calls listed fail. What a command saves there is read by the next.
+pub(crate) fn shelf_of(
+    alloc: Global,
+    files: &[(&str, &str)],
+    failing: &[(u64, usize)],
+) -> Result<MemShelf, Fail> {
+    let mut held = Vec::new(alloc);
+    for (name, content) in files {
+        held.push((text(alloc, name)?, bytes(alloc, content)?))?;
+    }
+    Ok(MemShelf::new(alloc, held, ROOM, failing.to_vec(alloc)?)?)
+}
+
+/// Runs a line, a command and its words with a blank between them, on a shelf, where the calls listed of the sink fail.
+pub(crate) fn command(
+    alloc: Global,
+    shelf: &mut MemShelf,
+    line: &str,
+    sink_fails: &[(u64, usize)],
+) -> Result<Ran, Fail> {
+    let mut words = Vec::new(alloc);
+    words.push(text(alloc, "pgv")?)?;
+    for word in line.split(' ') {
+        words.push(text(alloc, word)?)?;
+    }
+    run_words(alloc, &words, shelf, sink_fails.to_vec(alloc)?)
 }
 
 /// The files `d` and `i`.

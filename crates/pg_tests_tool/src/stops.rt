@@ -1,6 +1,6 @@
 //! Commands that are refused, and calls that fail on the way.
 
-use crate::setting::{M0, Ran, bare, is_fresh, run};
+use crate::setting::{M0, Ran, USAGE, bare, is_fresh, run};
 use pg_tool::Status;
 use std::alloc::Global;
 use std::test::Fail;
@@ -52,13 +52,7 @@ fn a_missing_file_has_its_status(rt: HostRuntime) -> Result<(), Fail> {
 fn words_that_are_not_taken_show_the_usage(rt: HostRuntime) -> Result<(), Fail> {
     let ran = failing(rt.alloc(), &["pgv"], &[], &[])?;
     assert!(rt; ran.status == Status::Words);
-    assert_eq!(rt;
-        ran.text.as_str(),
-        "pgv bare DESC IMAGE --grant G --steps N\n\
-          pgv check DESC --cert FILE [--budget K]\npgv verify DESC CERT\n\
-          pgv replay DESC CERT\npgv run DESC IMAGE --grant G --steps N\npgv print DESC\n\
-          pgv migrate DESC CERT FILE\npgv hcheck DESC --cert FILE [--budget K]\n"
-    );
+    assert_eq!(rt; ran.text.as_str(), USAGE);
     assert!(rt; is_fresh(&ran.hw));
     Ok(())
 }

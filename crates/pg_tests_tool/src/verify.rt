@@ -6,9 +6,9 @@ use std::alloc::Global;
 use std::test::Fail;
 
 /// A machine with no instruction, and one whose instruction goes to user mode, in either mode.
-const NONE: &str = "machine { word 32; address 8; size 64; }\n";
+pub(crate) const NONE: &str = "machine { word 32; address 8; size 64; }\n";
 
-const RTU: &str = "machine { word 32; address 8; size 64; }
+pub(crate) const RTU: &str = "machine { word 32; address 8; size 64; }
 instr rtu \"00000101_................_aaaaaaaa\" { mode = 1:1; pc = a; }
 ";
 
@@ -38,7 +38,7 @@ end
 
 /// Whether the instruction is privileged is open: of the 851 clauses of that question the sixth is `-75 26` and the eleventh
 /// `76 75 74`, and the one step is what they come to. In supervisor mode it changes the mode, and the other kinds are refuted.
-const OPEN: &str = "pgcert 2
+pub(crate) const OPEN: &str = "pgcert 2
 finding rtu privileged spent 1
 s 26 74 76 0 6 11 0
 finding rtu control shown

@@ -1,7 +1,7 @@
 use Rattle.std.proofs.Common.{ap, arith}
 use Rattle.pg_hw.specs.Machinery.{Machinery}
 use Rattle.pg_tests_machine.proofs.Heads.{blank-length, first-guest, second-guest}
-use Rattle.pg_tests_machine.proofs.routine.a_guest_traps_into_its_own_cells.Goals as goal
+use Rattle.pg_tests_machine.proofs.routine.a_guest_keeps_to_its_grant.Goals as goal
 
 pub emulate-requires-clause-within : goal.emulate-requires-clause-within
 emulate-requires-clause-within g c = omega (arith, blank-length 64 _ (ap (λ (h : Machinery). h.state) c.in_ok-install.ensures.installed))
