@@ -30,6 +30,9 @@ Answered = Answer | Search | Migration
 REFUSED_FILES = (DESCRIPTION, IMAGE, CERTIFICATE)
 """Statuses of which the class of the fault is told beside."""
 
+WATCHED = (*SAVING, "run")
+"""Commands whose files are looked at behind a run: some may change, or none of many."""
+
 MOST_KEPT = 20
 """Differences of a round that are kept; further ones are counted only."""
 
@@ -118,9 +121,10 @@ class Comparison:
             if model is None:
                 tally.not_modelled += 1
                 continue
-            may_save = case.words[:1] and case.words[0] in SAVING
-            before = self.found() if may_save else None
+            before = self.found() if case.words[:1] and case.words[0] in WATCHED else None
             program = self.by_program(case.words, self.files, case.is_full)
+            if case.other_words is not None:
+                program = self.with_others(program, case.other_words, tally)
             model = self.compared(model, program, before)
             tally.runs += 1
             tally.seen[model.label()] += 1
@@ -180,11 +184,13 @@ class Comparison:
     def compared(self, model: Answered | Outcome, program: Outcome, before: Mapping[str, bytes | None] | None) -> Outcome:
         """What the model has to say of a run: the same outcome, where nothing is wrong with it.
 
-        A run that may have saved has the files `before` it; else nothing can have changed.
+        A run that is watched has the files `before` it; else nothing can have changed.
         """
         after = None
         if before is not None:
-            after, self.placed = self.found(), None
+            after = self.found()
+            if after != before:
+                self.placed = None
         if isinstance(model, Outcome):
             return model
         if isinstance(model, Answer):
@@ -197,6 +203,14 @@ class Comparison:
         except Exception:
             return _failed()
         return Outcome(None, b"", "\n".join(complaints).encode()) if complaints else program._replace(errors=b"")
+
+    def with_others(self, program: Outcome, words: Sequence[str], tally: Tally) -> Outcome:
+        """The outcome of a run, or a complaint where one with these other words ends otherwise."""
+        other = self.by_program(words, self.files)
+        tally.judged["runs with another slice"] += 1
+        if other == program:
+            return program
+        return Outcome(None, b"", f"{shlex.join(words)}: {other.told()}, and not {program.told()}".encode())
 
     def verified(self, description: bytes, certificate: bytes) -> Ended:
         """How the program's `verify` ends, on these texts in a folder of their own."""

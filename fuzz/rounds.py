@@ -1,19 +1,20 @@
 """The rounds: named sources of cases."""
 
+import itertools
 from collections.abc import Callable, Iterator
 from dataclasses import dataclass
 from random import Random
 
-from inputs import certificates, checks, command_lines, depths, large, limits, lines, patterns, windows
-from inputs.case import Case, printing, running
-from inputs.descriptions import ANY_MANNER, MOSTLY_PLAIN, PLAIN_MANNERS, any_description, random_description, random_shape
+from inputs import certificates, checks, command_lines, depths, guests, large, limits, lines, patterns, windows
+from inputs.case import Case, printing, running_bare
+from inputs.checker import Means
+from inputs.descriptions import ANY_MANNER, any_description, random_description, random_shape
 from inputs.images import ImageWriter, broken_image
-from inputs.programs import TAME, operator_description, with_near_miss
+from inputs.programs import TAME, operator_description
 from inputs.spelling import any_spelling, spelled
 from inputs.text_mutations import mutated
 from inputs.tree_mutations import perturbed, with_limit_fault, with_other_names, with_other_widths
 from pgvmodel import tree
-from pgvmodel.machine import MONITOR_CELLS
 from pgvmodel.questions import Questions
 
 STEPS = (1, 2, 3, 4, 6, 9, 15, 30, 60)
@@ -31,7 +32,7 @@ class RandomRound:
     name: str
     make: Callable[[Random], Case]
 
-    def cases(self, seed: int, count: int, _questions: Questions) -> Iterator[Case]:
+    def cases(self, seed: int, count: int, _means: Means) -> Iterator[Case]:
         """So many cases."""
         for i in range(count):
             yield self.make(Random(f"{seed} {self.name} {i}"))
@@ -44,10 +45,23 @@ class QuestionRound:
     name: str
     make: Callable[[Random, Questions], Case]
 
-    def cases(self, seed: int, count: int, questions: Questions) -> Iterator[Case]:
+    def cases(self, seed: int, count: int, means: Means) -> Iterator[Case]:
         """So many cases."""
         for i in range(count):
-            yield self.make(Random(f"{seed} {self.name} {i}"), questions)
+            yield self.make(Random(f"{seed} {self.name} {i}"), means.questions)
+
+
+@dataclass(frozen=True)
+class CheckedRound:
+    """Cases made a few at a time, also with certificates as the program makes them."""
+
+    name: str
+    make: Callable[[Random, Means], Iterator[Case]]
+
+    def cases(self, seed: int, count: int, means: Means) -> Iterator[Case]:
+        """So many cases."""
+        generators = (Random(f"{seed} {self.name} {i}") for i in itertools.count())
+        yield from itertools.islice((case for rng in generators for case in self.make(rng, means)), count)
 
 
 @dataclass(frozen=True)
@@ -57,10 +71,25 @@ class ListRound:
     name: str
     cases_of: Callable[[], list[Case]]
 
-    def cases(self, seed: int, count: int, _questions: Questions) -> Iterator[Case]:
+    def cases(self, seed: int, count: int, _means: Means) -> Iterator[Case]:
         """At most so many cases."""
-        listed = self.cases_of()
-        yield from Random(f"{seed} {self.name}").sample(listed, min(count, len(listed)))
+        yield from _sampled(f"{seed} {self.name}", self.cases_of(), count)
+
+
+@dataclass(frozen=True)
+class CheckedListRound:
+    """The same, with certificates as the program makes them."""
+
+    name: str
+    cases_of: Callable[[Means], list[Case]]
+
+    def cases(self, seed: int, count: int, means: Means) -> Iterator[Case]:
+        """At most so many cases."""
+        yield from _sampled(f"{seed} {self.name}", self.cases_of(means), count)
+
+
+def _sampled(seed: str, listed: list[Case], count: int) -> list[Case]:
+    return Random(seed).sample(listed, min(count, len(listed)))
 
 
 def spelled_round(rng: Random) -> Case:
@@ -105,52 +134,32 @@ def edited_image(rng: Random) -> Case:
     description = random_description(rng, shape, rng.choice([0, 1, 3]))
     grant = _grant(rng, description.size)
     image = ImageWriter(rng, description, grant).image()
-    return running("bare", description, broken_image(rng, image) if rng.random() < 0.85 else image, grant, 0)
+    return running_bare(description, broken_image(rng, image) if rng.random() < 0.85 else image, grant, 0)
 
 
 def bare_runs(rng: Random) -> Case:
     """Any bodies, on a bare machine; a few grants are over the room."""
     description = random_description(rng, random_shape(rng, small=rng.random() < 0.9), rng.choice(FEW_INSTRUCTIONS))
-    return _run(rng, "bare", description)
-
-
-def guest_runs(rng: Random) -> Case:
-    """Bodies that mostly keep the plain rule, some of them near it, as a guest; a few images are broken."""
-    manners = PLAIN_MANNERS if rng.random() < 0.75 else MOSTLY_PLAIN
-    shape = random_shape(rng, small=rng.random() < 0.9)
-    description = random_description(rng, shape, rng.choice(FEW_INSTRUCTIONS), manners)
-    return _run(rng, "run", with_near_miss(rng, description) if rng.random() < 0.35 else description)
+    return _run(rng, description)
 
 
 def tame_bare_runs(rng: Random) -> Case:
-    """Bodies that mostly are done, on a bare machine."""
-    return _run(rng, "bare", _tame(rng, guest=False))
-
-
-def tame_guest_runs(rng: Random) -> Case:
-    """Bodies that mostly are done and keep the plain rule, as a guest."""
-    return _run(rng, "run", _tame(rng, guest=True))
-
-
-def _tame(rng: Random, guest: bool) -> tree.Description:
-    """A small machine; few of its storages are so small that the programs leave them."""
+    """Bodies that mostly are done, on a bare machine; few storages are so small that the programs leave them."""
     shape = random_shape(rng, small=True)
     while shape.size < 12 and rng.random() < 0.9:
         shape = random_shape(rng, small=True)
-    manners = PLAIN_MANNERS if guest else ANY_MANNER
-    return random_description(rng, shape, rng.choice([1, 2, 2, 4, 4, 7, 8, 8]), manners, TAME)
+    return _run(rng, random_description(rng, shape, rng.choice([1, 2, 2, 4, 4, 7, 8, 8]), ANY_MANNER, TAME))
 
 
-def _run(rng: Random, command: str, description: tree.Description) -> Case:
+def _run(rng: Random, description: tree.Description) -> Case:
     """A run from an image for the description; a few images are broken, and a few grants are over the room."""
-    room = description.size - (MONITOR_CELLS if command == "run" else 0)
-    grant = _grant(rng, room)
+    grant = _grant(rng, description.size)
     image = ImageWriter(rng, description, grant).image()
     if rng.random() < 0.03:
         image = broken_image(rng, image)
     if rng.random() < 0.02:
-        grant = room + rng.choice([1, 2, 3, 1000])
-    return running(command, description, image, grant, rng.choice(STEPS))
+        grant = description.size + rng.choice([1, 2, 3, 1000])
+    return running_bare(description, image, grant, rng.choice(STEPS))
 
 
 def _grant(rng: Random, room: int) -> int:
@@ -161,16 +170,17 @@ def _grant(rng: Random, room: int) -> int:
 def operators(rng: Random) -> Case:
     """One step that stores results of operators."""
     description = operator_description(rng)
-    return running("bare", description, b"", description.size, 1)
+    return running_bare(description, b"", description.size, 1)
 
 
-def full_outputs(rng: Random, questions: Questions) -> Case:
+def full_outputs(rng: Random, means: Means) -> Iterator[Case]:
     """Any of these where standard output takes nothing; some without their last word. None of them saves a file."""
-    makers = [spelled_round, edited_text, edited_image, tame_bare_runs, tame_guest_runs]
+    makers = [spelled_round, edited_text, edited_image, tame_bare_runs]
     asking = [certificates.certificates, certificates.replays]
-    make = rng.choice([*makers, *asking])
-    case = make(rng, questions) if make in asking else make(rng)
-    return case._replace(words=case.words[: None if rng.random() < 0.9 else -1], is_full=True)
+    checked = [guests.windows, guests.certified]
+    make = rng.choice([*makers, *asking, *checked])
+    case = next(make(rng, means)) if make in checked else make(rng, means.questions) if make in asking else make(rng)
+    yield case._replace(words=case.words[: None if rng.random() < 0.9 else -1], is_full=True, other_words=None)
 
 
 ROUNDS = (
@@ -194,17 +204,21 @@ ROUNDS = (
     ListRound("odd-lines", lines.odd_lines),
     ListRound("edge-lines", lines.edge_lines),
     RandomRound("bare-runs", bare_runs),
-    RandomRound("guest-runs", guest_runs),
     RandomRound("tame-bare-runs", tame_bare_runs),
-    RandomRound("tame-guest-runs", tame_guest_runs),
     RandomRound("windows", windows.windows),
+    CheckedRound("guest-runs", guests.rough),
+    CheckedRound("tame-guest-runs", guests.tame),
+    CheckedRound("guest-windows", guests.windows),
+    CheckedRound("guest-systems", guests.systems),
+    CheckedRound("guest-certificates", guests.certified),
+    CheckedListRound("guest-rows", guests.rows),
     RandomRound("operators", operators),
     QuestionRound("certificates", certificates.certificates),
     QuestionRound("spoiled-certificates", certificates.spoiled_certificates),
     QuestionRound("logs", certificates.logs),
     QuestionRound("replays", certificates.replays),
     QuestionRound("migrations", certificates.migrations),
-    QuestionRound("full-outputs", full_outputs),
+    CheckedRound("full-outputs", full_outputs),
     ListRound("certificate-lines", certificates.odd_lines),
     ListRound("log-lines", certificates.odd_logs),
     ListRound("certificate-fronts", certificates.fronts),
@@ -228,5 +242,6 @@ LONG_ROUNDS = (
     ListRound("large-descriptions", large.large_descriptions),
     ListRound("large-images", large.large_images),
     ListRound("long-runs", large.long_runs),
+    CheckedListRound("long-guest-runs", large.long_guest_runs),
     ListRound("large-certificates", certificates.largest),
 )

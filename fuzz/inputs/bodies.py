@@ -8,10 +8,12 @@ from string import ascii_letters, ascii_lowercase, digits
 from pgvmodel import tree
 from pgvmodel.body import ARITHMETIC, COMPARISONS, mask
 from pgvmodel.reader import BLOCK_LEVELS, EXPRESSION_LEVELS
-from pgvmodel.rule import GUARD
 from pgvmodel.tokens import LONGEST_WORD, RESERVED
 from pgvmodel.validity import MOST_ACCESSES, MOST_LETS
 from pgvmodel.widths import MOST_BITS, SHIFTS
+
+GUARD = tree.If(tree.Register("mode"), (tree.Trap(),), None)
+"""`if mode { trap; }`, without an else: what begins with it traps in user mode."""
 
 NEARLY_RESERVED = ("on", "Mem", "pcx", "trap_", "if_", "elseif", "PC", "lets", "word1", "machine_", "cause", "causes_")
 
@@ -31,8 +33,8 @@ class Budget:
 
 @dataclass(frozen=True)
 class Manner:
-    """How an instruction behaves: `guarded` ones begin with the guard and have no other trap, and pure ones do not use the
-    control registers, so both keep to the plain rule."""
+    """How an instruction behaves: `guarded` ones begin with the guard and have no other trap, so they are privileged; pure ones
+    do not use the control registers, so they are not sensitive. A machine of such ones is one that a monitor may run."""
 
     registers: bool
     traps: bool

@@ -1,6 +1,6 @@
 """A command line and the files that it may name."""
 
-from collections.abc import Mapping
+from collections.abc import Mapping, Sequence
 from typing import NamedTuple
 
 from pgvmodel import tree
@@ -15,12 +15,13 @@ SAVED_FILE = "saved.cert"
 class Case(NamedTuple):
     """The words behind the program's name, and files by name; a name that ends with `/` is that of an empty folder.
 
-    Where `is_full` is true, standard output takes nothing.
+    Where `is_full` is true, standard output takes nothing. Where there are other words, a run of them has to end just so too.
     """
 
     words: tuple[str, ...]
     files: Mapping[str, bytes]
     is_full: bool = False
+    other_words: tuple[str, ...] | None = None
 
 
 def printing(description: bytes | tree.Description) -> Case:
@@ -28,10 +29,30 @@ def printing(description: bytes | tree.Description) -> Case:
     return Case(("print", DESCRIPTION_FILE), {DESCRIPTION_FILE: _text(description)})
 
 
-def running(command: str, description: bytes | tree.Description, image: bytes, grant: int, steps: int) -> Case:
-    """`bare` or `run` of a description and an image."""
-    words = (command, DESCRIPTION_FILE, IMAGE_FILE, "--grant", str(grant), "--steps", str(steps))
+def running_bare(description: bytes | tree.Description, image: bytes, grant: int, steps: int) -> Case:
+    """`bare` of a description and an image."""
+    words = ("bare", DESCRIPTION_FILE, IMAGE_FILE, "--grant", str(grant), "--steps", str(steps))
     return Case(words, {DESCRIPTION_FILE: _text(description), IMAGE_FILE: image})
+
+
+def running_guests(
+    description: bytes | tree.Description,
+    certificate: bytes,
+    images: Sequence[bytes],
+    grant: int,
+    steps: int,
+    slice_: str = "",
+    other_slice: str | None = None,
+) -> Case:
+    """`run` of a description, a certificate and images, of which equal ones are one file.
+
+    A slice is the word behind its option, or the empty one where that is left out. With the other one all has to end just so.
+    """
+    names = [f"guest{images.index(image)}.img" for image in images]
+    files = {DESCRIPTION_FILE: _text(description), CERTIFICATE_FILE: certificate, **dict(zip(names, images))}
+    words = ("run", DESCRIPTION_FILE, CERTIFICATE_FILE, *names, "--grant", str(grant), "--steps", str(steps))
+    first, other = (words + (("--slice", word) if word else ()) for word in (slice_, other_slice))
+    return Case(first, files, other_words=None if other_slice is None else other)
 
 
 def verifying(description: bytes | tree.Description, certificate: bytes) -> Case:

@@ -229,10 +229,15 @@ def _text(lines: Sequence[str]) -> bytes:
     return "".join(line + "\n" for line in lines).encode()
 
 
+def certificate_of(rng: Random, description: tree.Description, questions: Questions) -> bytes:
+    """A mostly valid certificate of a description."""
+    return _text(CertificateWriter(rng, description, questions).lines())
+
+
 def certificates(rng: Random, questions: Questions) -> Case:
     """Mostly valid ones."""
     description = rng.choice([telling, telling, quiet, mixed, differing])(rng)
-    return verifying(description, _text(CertificateWriter(rng, description, questions).lines()))
+    return verifying(description, certificate_of(rng, description, questions))
 
 
 def spoiled_certificates(rng: Random, questions: Questions) -> Case:
@@ -289,6 +294,12 @@ def _fixed() -> tuple[tree.Description, list[str]]:
     instr i0 "0xxxxyyyy......." { mem[x] = ext(cat(cat(rel, bound), mode), 16); rel = y; }"""
     description = read(text.encode())
     return description, CertificateWriter(rng, description, Questions()).lines()
+
+
+def all_shown() -> tuple[bytes, bytes]:
+    """A description, and a certificate of it that has shown pairs alone, so that it is refused."""
+    description, lines = _fixed()
+    return printed(description), _text(lines)
 
 
 def odd_lines() -> list[Case]:

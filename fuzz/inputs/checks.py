@@ -179,7 +179,7 @@ def hard(rng: Random) -> Case:
 
 
 def any_bodies(rng: Random) -> Case:
-    """Bodies of any statements and expressions, guarded or not, some begun near the plain rule."""
+    """Bodies of any statements and expressions, guarded or not, some with a begin that is a guard or nearly."""
     shape = small_shape(rng)
     manners = rng.choice([(FREE,), (FREE, GUARDED), (FREE, FREE, GUARDED, PURE)])
     count = rng.choice([1, 1, 2, 3, 4])

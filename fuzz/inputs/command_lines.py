@@ -1,11 +1,12 @@
 """Command lines over a few small files: shapes of lines, spellings of numbers, orders of refusals, random words."""
 
-from collections.abc import Iterator
 from itertools import product
 from random import Random
 
 from inputs.case import Case
+from inputs.certificates import all_shown
 from pgvmodel.tokens import NUMBERS
+from pgvmodel.words import MOST_IMAGES
 
 SMALL = b"""machine { word 32; address 8; size 64; }
 instr add "00000001_xxxxxxxx_yyyyyyyy_zzzzzzzz" { mem[x] = (mem[y] + mem[z]); }
@@ -15,11 +16,17 @@ instr lr  "00000100_........_llllllll_bbbbbbbb" { if mode { trap; } rel = l; bou
 """
 OPEN = SMALL + b'instr sm "00000110_................_aaaaaaaa" { pc = rel; }'
 
+TOLD, TOLD_CERTIFICATE = all_shown()
+"""A machine that is refused, and a certificate that says so without a log."""
+
 FILES = {
     "d": SMALL,
     "i": b"1: 00000705\n7: 01000000\n",
     "n": b"machine { word 32; address 8; size 64; }",
     "v": b"pgcert 1\nend\n",
+    "t": TOLD,
+    "tv": TOLD_CERTIFICATE,
+    "z": b"",
     "badv": b"pgcert 3\nend\n",
     "bad": b"machine {",
     "badi": b"2: 00\n",
@@ -33,7 +40,7 @@ FILES = {
 }
 """Files that lines name; `none`, `x` and `c` are not there."""
 
-GRANT, STEPS = ["--grant", "8"], ["--steps", "2"]
+GRANT, STEPS, SLICE = ["--grant", "8"], ["--steps", "2"], ["--slice", "3"]
 BOTH = GRANT + STEPS
 CERT, BUDGET = ["--cert", "x"], ["--budget", "5"]
 
@@ -83,7 +90,7 @@ MIGRATE_LINES = (
 )
 """Lines behind `migrate`."""
 
-RUN_LINES = (
+BARE_LINES = (
     "d i", "d G S", "G S", "d i G", "d i S", "d i x G S", "d i G G S", "d i G S S", "d i --grant 8 --grant=8 S", "d G i S",
     "G d S i", "S G d i", "S d G i", "G S -- d i", "-- d i G S", "G -- S d i", "d -- i G S", "d G S -- i", "d i G S --",
     "d i G S -- --", "d G S -- --", "-- -- i G S", "G S -- -- i", "G S -- -x i", "G S -x i", "G S - i", "G S i -",
@@ -94,7 +101,23 @@ RUN_LINES = (
     "d i --grant +8 --steps +02", "--grant=8 d --steps=2 i", "--steps=2 d --grant=8 -- i", "d i --grant 8 9 S",
     "d --grant 8 9 --steps 1", 'd i --grant="8" S', "d i --grant=8,9 S",
 )
-"""Lines behind `bare` and `run`; G and S stand for a whole option of each kind."""
+"""Lines behind `bare`; G and S stand for a whole option of each kind. Behind `run` another file stands before the image i."""
+
+RUN_LINES = (
+    "n v G S", "n G S", "n i G S", "n i v G S", "v n i G S", "n v i v G S", "n v i i G S", "n v i z G S", "n v z i z G S",
+    "n v G i S z", "G n S v i z", "i n v G S", "n v i -- z G S", "G S -- n v i z", "n v -- i z --grant 8 S", "n v i L G S",
+    "L n v i G S", "n v G S L i z", "n v i G S L L", "n v i G S L --slice=3", "n v i G S --slice", "n v i G S --slice=",
+    "n v i --slice G S", "n v i G S --slice 3 4", "n v i G S --slice=3 z", "n v i G S --slice= 3", "n v i G S --slice =3",
+    "n v i G S --slices 3", "n v i G S --Slice 3", "n v i G S --slic 3", "n v i G S -s 3", "n v i G S -slice 3",
+    "n v i G S --slice:3", "n v i G S --slice -1", "n v i G S --slice=-1", "n v i G S --slice 0", "n v i G S --slice=+3",
+    "n v i G S --slice 1000000", "n v i G S --slice 1000001", "n v i G S --slice 2 --grant 8", "n v i G L", "n v i S L",
+    "n v i L", "n v L G S", "n v i G S --budget 5", "n v i G S --cert v", "n --cert v i G S", "n --cert=v i G S", "t tv z G S",
+    "t tv badi G S", "t v i G S", "n tv i G S", "t badv i G S", "d v i G S", "d v z --grant 2 --steps 0", "n v n G S",
+    "n v v G S", "n v - G S", "n - i G S", "n v /dev/null G S", "n v ./i i G S", "n v i none G S", "n v none badi G S",
+    "n v badi none G S", "n none i i G S", "n none badi G S", "n v dir none G S", "n v i --steps 0 G", "run n v i G S",
+    "n v i G S --help", "help n v i G S", "n v i -x G S", "n v i G S -- -x", "n v z G --steps 60", "n v i i L S G",
+)
+"""Lines behind `run`; L stands for a whole option too."""
 
 CHECK_LINES = (
     "d C", "C d", "d", "C", "", "d C C", "d d C", "d C K", "K d C", "C K d", "d K", "d C K K", "d --cert", "d --cert=",
@@ -116,6 +139,7 @@ POOL = (
     "bare", "run", "print", "verify", "d", "i", "n", "v", "badv", "none", "open", "--grant", "--steps", "8", "2", "--grant=8",
     "--steps=3", "--grant=+9", "--steps=0", "--", "-", "", "--help", "-h", "x", "--grant=65", "+1", "63", "-1", "--slice=1",
     "help", "bad", "badi", "dir", "check", "--cert", "--cert=x", "--budget", "--budget=5", "x", "replay", "migrate", "hcheck",
+    "--slice", "--slice=5", "--slice=0", "z", "t", "tv",
 )
 
 
@@ -136,13 +160,29 @@ def shapes() -> list[Case]:
     lines += [[word, "n", "v"] for word in ("Verify", "verif", "verifys", "VERIFY", "verify ", "--verify", "check", "hcheck")]
     lines += [[word, "n", "v"] for word in ("Replay", "repla", "replays", "REPLAY", "replay ", "--replay")]
     lines += [[word, "n", "v", "x"] for word in ("Migrate", "migrat", "migrates", "--migrate", "verify", "replay", "check")]
-    for command in ("bare", "run"):
-        lines += [[command, *_filled(line)] for line in RUN_LINES]
-        lines += [[command, *files, *BOTH] for files in (["", ""], ["d", ""], ["", "i"], ["d", "/dev/null"])]
-        lines.append([command, "d", "i", f"--grant=8{NO_UTF_8}", *STEPS])
-        lines.append([command, "d", "i", f"--{NO_UTF_8}=8", *STEPS])
+    lines += [*_bare_shapes(), *_run_shapes()]
     lines += [["print", f"d{NO_UTF_8}"], [NO_UTF_8, "d"], ["print", "--", NO_UTF_8]]
     return [_case(line) for line in lines]
+
+
+def _bare_shapes() -> list[list[str]]:
+    lines = [_filled(line) for line in BARE_LINES]
+    lines += [[*files, *BOTH] for files in (["", ""], ["d", ""], ["", "i"], ["d", "/dev/null"])]
+    lines += [["d", "i", f"--{option}", *STEPS] for option in (f"grant=8{NO_UTF_8}", f"{NO_UTF_8}=8")]
+    return [["bare", *line] for line in lines]
+
+
+def _run_shapes() -> list[list[str]]:
+    """The lines of `run`, and those of `bare` with a certificate; and images of any number, around the most and the room."""
+    lines = [_filled(line) for line in RUN_LINES]
+    for more in ("v i", "i", "i z"):
+        lines += [_filled(" ".join({"i": more, "d": "n"}.get(word, word) for word in line.split())) for line in BARE_LINES]
+    lines += [[*files, *BOTH] for files in (["", "v", "i"], ["n", "", "i"], ["n", "v", ""], ["n", "v", "i", ""], ["", "", ""])]
+    lines += [["n", "v", "i", *BOTH, f"--{option}"] for option in (f"slice=3{NO_UTF_8}", f"{NO_UTF_8}=3", f"slice{NO_UTF_8}=3")]
+    lines += [["n", "v", f"i{NO_UTF_8}", *BOTH], ["n", f"v{NO_UTF_8}", "i", *BOTH], ["n", "v", "i", NO_UTF_8, *BOTH]]
+    for count, grant in product((0, 1, 2, 6, MOST_IMAGES - 1, MOST_IMAGES, MOST_IMAGES + 1, 20), ("7", "8", "9", "10")):
+        lines += [["n", "v", *images, f"--grant={grant}", *STEPS] for images in (["z"] * count, ["z"] * (count - 1) + ["i"])]
+    return [["run", *line] for line in lines]
 
 
 def _verify_shapes(command: str) -> list[list[str]]:
@@ -164,25 +204,30 @@ def _migrate_shapes() -> list[list[str]]:
     return [["migrate", *line] for line in lines]
 
 
-def _filled(line: str) -> Iterator[str]:
-    """The words of one of RUN_LINES or CHECK_LINES."""
-    for word in line.split():
-        yield from {"G": GRANT, "S": STEPS, "C": CERT, "K": BUDGET}.get(word, [word])
+def _filled(line: str) -> list[str]:
+    """The words of one of BARE_LINES, RUN_LINES or CHECK_LINES."""
+    options = {"G": GRANT, "S": STEPS, "L": SLICE, "C": CERT, "K": BUDGET}
+    return [part for word in line.split() for part in options.get(word, [word])]
 
 
 def numbers() -> list[Case]:
-    """Each spelling as a grant and as a count of steps, as a word of its own and joined by `=`, behind the files and before."""
+    """Each spelling as each number of a command, as a word of its own and joined by `=`, behind the files and before."""
     lines = []
-    for command, spelling in product(("bare", "run"), NUMBER_SPELLINGS):
+    for (command, *files), spelling in product((["bare", "d", "i"], ["run", "n", "v", "i"]), NUMBER_SPELLINGS):
         options = [["--grant", spelling, *STEPS], [f"--grant={spelling}", *STEPS]]
         if spelling not in TOO_LONG_TO_MODEL:
             options += [[*GRANT, "--steps", spelling], [*GRANT, f"--steps={spelling}"]]
+        if command == "run":
+            options += [[*BOTH, "--slice", spelling], [*BOTH, f"--slice={spelling}"]]
         for option in options:
-            lines += [[command, "d", "i", *option], [command, *option, "d", "i"]]
+            lines += [[command, *files, *option], [command, *option, *files]]
     for spelling in NUMBER_SPELLINGS:
         for command in ("check", "hcheck"):
             lines += [[command, "n", *CERT, "--budget", spelling], [command, f"--budget={spelling}", "n", *CERT]]
     return [_case(line) for line in lines]
+
+
+IMAGES_OF_GUESTS = ("i", "z", "none", "badi", "dir", "over", "z i", "i badi", "none badi", "badi none", "i z twoi", "i/ i z")
 
 
 def refusals() -> list[Case]:
@@ -191,9 +236,12 @@ def refusals() -> list[Case]:
     images = ("i", "badi", "none", "dir", "over", "empty", "twoi", "d", "i/", "")
     grants = (2, 3, 7, 8, 62, 63, 64, 65, 1048575)
     lines = []
-    for command, description, image, grant, steps in product(("bare", "run"), descriptions, images, grants, (0, 3)):
-        lines.append([command, "--grant", str(grant), "--steps", str(steps), "--", description, image])
+    for description, image, grant, steps in product(descriptions, images, grants, (0, 3)):
+        lines.append(["bare", "--grant", str(grant), "--steps", str(steps), "--", description, image])
     certificates = ("v", "badv", "none", "dir", "empty", "i", "d", "v/", "v/x", "")
+    for description, certificate in product(("n", "t", *descriptions), (*certificates, "tv")):
+        for images, grant in product(IMAGES_OF_GUESTS, (8, 31, 63)):
+            lines.append(["run", "--steps=3", f"--grant={grant}", "--", description, certificate, *images.split()])
     lines += [[command, "--", *files] for command, *files in product(("verify", "replay"), ("n", *descriptions), certificates)]
     places = ("x", "none/x", "dir", "dir/x", "d/x", "d", "")
     for command, description, place in product(("check", "hcheck"), ("n", *descriptions), places):
@@ -208,8 +256,11 @@ FILES_ALONE = {"print": ["d"], "verify": ["n", "v"], "replay": ["n", "v"], "migr
 
 def random_line(rng: Random) -> Case:
     """A line that is taken, with up to three edits."""
-    command = rng.choice(["bare", "run", "print", "verify", "check", "replay", "migrate", "hcheck"])
-    words = ["d", "i", "--grant=8", "--steps=3"] if rng.random() < 0.5 else ["d", "i", *BOTH]
+    command = rng.choice(["bare", "run", "run", "print", "verify", "check", "replay", "migrate", "hcheck"])
+    files = ["n", "v", "i", *["z"] * rng.choice([0, 0, 1, 6])] if command == "run" else ["d", "i"]
+    words = [*files, "--grant=8", "--steps=3"] if rng.random() < 0.5 else [*files, *BOTH]
+    if command == "run" and rng.random() < 0.5:
+        words += rng.choice([SLICE, ["--slice=5"]])
     if command in FILES_ALONE and rng.random() < 0.7:
         words = FILES_ALONE[command]
     if command in ("check", "hcheck") and rng.random() < 0.9:

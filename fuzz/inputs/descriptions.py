@@ -10,8 +10,9 @@ from pgvmodel import tree
 from pgvmodel.validity import ADDRESS_WIDTHS, LEAST_SIZE, WORD_WIDTHS
 
 ANY_MANNER = (PURE, GUARDED, FREE, FREE)
-PLAIN_MANNERS = (PURE, GUARDED)
-MOSTLY_PLAIN = (PURE, GUARDED, GUARDED, FREE)
+TRUSTED_MANNERS = (PURE, GUARDED)
+"""Machines of these are ones that a monitor may run."""
+MOSTLY_TRUSTED = (PURE, GUARDED, GUARDED, FREE)
 
 Writer = Callable[[Random, tree.Description, str, Manner], BodyWriter]
 

@@ -82,6 +82,30 @@ class ImageWriter:
         return self.rng.getrandbits(self.word)
 
 
+class GuestImageWriter(ImageWriter):
+    """Writes images of which a trap mostly is not the last one, or leads to a window that ends past the grant."""
+
+    def loaded_word(self) -> int:
+        """What a trap loads: as on a bare machine, or one of a few that are near the edges."""
+        makers = [super().loaded_word, self.past_word, self.nesting_word, self.instruction_word]
+        return self.rng.choices(makers, [65, 12, 13, 10 if self.machine.decoders else 0])[0]()
+
+    def past_word(self) -> int:
+        """A program status word whose window begins or ends near the grant's end, or past it."""
+        top, grant = mask(self.address), self.grant
+        p = self.rng.choice([0, 1, 2, 3, grant - 1]) & top
+        l = self.rng.choice([0, 1, 2, grant - 1, grant, grant + 1, top - 1, top]) & top
+        b = self.rng.choice([grant - l, grant - l + 1, grant, grant + 1, 2 * grant, top, 0]) & top
+        return self.machine.pack(ProgramStatusWord(self.rng.choice([0, 1]), p, l, b))
+
+    def nesting_word(self) -> int:
+        """One whose first step mostly traps too: what P finds is a program status word, or nothing."""
+        top, grant = mask(self.address), self.grant
+        p = self.rng.choice([0, 0, 1, 1, grant - 1, grant, top]) & top
+        b = self.rng.choice([grant, grant, 2, 1]) & top
+        return self.machine.pack(ProgramStatusWord(self.rng.choice([0, 1, 1]), p, 0, b))
+
+
 def spelled_image(rng: Random, cells: dict[int, int], word: int) -> bytes:
     """An image with these cells, its lines in any order and spelling."""
     lines = []

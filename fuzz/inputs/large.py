@@ -1,11 +1,12 @@
 """Files at their most bytes, storages of the most cells, and runs of the most steps; the model is slow on them."""
 
 from collections.abc import Iterator
-from itertools import product
 
-from inputs.case import Case, printing, running
+from inputs.case import Case, printing, running_bare, running_guests
+from inputs.checker import Means
 from inputs.command_lines import SMALL
 from inputs.depths import openers
+from inputs.guests import checked
 from inputs.snippets import HEAD, many, one, sums
 from pgvmodel import image, reader
 from pgvmodel.body import mask
@@ -49,7 +50,7 @@ def _full_descriptions() -> Iterator[bytes]:
 
 def large_images() -> list[Case]:
     """Images near the most bytes, and with a fault at their ends; every cell given, in order and backwards."""
-    cases = [running("bare", SMALL, text, GRANT, 0) for text in _long_images()]
+    cases = [running_bare(SMALL, text, GRANT, 0) for text in _long_images()]
     in_rows = b"".join(_row(first) for first in range(0, MOST_CELLS, 8))
     backwards = b"".join(b"%d: %016x\n" % (i, i + 1) for i in range(MOST_CELLS - 1, -1, -1))
     for grant, text in (
@@ -58,7 +59,7 @@ def large_images() -> list[Case]:
         (MOST_CELLS, backwards),
         (MOST_CELLS, backwards + b"5: " + b"0" * 16),
     ):
-        cases.append(running("bare", WIDE_HEAD, text, grant, 0))
+        cases.append(running_bare(WIDE_HEAD, text, grant, 0))
     return cases
 
 
@@ -78,8 +79,20 @@ def _long_images() -> Iterator[bytes]:
     yield from (LINE * (count - 1) + last for last in (b"2: 0200000", b"2: 0200000!"))
 
 
+PROGRAM, NOTHING = b"1: 00000705\n7: 01000000\n", b""
+"""An image of which most steps are done, and one of which all trap."""
+
+
 def long_runs() -> list[Case]:
-    """The most steps, of a program and of traps, bare and as a guest."""
-    program = b"1: 00000705\n7: 01000000\n"
-    runs = product(("bare", "run"), ((program, 62), (b"", GRANT)))
-    return [running(command, SMALL, text, grant, MOST_STEPS) for command, (text, grant) in runs]
+    """The most steps, of a program and of traps, on a bare machine."""
+    return [running_bare(SMALL, text, grant, MOST_STEPS) for text, grant in ((PROGRAM, 62), (NOTHING, GRANT))]
+
+
+def long_guest_runs(means: Means) -> list[Case]:
+    """The most steps of a guest alone, and many of several, with slices that are left out, short, and as long as the run."""
+    certificate = checked(means, SMALL)
+    return [
+        running_guests(SMALL, certificate, [PROGRAM], 62, MOST_STEPS, "", "1"),
+        running_guests(SMALL, certificate, [NOTHING, PROGRAM], GRANT, MOST_STEPS // 4, "1000000", "7"),
+        running_guests(SMALL, certificate, [PROGRAM, NOTHING] * 3, GRANT, MOST_STEPS // 10, "1", ""),
+    ]

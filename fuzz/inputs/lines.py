@@ -4,7 +4,8 @@ from collections.abc import Iterator
 from itertools import product
 from random import Random
 
-from inputs.case import Case, running
+from inputs.case import Case, running_bare, running_guests
+from inputs.snippets import NO_FINDINGS
 from pgvmodel.validity import WORD_WIDTHS
 
 ODD_LINES = (
@@ -26,7 +27,7 @@ def odd_lines() -> list[Case]:
     """Each odd line alone, behind a comment, and with each other one."""
     texts = [*ODD_LINES, *(b"\n# c\n" + line + b"\n\n" for line in ODD_LINES)]
     texts += [first + b"\n" + second for first, second in product(ODD_LINES, repeat=2)]
-    return [running("bare", ODD_MACHINE, text, ODD_GRANT, 0) for text in texts]
+    return [running_bare(ODD_MACHINE, text, ODD_GRANT, 0) for text in texts]
 
 
 def edge_lines() -> list[Case]:
@@ -37,34 +38,43 @@ def edge_lines() -> list[Case]:
 def _digits() -> Iterator[Case]:
     for word, more in product(WORD_WIDTHS, range(-2, 3)):
         head = b"machine { word %d; address 5; size 20; }" % word
-        yield running("bare", head, b"2: " + b"f" * (word // 4 + more), ODD_GRANT, 0)
+        yield running_bare(head, b"2: " + b"f" * (word // 4 + more), ODD_GRANT, 0)
 
 
 def _single_cells() -> Iterator[Case]:
     for grant in (2, 3, 7, 8, 9, 15, 16, 17, 63, 64):
         for at in sorted({0, 1, grant // 2, grant - 1}):
-            yield running("bare", ODD_MACHINE, b"%d: 00000001" % at, grant, 0)
+            yield running_bare(ODD_MACHINE, b"%d: 00000001" % at, grant, 0)
 
 
 def storages_at_the_limit() -> list[Case]:
-    """Storages of the most cells there are, and one cell over."""
+    """Storages of the most cells there are, and one cell over; bare, and the grants of one guest and of several."""
     most = 2**20 - 1
     zero, last = b"", b"%d: 0000000000000001"
-    cases = []
-    for command, size, grant, image in (
-        ("bare", most, most, last % (most - 1)),
-        ("bare", most, most, last % most),
-        ("bare", most, most, last % (most - 1) + b" 0000000000000001"),
-        ("bare", most, most, zero),
-        ("bare", most - 1, most, zero),
-        ("run", most, most, zero),
-        ("run", most, most - 2, zero),
-        ("run", most, most - 2, last % (most - 3)),
-        ("run", most, most - 2, last % (most - 2)),
-    ):
-        head = b"machine { word 64; address 20; size %d; }" % size
-        cases.append(running(command, head, image, grant, 3))
-    return cases
+    head = b"machine { word 64; address 20; size %d; }"
+    alone = (
+        (most, most, last % (most - 1)),
+        (most, most, last % most),
+        (most, most, last % (most - 1) + b" 0000000000000001"),
+        (most, most, zero),
+        (most - 1, most, zero),
+    )
+    free = most - 2
+    third, eighth = free // 3, free // 8
+    hosted = (
+        (most, [zero]),
+        (free, [zero]),
+        (free, [last % (free - 1)]),
+        (free, [last % free]),
+        (third, [zero, zero, last % (third - 1)]),
+        (third, [zero, last % third, zero]),
+        (third + 1, [zero, zero, zero]),
+        (eighth, [last % (eighth - 1 - i) for i in range(8)]),
+        (eighth + 1, [zero] * 8),
+        (most, [zero] * 8),
+    )
+    cases = [running_bare(head % size, image, grant, 3) for size, grant, image in alone]
+    return cases + [running_guests(head % most, NO_FINDINGS, images, grant, 3) for grant, images in hosted]
 
 
 def random_lines(rng: Random) -> Case:
@@ -75,9 +85,12 @@ def random_lines(rng: Random) -> Case:
     for _ in range(rng.randint(1, 5)):
         lines.append(_random_line(rng, grant, word))
         lines += rng.choices([[], ["#"], ["\r"], [" \t"], [""]], [90, 3, 3, 3, 3])[0]
-    command = rng.choice(["bare", "bare", "run"])
-    head = b"machine { word %d ; address 4 ; size 15 ; }" % word
-    return running(command, head, "\n".join(lines).encode(), grant, rng.choice([0, 1, 2]))
+    head, image, steps = b"machine { word %d ; address 4 ; size 15 ; }" % word, "\n".join(lines).encode(), rng.choice([0, 1, 2])
+    if rng.random() < 0.7:
+        return running_bare(head, image, grant, steps)
+    images = [b""] * rng.choice([1, 1, 2])
+    images[rng.randrange(len(images))] = image
+    return running_guests(head, NO_FINDINGS, images, grant, steps)
 
 
 def _random_line(rng: Random, grant: int, word: int) -> str:

@@ -1,14 +1,13 @@
-"""Descriptions whose instructions mostly are done, bodies near the plain rule, and operators on edge values."""
+"""Descriptions whose instructions mostly are done, bodies that are guarded or nearly, and operators on edge values."""
 
 from dataclasses import replace
 from random import Random
 
-from inputs.bodies import BodyWriter, random_name
+from inputs.bodies import GUARD, BodyWriter, random_name
 from inputs.descriptions import Style
 from inputs.tree_mutations import with_instruction
 from pgvmodel import tree
 from pgvmodel.body import ARITHMETIC, COMPARISONS, mask
-from pgvmodel.rule import GUARD
 from pgvmodel.widths import MOST_BITS, SHIFTS
 
 LAST_USED = 9
@@ -116,8 +115,11 @@ TAME = Style(TameWriter, (0,), short_runs=True)
 """Nearly all words mean something, most steps are done."""
 
 
-def near_the_rule(word: int, address: int) -> list[tree.Block]:
-    """Begins of bodies that keep the plain rule, and that just miss it, for a machine of these widths."""
+def nearly_guarded(word: int, address: int) -> list[tree.Block]:
+    """Begins of bodies with a guard, with what is nearly one, and with uses of a control register that no guard covers.
+
+    The machine has these widths. A monitor may run some of these, and others not.
+    """
     trap, mode, pc, rel, bound = tree.Trap(), *map(tree.Register, ("mode", "pc", "rel", "bound"))
     yes, no, here = tree.Literal(1, 1), tree.Literal(0, 1), tree.Assign("pc", pc)
     guarded = (trap,)
@@ -149,10 +151,10 @@ def near_the_rule(word: int, address: int) -> list[tree.Block]:
 
 
 def with_near_miss(rng: Random, description: tree.Description) -> tree.Description:
-    """One instruction gets a begin that is near the plain rule."""
+    """One instruction gets a begin that is a guard or nearly, or that uses a control register."""
     i = rng.randrange(len(description.instructions))
     instruction = description.instructions[i]
-    begin = rng.choice(near_the_rule(description.word, description.address))
+    begin = rng.choice(nearly_guarded(description.word, description.address))
     body = begin if rng.random() < 0.5 else begin + instruction.body
     return with_instruction(description, i, replace(instruction, body=body))
 

@@ -5,6 +5,9 @@ from collections.abc import Mapping
 HEAD = b"machine { word 16; address 4; size 8; }\n"
 """A machine with words of 16 bits and addresses of 4."""
 
+NO_FINDINGS = b"pgcert 2\nend\n"
+"""The certificate of a machine without instructions, which is accepted."""
+
 FREE_PATTERN = b"................"
 
 

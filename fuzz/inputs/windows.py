@@ -4,13 +4,15 @@ from random import Random
 from string import Template
 from typing import NamedTuple
 
-from inputs.case import Case, running
+from inputs.case import Case, running_bare
 from pgvmodel.body import mask
 from pgvmodel.machine import MONITOR_CELLS
 from pgvmodel.validity import LEAST_SIZE
 from pgvmodel.widths import MOST_BITS
 
 CODE_BITS = 4
+
+STEPS = (1, 2, 3, 5, 10, 30, 60)
 
 
 class _Row(NamedTuple):
@@ -42,29 +44,49 @@ ROWS = (
 )
 
 
-class _Edges:
-    """One machine, the cells of its storage and the numbers near its edges."""
+LOADING = next(code for code, row in enumerate(ROWS) if row.name == "load")
 
-    def __init__(self, rng: Random, guest: bool) -> None:
+
+class Edges:
+    """One machine, the cells of a storage and the numbers near its edges; a storage is that of each of a few guests, or all.
+
+    A machine that has guests has a few of ROWS, since it is checked.
+    """
+
+    def __init__(self, rng: Random, is_hosting: bool) -> None:
         self.rng = rng
-        self.guest = guest
+        self.is_hosting = is_hosting
+        self.is_guarded = is_hosting and rng.random() < 0.93
         self.address = rng.choice([4, 4, 5, 6, 8])
         self.top = mask(self.address)
         self.size = rng.choice([self.top, 15, 15, min(self.top, 20)])
-        room = self.size - (MONITOR_CELLS if guest else 0)
-        self.grant = rng.choice([2, 3, LEAST_SIZE, room, room, max(2, room - 1), rng.randint(2, room), rng.randint(2, room)])
+        self.codes = range(len(ROWS))
+        if is_hosting:
+            self.codes = sorted({LOADING, *rng.sample(self.codes, 4)})
+        self.share_out()
+
+    def share_out(self) -> None:
+        """Chooses how many guests there are, and how many cells a storage has."""
+        rng, room = self.rng, self.size
+        self.guests = 1
+        if self.is_hosting:
+            self.guests = min(rng.choice([1, 2, 2, 3, 4, 5, 6, 8]), (room - MONITOR_CELLS) // 2)
+            room = (room - MONITOR_CELLS) // self.guests
+        usual = [2, 3, LEAST_SIZE, room, room, room - 1, rng.randint(2, room), rng.randint(2, room)]
+        self.grant = max(2, min(room, rng.choice(usual)))
 
     def description(self) -> bytes:
         causes = self.rng.choice(["", "causes on ; "])
         lines = [f"machine {{ word {MOST_BITS} ; address {self.address} ; size {self.size} ; {causes}}}"]
-        for code, row in enumerate(ROWS):
+        for code in self.codes:
+            row = ROWS[code]
             pattern = f"{code:0{CODE_BITS}b}" + "".join(letter * self.width(letter) for letter in row.fields)
             lines.append(f'instr {row.name} "{pattern:.<{MOST_BITS}}" {{ {self.filled(row.body)} }}')
         return "\n".join(lines).encode()
 
     def filled(self, body: str) -> str:
-        """A body of ROWS for this machine; that of a guest is guarded."""
-        guard = "if mode { trap; }" if self.guest or self.rng.random() < 0.5 else ""
+        """A body of ROWS for this machine; where it is guarded a monitor may run it."""
+        guard = "if mode { trap; }" if self.is_guarded or self.rng.random() < 0.5 else ""
         return Template(body).substitute(A=self.address, rest=MOST_BITS - 2 * self.address, guard=guard)
 
     def width(self, letter: str) -> int:
@@ -95,7 +117,7 @@ class _Edges:
             return self.rng.randint(0, 3)
         if kind == "status":
             return self.status(self.rng.getrandbits(3), self.near(), self.near(), self.near())
-        code = self.rng.choices(range(len(ROWS)), [row.weight for row in ROWS])[0]
+        code = self.rng.choices(self.codes, [ROWS[code].weight for code in self.codes])[0]
         bits = f"{code:0{CODE_BITS}b}"
         bits += "".join(f"{self.number(letter):0{self.width(letter)}b}" for letter in ROWS[code].fields)
         left = MOST_BITS - len(bits)
@@ -113,8 +135,6 @@ class _Edges:
 
 
 def windows(rng: Random) -> Case:
-    """A run of such a machine, bare or as a guest."""
-    command = rng.choices(["bare", "run"], [6, 4])[0]
-    edges = _Edges(rng, command == "run")
-    steps = rng.choice([1, 2, 3, 5, 10, 30, 60])
-    return running(command, edges.description(), edges.image(), edges.grant, steps)
+    """A run of such a machine, bare."""
+    edges = Edges(rng, is_hosting=False)
+    return running_bare(edges.description(), edges.image(), edges.grant, rng.choice(STEPS))

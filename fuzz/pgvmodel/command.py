@@ -10,14 +10,13 @@ from pgvmodel.error_lines import NO_OUTPUT, ErrorLine, missing, unreadable, unwr
 from pgvmodel.families import HYBRID, PURE, Family
 from pgvmodel.faults import Fault
 from pgvmodel.image import read_image
-from pgvmodel.machine import MONITOR_CELLS, run_bare, run_guest, state_text
+from pgvmodel.machine import MONITOR_CELLS, base_of, run_bare, run_guest, state_text
 from pgvmodel.printer import printed
 from pgvmodel.questions import Questions
 from pgvmodel.reader import read
 from pgvmodel.replayed import replayed
-from pgvmodel.rule import first_breach
 from pgvmodel.validity import check
-from pgvmodel.verdict import ACCEPTED, UNSETTLED, verdict
+from pgvmodel.verdict import ACCEPTED, verdict
 from pgvmodel.words import Request, request
 
 USAGE = (
@@ -25,7 +24,7 @@ USAGE = (
     "pgv check DESC --cert FILE [--budget K]\n"
     "pgv verify DESC CERT\n"
     "pgv replay DESC CERT\n"
-    "pgv run DESC IMAGE --grant G --steps N\n"
+    "pgv run DESC CERT IMAGE.. --grant G --steps N [--slice K]\n"
     "pgv print DESC\n"
     "pgv migrate DESC CERT FILE\n"
     "pgv hcheck DESC --cert FILE [--budget K]\n"
@@ -37,9 +36,9 @@ SEARCHES = {"check": PURE, "hcheck": HYBRID}
 SAVING = (*SEARCHES, "migrate")
 """Commands that save a file."""
 
-DONE, OPEN = ACCEPTED, UNSETTLED
+DONE = ACCEPTED
 WORDS, DESCRIPTION, IMAGE, CERTIFICATE, ROOM, UNREADABLE, UNWRITABLE, MISSING = 3, 4, 5, 6, 7, 8, 9, 11
-"""The statuses that are compared; `verdict` has that of a refused machine."""
+"""The statuses that are compared; `verdict` has those of a machine that is refused, or left open."""
 
 Load = Callable[[str], bytes]
 """The content of the file of a name; raises FileNotFoundError, or another OSError where it cannot be read."""
@@ -129,7 +128,9 @@ def _carried_out(asked: Request, load: Load, questions: Questions, can_save: Can
             return Search(text, description, SEARCHES[command], asked.saved, asked.numbers["budget"])
         case "verify" | "replay" | "migrate":
             return _with_certificate(asked, text, description, load(asked.files[1]), questions, can_save)
-    return _run(asked, description, load)
+        case "bare":
+            return _bare(asked, description, load)
+    return _run(asked, text, description, load, questions)
 
 
 def _described(text: bytes) -> tree.Description:
@@ -176,27 +177,45 @@ def verifying(description: tree.Description, certificate: bytes, question: Quest
         return refused.answer
 
 
-def _run(asked: Request, description: tree.Description, load: Load) -> Answer:
-    """The room, then the image, then the plain rule, then the run."""
+def _bare(asked: Request, description: tree.Description, load: Load) -> Answer:
+    """The room, then the image, then the run."""
     grant = asked.numbers["grant"]
-    room = description.size - (MONITOR_CELLS if asked.command == "run" else 0)
-    if grant > room:
-        return _told(ROOM, f"room {grant} {room}\n")
+    _ask_for_room(grant, description.size)
+    cells = _image(0, load(asked.files[1]), description, grant)
+    return _told(DONE, state_text(run_bare(description, cells, asked.numbers["steps"]), description.word))
+
+
+def _run(asked: Request, text: bytes, description: tree.Description, load: Load, questions: Questions) -> Answer:
+    """The room for all guests, the images in order, the certificate and what it comes to, then the run.
+
+    How many turns a guest has at a time plays no part in what is answered.
+    """
+    _, certificate, *images = asked.files
+    grant, steps = asked.numbers["grant"], asked.numbers["steps"]
+    _ask_for_room(len(images) * grant, description.size - MONITOR_CELLS)
+    storages = [_image(number, load(name), description, grant) for number, name in enumerate(images)]
+    ending = verifying(description, load(certificate), partial(questions.clauses, text))
+    return _guests(description, storages, steps) if ending.status == ACCEPTED else ending
+
+
+def _ask_for_room(wanted: int, free: int) -> None:
+    if wanted > free:
+        raise _Refused(_told(ROOM, f"room {wanted} {free}\n"))
+
+
+def _image(number: int, text: bytes, description: tree.Description, size: int) -> list[int]:
+    """The cells of a storage, from the image of this number."""
     try:
-        cells = read_image(load(asked.files[1]), description.word, grant)
+        return read_image(text, description.word, size)
     except Fault as fault:
-        return _told(IMAGE, f"image 0: {fault.line}\n")
-    run = _bare if asked.command == "bare" else _guest
-    return run(description, cells, asked.numbers["steps"])
+        raise _Refused(_told(IMAGE, f"image {number}: {fault.line}\n")) from None
 
 
-def _bare(description: tree.Description, cells: list[int], steps: int) -> Answer:
-    return _told(DONE, state_text(run_bare(description, cells, steps), description.word))
-
-
-def _guest(description: tree.Description, cells: list[int], steps: int) -> Answer:
-    breach = first_breach(description)
-    if breach is not None:
-        return _told(OPEN, f"open {breach.name} rule\n")
-    state, direct = run_guest(description, cells, steps)
-    return _told(DONE, f"guest 0\n{state_text(state, description.word)}steps {steps} direct {direct}\n")
+def _guests(description: tree.Description, storages: Sequence[list[int]], steps: int) -> Answer:
+    """The state of each guest after its steps, then all steps, and how many of them were direct."""
+    told, all_direct = "", 0
+    for number, cells in enumerate(storages):
+        state, direct = run_guest(description, cells, steps, base_of(number, len(cells)))
+        told += f"guest {number}\n{state_text(state, description.word)}"
+        all_direct += direct
+    return _told(DONE, f"{told}steps {len(storages) * steps} direct {all_direct}\n")

@@ -13,7 +13,7 @@ from pgvmodel.clauses import Clause
 SECONDS = 120
 """A question that takes longer to write is left."""
 
-MOST_KEPT = 64
+MOST_KEPT = 128
 """Questions that are kept; a case asks the same ones more than once."""
 
 NO_MEMORY = 10

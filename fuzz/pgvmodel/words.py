@@ -5,37 +5,56 @@ from collections.abc import Mapping, Sequence
 from dataclasses import dataclass, field
 from typing import NamedTuple
 
-OPTIONS = {"grant": range(2, 1_048_576), "steps": range(0, 1_000_001), "budget": range(1, 1_000_001)}
-"""Options that have a number, and what each may be: cells, steps of a machine, and steps of a search."""
+OPTIONS = {
+    "grant": range(2, 1_048_576),
+    "steps": range(0, 1_000_001),
+    "slice": range(1, 1_000_001),
+    "budget": range(1, 1_000_001),
+}
+"""Options that have a number, and what each may be: cells, steps of a machine, turns of a guest, and steps of a search."""
 
 BUDGET = 20_000
 """Steps of a search where `check` or `hcheck` is not told how many."""
+
+SLICE = 1_000
+"""Turns that a guest has before the next one where `run` is not told how many."""
+
+MOST_IMAGES = 8
+"""Guests that `run` takes."""
 
 
 @dataclass(frozen=True)
 class Form:
     """How many files a command names, the options that it wants, each once, and those that may be left out.
 
-    Where `saves_last` is true the last file is one that is written.
+    So many more files may follow as `more_files` says. Where `saves_last` is true the last file is one that is written.
     """
 
     files: int
     options: tuple[str, ...] = ()
     others: Mapping[str, int] = field(default_factory=dict)
     saves_last: bool = False
+    more_files: int = 0
+
+    def takes(self, count: int) -> bool:
+        """Whether so many files may stand."""
+        return self.files <= count <= self.files + self.more_files
 
 
 FORMS = {
     "bare": Form(2, ("grant", "steps")),
     "verify": Form(2),
-    "run": Form(2, ("grant", "steps")),
+    "run": Form(3, ("grant", "steps"), {"slice": SLICE}, more_files=MOST_IMAGES - 1),
     "print": Form(1),
     "check": Form(1, ("cert",), {"budget": BUDGET}),
     "hcheck": Form(1, ("cert",), {"budget": BUDGET}),
     "replay": Form(2),
     "migrate": Form(3, saves_last=True),
 }
-"""The commands. Files are a description, then an image or a certificate; `cert` is the name of one that is written."""
+"""The commands. Files are a description, then an image or a certificate, and behind that of `run` an image for each guest.
+
+`cert` is the name of one that is written.
+"""
 
 _DIGITS = re.compile(r"\+?0*([0-9]{1,9})")
 
@@ -63,7 +82,7 @@ def request(words: Sequence[str]) -> Request | None:
         numbers = {name: _number(text, OPTIONS[name]) for name, text in given.items() if name in OPTIONS}
     except _Refused:
         return None
-    if len(files) != form.files or any(name not in given for name in form.options):
+    if not form.takes(len(files)) or any(name not in given for name in form.options):
         return None
     saved = files[-1] if form.saves_last else given.get("cert")
     return Request(words[0], tuple(files), {**form.others, **numbers}, saved)
