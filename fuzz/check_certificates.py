@@ -531,6 +531,10 @@ def wrong_error_lines() -> list[str]:
         "two lines": not folder.fits(b"pgv: a/b: cannot be read: Is\na directory\n"),
         "written": not folder.fits(b"pgv: a/b: cannot be written: Is a directory\n"),
         "to save": unwritable("a b").fits(b"pgv: a b: cannot be written: Input/output error\n"),
+        "control characters": missing("a\n\x1f\x7f\u00e9").fits("pgv: a???\u00e9: no such file\n".encode()),
+        "a long name": missing("n" * 4096).fits(b"pgv: " + b"n" * 4096 + b": no such file\n"),
+        "a longer one": missing("n" * 4097).fits(b"pgv: " + b"n" * 4096 + b"...: no such file\n"),
+        "cut in a character": missing("n" + "\u00e9" * 2048).fits(b"pgv: n" + b"\xc3\xa9" * 2047 + b"\xc3...: no such file\n"),
         "sink": NO_OUTPUT.fits(b"pgv: standard output: cannot be written\n"),
     }
     return [name for name, is_so in checks.items() if not is_so]

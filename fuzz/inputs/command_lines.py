@@ -54,9 +54,14 @@ NUMBER_SPELLINGS = (
 TOO_LONG_TO_MODEL = ("1000000", "01000000", "65535", "65536")
 """Counts of steps that are taken, and that the model takes long for."""
 
+STRANGE_NAMES = (
+    "d\n", "\td", "\x01\x1f\x7f", "\x80", "n" * 4095, "n" * 4096, "n" * 4097, "\u00e9" * 2048, "n" + "\u00e9" * 2048,
+)
+"""Names of no file, with control characters, and near the length to which a name is told."""
+
 PRINT_FILES = (
     "d", "bad", "empty", "shape", "none", "dir", "a b", "./d", "d/", "d/x", "none/x", "n" * 300, "n" * 5000, "", "-", "8",
-    "print", "bare", "d\u00e9", "/dev/null",
+    "print", "bare", "d\u00e9", "/dev/null", *STRANGE_NAMES,
 )
 
 NO_UTF_8 = "\udcff"
@@ -180,6 +185,8 @@ def _run_shapes() -> list[list[str]]:
     lines += [[*files, *BOTH] for files in (["", "v", "i"], ["n", "", "i"], ["n", "v", ""], ["n", "v", "i", ""], ["", "", ""])]
     lines += [["n", "v", "i", *BOTH, f"--{option}"] for option in (f"slice=3{NO_UTF_8}", f"{NO_UTF_8}=3", f"slice{NO_UTF_8}=3")]
     lines += [["n", "v", f"i{NO_UTF_8}", *BOTH], ["n", f"v{NO_UTF_8}", "i", *BOTH], ["n", "v", "i", NO_UTF_8, *BOTH]]
+    for name in STRANGE_NAMES:
+        lines += [[name, "v", "i", *BOTH], ["n", name, "i", *BOTH], ["n", "v", "i", name, *BOTH]]
     for count, grant in product((0, 1, 2, 6, MOST_IMAGES - 1, MOST_IMAGES, MOST_IMAGES + 1, 20), ("7", "8", "9", "10")):
         lines += [["n", "v", *images, f"--grant={grant}", *STEPS] for images in (["z"] * count, ["z"] * (count - 1) + ["i"])]
     return [["run", *line] for line in lines]
