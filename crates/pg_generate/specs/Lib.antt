@@ -1,0 +1,6 @@
+pub mod Draws
+pub mod Bodies
+pub mod Letters
+pub mod Generated
+pub mod Images
+pub mod Drawing
