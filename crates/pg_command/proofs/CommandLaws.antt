@@ -15,6 +15,7 @@ use Rattle.pg_command.specs.declared.ask.Request.{Request}
 use Rattle.pg_command.specs.declared.ask.Request.TheVariants as request
 use Rattle.pg_command.proofs.BareLaws.{bare_asks, bare_holds}
 use Rattle.pg_command.proofs.CheckLaws.{check_asks, checking_holds}
+use Rattle.pg_command.proofs.GeneratingLaws.{gen_asks, gen_holds}
 use Rattle.pg_command.proofs.MigrateLaws.{migrate_asks, migrate_holds}
 use Rattle.pg_command.proofs.PrintLaws.{print_asks, print_holds}
 use Rattle.pg_command.proofs.ReplayLaws.{replay_asks, replay_holds}
@@ -63,10 +64,13 @@ all_hold = (
           (
             print_holds,
             (
-              migrate_holds,
+              gen_holds,
               (
-                checking_holds (codes "hcheck"),
-                tt,
+                migrate_holds,
+                (
+                  checking_holds (codes "hcheck"),
+                  tt,
+                ),
               ),
             ),
           ),
@@ -90,10 +94,13 @@ all_ask = (
           (
             (λ rows h. inl (made request.Print _ (print_asks rows h))),
             (
-              (λ rows h. inl (made request.Migrate _ (migrate_asks rows h))),
+              (λ rows h. inl (made request.Gen _ (gen_asks rows h))),
               (
-                (λ rows h. inl (made request.Hcheck _ (check_asks rows h))),
-                tt,
+                (λ rows h. inl (made request.Migrate _ (migrate_asks rows h))),
+                (
+                  (λ rows h. inl (made request.Hcheck _ (check_asks rows h))),
+                  tt,
+                ),
               ),
             ),
           ),

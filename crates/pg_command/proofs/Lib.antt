@@ -1,6 +1,7 @@
 mod AnswerLaws
 mod BareLaws
 mod CheckLaws
+mod GeneratingLaws
 mod LeafLaws
 mod LineLaws
 mod MigrateLaws

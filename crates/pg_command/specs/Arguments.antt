@@ -13,6 +13,10 @@ use Rattle.clap.specs.declared.builder.value_parser.ValueParser.{ValueParser}
 abbrev pub place : Text → Rule
 place name = record (new_rule name) { required = true }
 
+-- a number in its place, which has to be there and to pass the parser
+abbrev pub place_number : Text → ValueParser → Rule
+place_number name numbers = record (place name) { parser = Some numbers }
+
 -- texts in their place, of which one has to be there at least
 abbrev pub places : Text → Rule
 places name = record (place name) { range = Some (record { start_inclusive = 1; end_inclusive = usize_max }) }

@@ -3,6 +3,7 @@ pub mod Asked
 pub mod Bare
 pub mod Check
 pub mod Entries
+pub mod Generating
 pub mod Hcheck
 pub mod Line
 pub mod Migrate

@@ -8,6 +8,7 @@ use Rattle.pg_command.specs.Verify.{verify}
 use Rattle.pg_command.specs.Replay.{replay}
 use Rattle.pg_command.specs.Run.{run}
 use Rattle.pg_command.specs.Print.{print}
+use Rattle.pg_command.specs.Generating.{gen}
 use Rattle.pg_command.specs.Migrate.{migrate}
 use Rattle.pg_command.specs.Hcheck.{hcheck}
 
@@ -20,6 +21,7 @@ commands =
     ∷ replay
     ∷ run
     ∷ print
+    ∷ gen
     ∷ migrate
     ∷ hcheck
     ∷ []

@@ -20,6 +20,14 @@ pub(crate) fn place<'a>(alloc: Global, name: &'a str) -> Arg<'a>
     Arg::new(alloc, name).required(true)
 }
 
+/// A number in its place, which has to be there and to pass the parser.
+pub(crate) fn place_number<'a>(alloc: Global, name: &'a str, numbers: ValueParser<'a>) -> Arg<'a>
+    ensures rule { rule_of result ≡ spec.place_number name.entry.now numbers.entry }
+    ensures local { result.global ≡ false }
+{
+    place(alloc, name).value_parser(numbers)
+}
+
 /// Texts in their place, of which one has to be there at least.
 pub(crate) fn places<'a>(alloc: Global, name: &'a str) -> Arg<'a>
     ensures rule { rule_of result ≡ spec.places name.entry.now }

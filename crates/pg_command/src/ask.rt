@@ -3,6 +3,7 @@
 //! Contracts see a request as plain data: the names in it as their bytes, and the numbers as what they are.
 use crate::bare::BareWords;
 use crate::check::CheckWords;
+use crate::generating::GenWords;
 use crate::migrate::MigrateWords;
 use crate::print::PrintWords;
 use crate::replay::ReplayWords;
@@ -24,6 +25,8 @@ pub enum Request {
     Run(RunWords),
     /// `print`: print a description.
     Print(PrintWords),
+    /// `gen`: make a large description of a number, classify it, and run guests on it.
+    Gen(GenWords),
     /// `migrate`: make a new certificate of one that is there, and save it.
     Migrate(MigrateWords),
     /// `hcheck`: classify each instruction by the kinds of hybrid machines, and save the certificate.

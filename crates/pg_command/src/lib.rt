@@ -28,6 +28,7 @@ mod arguments;
 mod ask;
 mod bare;
 mod check;
+mod generating;
 mod hcheck;
 mod line;
 mod migrate;
@@ -42,13 +43,14 @@ pub use ask::{Fault, Request};
 pub use bare::BareWords;
 pub use check::CheckWords;
 use clap::error::ErrorKind;
+pub use generating::GenWords;
 use line::{asked, command_line};
 pub use migrate::MigrateWords;
 pub use print::PrintWords;
 pub use replay::ReplayWords;
 pub use run::RunWords;
 use std::alloc::Global;
-pub use values::{Budget, FileName, Grant, Images, Slice, Steps};
+pub use values::{Budget, Count, FileName, Grant, Images, Slice, Steps};
 pub use verify::VerifyWords;
 
 /// What the words ask for, of which the first is the program's name.

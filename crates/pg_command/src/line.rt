@@ -10,7 +10,7 @@ ghost use Rattle.pg_command.specs.Asked.{named_as};
 ghost use Rattle.pg_command.specs.Reads.{HoldsCommand};
 
 use crate::ask::Request;
-use crate::{bare, check, hcheck, migrate, print, replay, run, verify};
+use crate::{bare, check, generating, hcheck, migrate, print, replay, run, verify};
 use clap::{ArgMatches, Command};
 use std::alloc::{AllocError, Global};
 
@@ -24,7 +24,8 @@ pub(crate) fn command_line<'a>(alloc: Global) -> Result<Command<'a>, AllocError>
     let with_replay = replay::added(alloc, with_verify)?;
     let with_run = run::added(alloc, with_replay)?;
     let with_print = print::added(alloc, with_run)?;
-    let with_migrate = migrate::added(alloc, with_print)?;
+    let with_gen = generating::added(alloc, with_print)?;
+    let with_migrate = migrate::added(alloc, with_gen)?;
     hcheck::added(alloc, with_migrate)
 }
 
@@ -61,6 +62,9 @@ pub(crate) fn asked(alloc: Global, matches: &ArgMatches<'_>) -> Result<Option<Re
     }
     if let Some(found) = matches.subcommand_matches("print") {
         return Ok(Some(print::asked(alloc, found)?));
+    }
+    if let Some(found) = matches.subcommand_matches("gen") {
+        return Ok(Some(generating::asked(alloc, found)?));
     }
     if let Some(found) = matches.subcommand_matches("migrate") {
         return Ok(Some(migrate::asked(alloc, found)?));

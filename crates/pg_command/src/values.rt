@@ -191,6 +191,42 @@ impl Budget {
     }
 }
 
+/// How many instructions a description that is made has: 1 to 60.
+#[derive(Drop)]
+pub struct Count {
+    instrs: u32,
+}
+
+impl Model for Count {
+    ghost use Rattle.std.specs.Prelude.{◌≤◌, ℕ};
+
+    ghost Value = { ℕ };
+
+    ghost view = { λ count. count.instrs };
+
+    ghost invariant = { λ count. (1 ≤ count.instrs) × (count.instrs ≤ 60) };
+}
+
+impl Count {
+    /// The count of so many instructions.
+    pub(crate) fn new(instrs: u32) -> Count
+        requires least { 1 ≤ instrs }
+        requires most { instrs ≤ 60 }
+        ensures { result ≡ instrs }
+    {
+        Count { instrs }
+    }
+
+    /// The number of instructions.
+    pub fn instrs(&self) -> u32
+        ensures instrs { result ≡ self.now }
+        ensures least { 1 ≤ self.now }
+        ensures most { self.now ≤ 60 }
+    {
+        self.instrs
+    }
+}
+
 /// How many steps a guest does before the next guest has its turn: 1 to 1,000,000.
 #[derive(Drop)]
 pub struct Slice {

@@ -16,96 +16,146 @@ fn asked(alloc: Global, line: &str) -> Result<Result<Request, Fault>, AllocError
     }
 }
 
-/// Lines of all commands but `run` that are taken, with the command, the grant, and the steps or the budget that they ask
-/// for. The description is `d`, and the image, the certificate or the file for a new one, where the command has one, `i`, `c`
-/// or `f`.
-const TAKEN: [(&str, &str, u32, u64); 20] = [
-    ("pgv|bare|d|i|--grant|8|--steps|0", "bare", 8, 0),
-    (
-        "pgv|bare|--steps=1000000|d|--grant=8|i",
-        "bare",
-        8,
-        1_000_000,
-    ),
-    ("x|bare|--grant|2|--steps|7|--|d|i", "bare", 2, 7),
-    (
-        "pgv|bare|d|i|--grant|1048575|--steps|+7",
-        "bare",
-        1_048_575,
-        7,
-    ),
-    ("pgv|bare|d|i|--grant|+008|--steps|00", "bare", 8, 0),
-    ("pgv|check|d|--cert|c", "check", 0, 20_000),
-    ("x|check|--cert=c|--|d", "check", 0, 20_000),
-    ("pgv|check|--budget|1|--cert|c|d", "check", 0, 1),
-    (
-        "pgv|check|d|--budget=1000000|--cert=c",
-        "check",
-        0,
-        1_000_000,
-    ),
-    ("pgv|check|d|--cert|c|--budget|20001", "check", 0, 20_001),
-    ("pgv|check|d|--cert|c|--budget|+007", "check", 0, 7),
-    ("pgv|check|--cert|c|d|--budget=019999", "check", 0, 19_999),
-    ("pgv|verify|d|c", "verify", 0, 0),
-    ("x|verify|d|--|c", "verify", 0, 0),
-    ("pgv|replay|d|c", "replay", 0, 0),
-    ("pgv|print|d", "print", 0, 0),
-    ("x|print|--|d", "print", 0, 0),
-    ("pgv|migrate|d|c|f", "migrate", 0, 0),
-    ("pgv|hcheck|d|--cert|c", "hcheck", 0, 20_000),
-    ("pgv|hcheck|--budget=7|--cert=c|d", "hcheck", 0, 7),
+/// Lines of `bare` that are taken, with the grant and the steps that they ask for. The description is `d`, and the image `i`.
+const BARES: [(&str, u32, u64); 5] = [
+    ("pgv|bare|d|i|--grant|8|--steps|0", 8, 0),
+    ("pgv|bare|--steps=1000000|d|--grant=8|i", 8, 1_000_000),
+    ("x|bare|--grant|2|--steps|7|--|d|i", 2, 7),
+    ("pgv|bare|d|i|--grant|1048575|--steps|+7", 1_048_575, 7),
+    ("pgv|bare|d|i|--grant|+008|--steps|00", 8, 0),
 ];
 
 #[test]
-fn lines_that_are_taken(rt: HostRuntime) -> Result<(), Fail> {
-    for (line, command, grant, number) in TAKEN {
-        let name = match asked(rt.alloc(), line)? {
+fn lines_of_bare_that_are_taken(rt: HostRuntime) -> Result<(), Fail> {
+    for (line, grant, steps) in BARES {
+        let got = asked(rt.alloc(), line)?;
+        match &got {
             Ok(Request::Bare(words)) => {
                 assert!(rt; words.desc.as_str() == "d", "{line}");
                 assert!(rt; words.image.as_str() == "i", "{line}");
                 assert!(rt;
-                    (words.grant.cells(), words.steps.count()) == (grant, number),
+                    (words.grant.cells(), words.steps.count()) == (grant, steps),
                     "{line}"
                 );
-                "bare"
             }
+            _ => assert!(rt; false, "{line}"),
+        }
+    }
+    Ok(())
+}
+
+/// Lines of `check` and `hcheck` that are taken, with the command and the budget that they ask for. The description is `d`,
+/// and the certificate `c`.
+const CHECKS: [(&str, &str, u32); 9] = [
+    ("pgv|check|d|--cert|c", "check", 20_000),
+    ("x|check|--cert=c|--|d", "check", 20_000),
+    ("pgv|check|--budget|1|--cert|c|d", "check", 1),
+    ("pgv|check|d|--budget=1000000|--cert=c", "check", 1_000_000),
+    ("pgv|check|d|--cert|c|--budget|20001", "check", 20_001),
+    ("pgv|check|d|--cert|c|--budget|+007", "check", 7),
+    ("pgv|check|--cert|c|d|--budget=019999", "check", 19_999),
+    ("pgv|hcheck|d|--cert|c", "hcheck", 20_000),
+    ("pgv|hcheck|--budget=7|--cert=c|d", "hcheck", 7),
+];
+
+#[test]
+fn lines_of_check_that_are_taken(rt: HostRuntime) -> Result<(), Fail> {
+    for (line, command, budget) in CHECKS {
+        let got = asked(rt.alloc(), line)?;
+        match &got {
             Ok(Request::Check(words)) => {
+                assert!(rt; command == "check", "{line}");
                 assert!(rt; words.desc.as_str() == "d", "{line}");
                 assert!(rt; words.cert.as_str() == "c", "{line}");
-                assert!(rt; u64::from(words.budget.clauses()) == number, "{line}");
-                "check"
+                assert!(rt; words.budget.clauses() == budget, "{line}");
             }
             Ok(Request::Hcheck(words)) => {
+                assert!(rt; command == "hcheck", "{line}");
                 assert!(rt; words.desc.as_str() == "d", "{line}");
                 assert!(rt; words.cert.as_str() == "c", "{line}");
-                assert!(rt; u64::from(words.budget.clauses()) == number, "{line}");
-                "hcheck"
+                assert!(rt; words.budget.clauses() == budget, "{line}");
             }
+            _ => assert!(rt; false, "{line}"),
+        }
+    }
+    Ok(())
+}
+
+/// Lines that are taken of the commands that take names alone, with the command. The description is `d`, and the certificate
+/// or the file for a new one, where the command has one, `c` or `f`.
+const NAMES: [(&str, &str); 6] = [
+    ("pgv|verify|d|c", "verify"),
+    ("x|verify|d|--|c", "verify"),
+    ("pgv|replay|d|c", "replay"),
+    ("pgv|print|d", "print"),
+    ("x|print|--|d", "print"),
+    ("pgv|migrate|d|c|f", "migrate"),
+];
+
+#[test]
+fn lines_of_names_that_are_taken(rt: HostRuntime) -> Result<(), Fail> {
+    for (line, command) in NAMES {
+        let got = asked(rt.alloc(), line)?;
+        match &got {
             Ok(Request::Verify(words)) => {
+                assert!(rt; command == "verify", "{line}");
                 assert!(rt; words.desc.as_str() == "d", "{line}");
                 assert!(rt; words.cert.as_str() == "c", "{line}");
-                "verify"
             }
             Ok(Request::Replay(words)) => {
+                assert!(rt; command == "replay", "{line}");
                 assert!(rt; words.desc.as_str() == "d", "{line}");
                 assert!(rt; words.cert.as_str() == "c", "{line}");
-                "replay"
             }
             Ok(Request::Migrate(words)) => {
+                assert!(rt; command == "migrate", "{line}");
                 assert!(rt; words.desc.as_str() == "d", "{line}");
                 assert!(rt; words.cert.as_str() == "c", "{line}");
                 assert!(rt; words.file.as_str() == "f", "{line}");
-                "migrate"
             }
             Ok(Request::Print(words)) => {
+                assert!(rt; command == "print", "{line}");
                 assert!(rt; words.desc.as_str() == "d", "{line}");
-                "print"
             }
-            Ok(Request::Run(_words)) => "run",
-            Err(_) => "refused",
-        };
-        assert!(rt; name == command, "{line}");
+            _ => assert!(rt; false, "{line}"),
+        }
+    }
+    Ok(())
+}
+
+/// Lines of `gen` that are taken, with the number and the count of instructions that they ask for. The certificate is `c`.
+const GENS: [(&str, u64, u32); 7] = [
+    ("pgv|gen|0|1|--cert|c", 0, 1),
+    (
+        "pgv|gen|18446744073709551615|60|--cert=c",
+        18_446_744_073_709_551_615,
+        60,
+    ),
+    ("pgv|gen|--cert|c|7|30", 7, 30),
+    ("pgv|gen|30|--cert=c|7", 30, 7),
+    (
+        "x|gen|--cert=c|--|9223372036854775808|2",
+        9_223_372_036_854_775_808,
+        2,
+    ),
+    ("pgv|gen|+007|+060|--cert|c", 7, 60),
+    ("pgv|gen|00|01|--cert=c", 0, 1),
+];
+
+#[test]
+fn lines_of_gen_that_are_taken(rt: HostRuntime) -> Result<(), Fail> {
+    for (line, number, count) in GENS {
+        let got = asked(rt.alloc(), line)?;
+        match &got {
+            Ok(Request::Gen(words)) => {
+                assert!(rt; words.cert.as_str() == "c", "{line}");
+                assert!(rt;
+                    (words.number, words.count.instrs()) == (number, count),
+                    "{line}"
+                );
+            }
+            _ => assert!(rt; false, "{line}"),
+        }
     }
     Ok(())
 }
@@ -187,7 +237,7 @@ fn lines_of_run_that_are_taken(rt: HostRuntime) -> Result<(), Fail> {
 }
 
 /// Lines that are refused.
-const REFUSED: [&str; 77] = [
+const REFUSED: [&str; 96] = [
     "pgv",
     "pgv|verify",
     "pgv|--help",
@@ -258,6 +308,25 @@ const REFUSED: [&str; 77] = [
     "pgv|print|d|e",
     "pgv|print|d|--grant=8",
     "pgv|print|d|--steps=0",
+    "pgv|gen",
+    "pgv|gen|0|0|--cert=c",
+    "pgv|gen|0|61|--cert=c",
+    "pgv|gen|18446744073709551616|1|--cert=c",
+    "pgv|gen|-1|1|--cert=c",
+    "pgv|gen|--cert=c|--|-1|1",
+    "pgv|gen|0|-1|--cert=c",
+    "pgv|gen|--cert=c|--|0|-1",
+    "pgv|gen||1|--cert=c",
+    "pgv|gen|0||--cert=c",
+    "pgv|gen|0x8|1|--cert=c",
+    "pgv|gen|0|1",
+    "pgv|gen|0|1|c",
+    "pgv|gen|0|1|--cert",
+    "pgv|gen|0|--cert=c",
+    "pgv|gen|--cert=c",
+    "pgv|gen|0|1|2|--cert=c",
+    "pgv|gen|0|1|--cert=c|--cert=c",
+    "pgv|gen|0|1|--cert=c|--budget=7",
     "pgv|migrate|d|c",
     "pgv|migrate|d|c|f|e",
     "pgv|hcheck|d",

@@ -23,8 +23,20 @@ returns-in-Some-subcommand_matches-4 c =
     let named = named_rows c.args.matches.now (codes "run") _ (found.ensures.found.0 refl) found.ensures.rows in
     IfOk-weaker c.asked-in-Some-subcommand_matches-4.result _ _ (λ r is. ap named_as named ∙ is) c.asked-in-Some-subcommand_matches-4.ensures.asked
 
-pub returns-in-Some-subcommand_matches-6 : goal.returns-in-Some-subcommand_matches-6
-returns-in-Some-subcommand_matches-6 c =
-    let found = c.in-Some-subcommand_matches-6 in
+pub returns-in-Some-subcommand_matches-5 : goal.returns-in-Some-subcommand_matches-5
+returns-in-Some-subcommand_matches-5 c =
+    let found = c.in-Some-subcommand_matches-5 in
+    let named = named_rows c.args.matches.now (codes "print") _ (found.ensures.found.0 refl) found.ensures.rows in
+    ap named_as named ∙ c.in_ok-asked-5.ensures
+
+pub returns-in-Some-subcommand_matches-7 : goal.returns-in-Some-subcommand_matches-7
+returns-in-Some-subcommand_matches-7 c =
+    let found = c.in-Some-subcommand_matches-7 in
     let named = named_rows c.args.matches.now (codes "migrate") _ (found.ensures.found.0 refl) found.ensures.rows in
-    ap named_as named ∙ c.in_ok-asked-6.ensures
+    ap named_as named ∙ c.in_ok-asked-7.ensures
+
+pub returns-in-Some-subcommand_matches-8 : goal.returns-in-Some-subcommand_matches-8
+returns-in-Some-subcommand_matches-8 c =
+    let found = c.in-Some-subcommand_matches-8 in
+    let named = named_rows c.args.matches.now (codes "hcheck") _ (found.ensures.found.0 refl) found.ensures.rows in
+    ap named_as named ∙ c.in_ok-asked-8.ensures

@@ -8,6 +8,7 @@ use Rattle.pg_command.specs.Verify.{verify}
 use Rattle.pg_command.specs.Replay.{replay}
 use Rattle.pg_command.specs.Run.{run}
 use Rattle.pg_command.specs.Print.{print}
+use Rattle.pg_command.specs.Generating.{gen}
 use Rattle.pg_command.specs.Migrate.{migrate}
 use Rattle.pg_command.specs.Hcheck.{hcheck}
 use Rattle.pg_command.proofs.line.command_line.Goals as goal
@@ -20,5 +21,6 @@ returns c =
     let four = c.in_ok-with_replay.ensures ∙ ap (λ (a : App). with_subcommand a replay.shape) three in
     let five = c.in_ok-with_run.ensures ∙ ap (λ (a : App). with_subcommand a run.shape) four in
     let six = c.in_ok-with_print.ensures ∙ ap (λ (a : App). with_subcommand a print.shape) five in
-    let seven = c.in_ok-with_migrate.ensures ∙ ap (λ (a : App). with_subcommand a migrate.shape) six in
-    IfOk-weaker c.added-8.result _ _ (λ r h. h ∙ ap (λ (a : App). with_subcommand a hcheck.shape) seven) c.added-8.ensures
+    let seven = c.in_ok-with_gen.ensures ∙ ap (λ (a : App). with_subcommand a gen.shape) six in
+    let eight = c.in_ok-with_migrate.ensures ∙ ap (λ (a : App). with_subcommand a migrate.shape) seven in
+    IfOk-weaker c.added-9.result _ _ (λ r h. h ∙ ap (λ (a : App). with_subcommand a hcheck.shape) eight) c.added-9.ensures
