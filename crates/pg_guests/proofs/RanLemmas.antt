@@ -107,9 +107,14 @@ module _ (machine : Machine) (images : List (List ℕ)) (slice n : ℕ) (old on 
     pub lent : before.accepted.machine.now ≡ machine
     pub made : on ≡ loaded_for d images old
     pub begun : IsBegun images before on
-    pub states : virtuals new.state.cells after.guests ≡ map (steps (desc_of before) n) (virtuals on.state.cells before.guests)
-    pub followed : Followed (desc_of before) (schedule (length before.guests) slice n) on new before.guests after.guests before.current after.current
     pub stands : Stands (desc_of before) new.state after.guests after.current
+    -- the slice and the turns that they had
+    pub each : ℕ
+    pub had : ℕ
+    pub states : virtuals new.state.cells after.guests ≡ map (steps (desc_of before) had) (virtuals on.state.cells before.guests)
+    pub followed : Followed (desc_of before) (schedule (length before.guests) each had) on new before.guests after.guests before.current after.current
+    pub of_slice : each ≡ slice
+    pub of_turns : had ≡ n
 
   module _ (h : IsRun) where
     same : desc_of before ≡ d
@@ -118,12 +123,17 @@ module _ (machine : Machine) (images : List (List ℕ)) (slice n : ℕ) (old on 
     count : length before.guests ≡ length images
     count = ap length h.begun.guests ∙ guests-length 2 images
 
+    as_asked : Followed (desc_of before) (schedule (length before.guests) slice n) on new before.guests after.guests before.current after.current
+    as_asked =
+        subst (λ k. Followed (desc_of before) (schedule (length before.guests) k n) on new before.guests after.guests before.current after.current) h.of_slice
+        (subst (λ k. Followed (desc_of before) (schedule (length before.guests) h.each k) on new before.guests after.guests before.current after.current) h.of_turns h.followed)
+
     followed : Followed d (plan_of r) on new (guests_of r) after.guests None after.current
     followed =
         subst (λ e. Followed e (plan_of r) on new (guests_of r) after.guests None after.current) same
         (subst (λ k. Followed (desc_of before) (schedule k slice n) on new (guests_of r) after.guests None after.current) count
         (subst (λ o. Followed (desc_of before) (schedule (length before.guests) slice n) on new (guests_of r) after.guests o after.current) h.begun.current
-        (subst (λ gs. Followed (desc_of before) (schedule (length before.guests) slice n) on new gs after.guests before.current after.current) h.begun.guests h.followed)))
+        (subst (λ gs. Followed (desc_of before) (schedule (length before.guests) slice n) on new gs after.guests before.current after.current) h.begun.guests as_asked)))
 
     first : virtuals on.state.cells (guests_of r) ≡ first_states r
     first = ap (virtuals on.state.cells) (sym h.begun.guests) ∙ h.begun.states
@@ -154,7 +164,7 @@ module _ (machine : Machine) (images : List (List ℕ)) (slice n : ℕ) (old on 
         (subst (λ k. BottomTurns (turns_of (plan_of r)) k on.bottom new.bottom) direct followed.bottom)
 
     pub run-states : virtuals new.state.cells after.guests ≡ reached_by r
-    run-states = h.states ∙ ap (λ e. map (steps e n) (virtuals on.state.cells before.guests)) same ∙ ap (map (steps d n)) h.begun.states ∙ reached-map d n images
+    run-states = h.states ∙ ap (λ k. map (steps (desc_of before) k) (virtuals on.state.cells before.guests)) h.of_turns ∙ ap (λ e. map (steps e n) (virtuals on.state.cells before.guests)) same ∙ ap (map (steps d n)) h.begun.states ∙ reached-map d n images
 
     pub run-stands : Stands d new.state after.guests after.current
     run-stands = subst (λ e. Stands e new.state after.guests after.current) same h.stands

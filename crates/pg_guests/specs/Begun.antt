@@ -10,6 +10,7 @@ use Rattle.pg_monitor.specs.Monitors.{desc_of}
 use Rattle.pg_monitor.specs.Standing.{Stands}
 use Rattle.pg_monitor.specs.Turns.{grants_of}
 use Rattle.pg_report.specs.Runs.{run_text}
+use Rattle.pg_report.specs.Summaries.{summary_text}
 use Rattle.pg_guests.specs.declared.running.Ran.{Ran}
 use Rattle.pg_guests.specs.Runs.{GuestRun, guests_from, loaded_from, reached_by, direct_turns_of, turns_in}
 
@@ -37,3 +38,7 @@ pub record HaveRun (r : GuestRun) (ran : Ran) (h : Machinery) : Type 0 where
 -- the text of guests as they stand on a hardware
 abbrev pub told_of : Ran → State → List ℕ
 told_of ran state = run_text (desc_of ran.monitor).word (virtuals state.cells ran.monitor.guests) ran.turns ran.direct
+
+-- their summary
+abbrev pub summary_of : Ran → State → List ℕ
+summary_of ran state = summary_text (desc_of ran.monitor).word (virtuals state.cells ran.monitor.guests) ran.turns ran.direct

@@ -17,6 +17,7 @@ use Rattle.pg_monitor.specs.Schedules.{schedule, each_direct}
 use Rattle.pg_monitor.specs.Turns.{BottomTurns}
 use Rattle.pg_report.specs.Runs.{run_text}
 use Rattle.pg_report.specs.Spans.{span}
+use Rattle.pg_report.specs.Summaries.{summary_text}
 
 -- ---- what runs
 
@@ -68,6 +69,10 @@ emulated_turns r = turns_in r - direct_turns_of r
 -- its text: the states that were reached, and the counts of turns
 abbrev pub text_of : GuestRun → List ℕ
 text_of r = run_text r.desc.word (reached_by r) (turns_in r) (direct_turns_of r)
+
+-- its summary: the counts of turns, and a line for each state that was reached
+abbrev pub summary_of_run : GuestRun → List ℕ
+summary_of_run r = summary_text r.desc.word (reached_by r) (turns_in r) (direct_turns_of r)
 
 -- the run of images on a machine
 abbrev pub run_of : Machine → List (List ℕ) → ℕ → ℕ → GuestRun

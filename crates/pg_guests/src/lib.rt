@@ -9,11 +9,14 @@
 //! - `starting`: the hardware, the monitor and its guests, before the first turn.
 //! - `running`: the turns.
 //! - `telling`: the text.
+//! - `summing`: the text in short, a line for each guest.
 #![tactic(auto)]
 
 mod running;
 mod starting;
+mod summing;
 mod telling;
 
 pub use running::{Ran, run_guests};
+pub use summing::put_summaries;
 pub use telling::put_guests;

@@ -14,7 +14,7 @@ use Rattle.pg_cert.specs.declared.report.Verdict.{Verdict}
 use Rattle.pg_cert.specs.declared.report.Verdict.TheVariants.{Accepted, Refused, Unsettled}
 use Rattle.pg_cert.specs.Texts.{name_of}
 use Rattle.pg_cert.specs.Verdicts.{first_where, first_breaking, first_unsettled, first_spent, instr_count, kind_count, marks_of, is_shown, verdict_of}
-use Rattle.pg_report.specs.Verdicts.{answer_line, answer_lines, shown_place}
+use Rattle.pg_report.specs.Verdicts.{answer_line, answer_lines, refused_line, shown_place}
 
 -- ---- lines
 
@@ -135,3 +135,8 @@ pub answer_read : (d : Desc) (family : Family) (marks own : List Mark) (i : ℕ)
     own ≡ marks_of (kind_count family) marks i → line ≡ answer_line name family own → line ≡ answer_line (name_of d i) family (marks_of (kind_count family) marks i)
 answer_read d family marks own i name line named is made =
     made ∙ ap (λ n. answer_line n family own) (name_read d i name named) ∙ ap (answer_line (name_of d i) family) is
+
+-- the line of the instruction that was asked for
+pub refused_read : (d : Desc) (i asked : ℕ) (name line : List ℕ) → slice_get (instr_names d.instrs) i ≡ Some name → line ≡ refused_line name → i ≡ asked →
+    line ≡ refused_line (name_of d asked)
+refused_read d i asked name line named made same = made ∙ ap refused_line (name_read d i name named ∙ ap (name_of d) same)

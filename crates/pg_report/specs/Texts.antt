@@ -93,6 +93,9 @@ usage_run = codes "pgv run DESC CERT IMAGE.. --grant G --steps N [--slice K]" ++
 abbrev pub usage_print : List ℕ
 usage_print = codes "pgv print DESC" ++ 10 ∷ []
 
+abbrev pub usage_gen : List ℕ
+usage_gen = codes "pgv gen NUMBER SIZE --cert FILE" ++ 10 ∷ []
+
 abbrev pub usage_migrate : List ℕ
 usage_migrate = codes "pgv migrate DESC CERT FILE" ++ 10 ∷ []
 
@@ -101,4 +104,4 @@ usage_hcheck = codes "pgv hcheck DESC --cert FILE [--budget K]" ++ 10 ∷ []
 
 -- one line for each command
 unfoldable pub usage_text : List ℕ
-usage_text = usage_bare ++ usage_check ++ usage_verify ++ usage_replay ++ usage_run ++ usage_print ++ usage_migrate ++ usage_hcheck
+usage_text = usage_bare ++ usage_check ++ usage_verify ++ usage_replay ++ usage_run ++ usage_print ++ usage_gen ++ usage_migrate ++ usage_hcheck

@@ -85,6 +85,10 @@ shown_place marks = suc (unwrap_or (position is_shown (drop 1 marks)) 0)
 
 -- ---- the verdict
 
+-- `accepted`
+unfoldable pub accepted_line : List ℕ
+accepted_line = codes "accepted" ++ 10 ∷ []
+
 -- `refused NAME`
 unfoldable pub refused_line : List ℕ → List ℕ
 refused_line name = codes "refused " ++ name_text name ++ 10 ∷ []
@@ -97,10 +101,20 @@ unsettled_line name kind = codes "open " ++ name_text name ++ 32 ∷ kind_text k
 unfoldable pub breach_text : ℕ → Family → List Mark → List ℕ
 breach_text w family marks = shown_at w family marks 0 ++ shown_at w family marks (shown_place marks)
 
+-- the line of a verdict
+unfoldable pub outcome_line : Desc → Verdict → List ℕ
+outcome_line d Accepted = accepted_line
+outcome_line d (Refused i) = refused_line (name_of d i)
+outcome_line d (Unsettled i kind) = unsettled_line (name_of d i) kind
+
+-- the states that a verdict rests on: of a breach, where it is refused
+unfoldable pub evidence_text : Desc → Family → List Mark → Verdict → List ℕ
+evidence_text d family marks Accepted = []
+evidence_text d family marks (Refused i) = breach_text d.word family (marks_of (kind_count family) marks i)
+evidence_text d family marks (Unsettled i kind) = []
+
 unfoldable pub conclusion_text : Desc → Family → List Mark → Verdict → List ℕ
-conclusion_text d family marks Accepted = codes "accepted" ++ 10 ∷ []
-conclusion_text d family marks (Refused i) = refused_line (name_of d i) ++ breach_text d.word family (marks_of (kind_count family) marks i)
-conclusion_text d family marks (Unsettled i kind) = unsettled_line (name_of d i) kind
+conclusion_text d family marks v = outcome_line d v ++ evidence_text d family marks v
 
 -- a line for each instruction, and the verdict
 unfoldable pub verdict_text : Desc → Family → List Mark → List ℕ

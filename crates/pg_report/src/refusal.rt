@@ -42,7 +42,7 @@ pub fn put_usage<S: Sink>(out: &mut S) -> Result<(), Failed>
         b"pgv bare DESC IMAGE --grant G --steps N\n\
           pgv check DESC --cert FILE [--budget K]\npgv verify DESC CERT\n\
           pgv replay DESC CERT\npgv run DESC CERT IMAGE.. --grant G --steps N [--slice K]\n\
-          pgv print DESC\npgv migrate DESC CERT FILE\n\
+          pgv print DESC\npgv gen NUMBER SIZE --cert FILE\npgv migrate DESC CERT FILE\n\
           pgv hcheck DESC --cert FILE [--budget K]\n",
     )
 }

@@ -9,14 +9,12 @@ ghost use Rattle.pg_edge.specs.Sink.{Puts};
 ghost use Rattle.pg_word.specs.Shape.{IsShape};
 ghost use Rattle.pg_cert.specs.Texts.{DoStateWordsFit};
 ghost use Rattle.pg_cert.specs.Verdicts.{kind_count, marks_of, verdict_of, instr_count, is_shown};
-ghost use Rattle.pg_report.specs.Verdicts.{answer_lines, conclusion_text, verdict_text, refused_line, unsettled_line, breach_text, shown_text, shown_at, shown_place, kind_line, DoMarkWordsFit};
+ghost use Rattle.pg_report.specs.Verdicts.{answer_lines, conclusion_text, evidence_text, outcome_line, verdict_text, accepted_line, refused_line, unsettled_line, breach_text, shown_text, shown_at, shown_place, kind_line, DoMarkWordsFit};
 ghost use Rattle.pg_cert.specs.declared.report.Mark.TheVariants.{Shown};
-ghost use Rattle.pg_cert.specs.declared.report.Verdict.TheVariants.{Refused};
 
 use crate::answers::answer_line;
 use crate::push::{push_kind, push_name};
 use crate::sparse::put_sparse;
-use crate::text::put_text;
 use pg_cert::{Family, Mark, Report, Verdict};
 use pg_edge::{Failed, Sink};
 use pg_image::{Line, push};
@@ -72,13 +70,56 @@ fn put_conclusion<S: Sink>(out: &mut S, m: &Machine, report: &Report) -> Result<
     ensures { Puts (S.written out.old) (S.written out.new) (S.faults out.old) (S.faults out.new)
         (conclusion_text m.now.desc report.now.family report.now.marks (verdict_of report.now.family report.now.marks)) result }
 {
+    put_outcome(out, m, report)?;
+    put_evidence(out, m, report)
+}
+
+/// Puts the line of the verdict of a report, which has one mark for each instruction of the machine and each kind of its
+/// family: that the machine is accepted, or the instruction that is open or breaks the rule. The cost is linear in the marks.
+///
+/// # Errors
+/// `Failed` where not all of the line went through. A front of it may have.
+pub fn put_outcome<S: Sink>(out: &mut S, m: &Machine, report: &Report) -> Result<(), Failed>
+    requires whole { length report.now.marks ≡ length m.now.desc.instrs * kind_count report.now.family }
+    ensures { Puts (S.written out.old) (S.written out.new) (S.faults out.old) (S.faults out.new)
+        (outcome_line m.now.desc (verdict_of report.now.family report.now.marks)) result }
+{
+    out.put(outcome_line(m, report).as_slice())
+}
+
+/// The line of the verdict.
+#[tactic(auto, unfolding(crate::specs::Verdicts::outcome_line))]
+fn outcome_line(m: &Machine, report: &Report) -> Line
+    requires whole { length report.now.marks ≡ length m.now.desc.instrs * kind_count report.now.family }
+    ensures { result.items ≡ outcome_line m.now.desc (verdict_of report.now.family report.now.marks) }
+{
     match report.verdict() {
-        Verdict::Accepted => put_text(out, b"accepted\n"),
-        Verdict::Refused(instr) => put_refused(out, m, report, instr),
-        Verdict::Unsettled(instr, kind) => {
-            out.put(unsettled_line(m.name(instr), kind).as_slice())
-        }
+        Verdict::Accepted => accepted_line(),
+        Verdict::Refused(instr) => refused_line(m.name(instr)),
+        Verdict::Unsettled(instr, kind) => unsettled_line(m.name(instr), kind),
     }
+}
+
+/// The line of a machine that is accepted.
+#[tactic(auto, unfolding(crate::specs::Verdicts::accepted_line))]
+fn accepted_line() -> Line
+    ensures { result.items ≡ accepted_line }
+{
+    let mut line = Line::new();
+    push(&mut line, b"accepted\n");
+    line
+}
+
+/// The line of an instruction that breaks the rule.
+#[tactic(auto, unfolding(crate::specs::Verdicts::refused_line))]
+fn refused_line(name: &[u8]) -> Line
+    ensures { result.items ≡ refused_line name.now }
+{
+    let mut line = Line::new();
+    push(&mut line, b"refused ");
+    push_name(&mut line, name);
+    line.push(b'\n');
+    line
 }
 
 /// The line of an instruction that is open, and its kind.
@@ -95,33 +136,20 @@ fn unsettled_line(name: &[u8], kind: Kind) -> Line
     line
 }
 
-/// Puts that an instruction breaks the rule, and the states that show it.
-fn put_refused<S: Sink>(
-    out: &mut S,
-    m: &Machine,
-    report: &Report,
-    instr: usize,
-) -> Result<(), Failed>
+/// Puts the states that the verdict rests on, where it is that an instruction breaks the rule.
+#[tactic(auto, unfolding(crate::specs::Verdicts::evidence_text))]
+fn put_evidence<S: Sink>(out: &mut S, m: &Machine, report: &Report) -> Result<(), Failed>
     requires whole { length report.now.marks ≡ length m.now.desc.instrs * kind_count report.now.family }
     requires fit { All (DoMarkWordsFit m.now.desc.word) report.now.marks }
-    requires within { instr < length m.now.desc.instrs }
     ensures { Puts (S.written out.old) (S.written out.new) (S.faults out.old) (S.faults out.new)
-        (conclusion_text m.now.desc report.now.family report.now.marks (Refused instr)) result }
+        (evidence_text m.now.desc report.now.family report.now.marks (verdict_of report.now.family report.now.marks)) result }
 {
-    out.put(refused_line(m.name(instr)).as_slice())?;
-    put_breach(out, m.shape(), report.family, marks_of(report, instr))
-}
-
-/// The line of an instruction that breaks the rule.
-#[tactic(auto, unfolding(crate::specs::Verdicts::refused_line))]
-fn refused_line(name: &[u8]) -> Line
-    ensures { result.items ≡ refused_line name.now }
-{
-    let mut line = Line::new();
-    push(&mut line, b"refused ");
-    push_name(&mut line, name);
-    line.push(b'\n');
-    line
+    match report.verdict() {
+        Verdict::Refused(instr) => {
+            put_breach(out, m.shape(), report.family, marks_of(report, instr))
+        }
+        Verdict::Accepted | Verdict::Unsettled(_, _) => Ok(()),
+    }
 }
 
 /// Puts the states by which an instruction of these marks breaks the rule.

@@ -1,4 +1,4 @@
-use Rattle.std.proofs.Common.{◌∙◌, ap, arith, refl}
+use Rattle.std.proofs.Common.{◌∙◌, ap, arith}
 use Rattle.pg_valid.specs.declared.machine.Machine.{Machine}
 use Rattle.pg_hw.specs.declared.counts.Counts.{Counts}
 use Rattle.pg_hw.proofs.ServingLaws.{SameServed-then}
@@ -18,9 +18,13 @@ returns-clause-ran g c =
       lent = c.in-Ok.ensures.machine;
       made = c.in-Ok.ensures.made;
       begun = c.in-Ok.ensures.begun;
+      stands = c.run_sliced.ensures.stands;
+      each = _;
+      had = _;
       states = c.run_sliced.ensures.states;
       followed = c.run_sliced.ensures.followed;
-      stands = c.run_sliced.ensures.stands;
+      of_slice = grind arith;
+      of_turns = grind arith;
     })
 
 pub returns-clause-have_run : goal.returns-clause-have_run
@@ -39,9 +43,13 @@ returns-clause-have_run g c =
       lent = lent;
       made = c.in-Ok.ensures.made;
       begun = c.in-Ok.ensures.begun;
+      stands = c.run_sliced.ensures.stands;
+      each = _;
+      had = _;
       states = c.run_sliced.ensures.states;
       followed = c.run_sliced.ensures.followed;
-      stands = c.run_sliced.ensures.stands;
+      of_slice = grind arith;
+      of_turns = grind arith;
     }) in
     record {
       machine = ap (λ (m : Machine). m.desc) (c.run_sliced.ensures.machine ∙ lent);
@@ -52,9 +60,13 @@ returns-clause-have_run g c =
             lent = lent;
             made = c.in-Ok.ensures.made;
             begun = c.in-Ok.ensures.begun;
+            stands = c.run_sliced.ensures.stands;
+            each = _;
+            had = _;
             states = c.run_sliced.ensures.states;
             followed = c.run_sliced.ensures.followed;
-            stands = c.run_sliced.ensures.stands;
+            of_slice = grind arith;
+            of_turns = grind arith;
           });
       states = run-states machine c.args.images.now c.args.slice c.args.steps old on new c.in-Ok.monitor c.run_sliced.new.self
           (record {
@@ -63,11 +75,15 @@ returns-clause-have_run g c =
             lent = lent;
             made = c.in-Ok.ensures.made;
             begun = c.in-Ok.ensures.begun;
+            stands = c.run_sliced.ensures.stands;
+            each = _;
+            had = _;
             states = c.run_sliced.ensures.states;
             followed = c.run_sliced.ensures.followed;
-            stands = c.run_sliced.ensures.stands;
+            of_slice = grind arith;
+            of_turns = grind arith;
           });
-      turns = refl;
+      turns = grind arith;
       direct = omega (arith, after, before, rose);
     }
 

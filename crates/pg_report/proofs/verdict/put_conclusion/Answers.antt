@@ -1,23 +1,22 @@
-use Rattle.std.proofs.Common.{length, ◌∙◌, ap}
-use Rattle.pg_report.specs.Verdicts.{unsettled_line, conclusion_text}
-use Rattle.pg_report.proofs.Verdicts.{name_read, refused_within, unsettled_within}
+use Rattle.std.proofs.lemmas.Result.{err_from_is_err_and}
+use Rattle.pg_edge.proofs.PutsLaws.{Puts-then, Puts-stopped}
+use Rattle.pg_cert.specs.Verdicts.{verdict_of}
+use Rattle.pg_report.specs.Verdicts.{outcome_line, evidence_text, conclusion_text}
 use Rattle.pg_report.proofs.verdict.put_conclusion.Goals as goal
 
-pub put_refused-requires-clause-within : goal.put_refused-requires-clause-within
-put_refused-requires-clause-within g c =
-    refused_within c.args.report.now.family c.args.report.now.marks (length c.args.m.now.desc.instrs) c.in-Refused.instr c.requires.whole c.in-Refused.ensures
-
-pub name-requires : goal.name-requires
-name-requires g c =
-    unsettled_within c.args.report.now.family c.args.report.now.marks (length c.args.m.now.desc.instrs) c.in-Unsettled.instr c.in-Unsettled.kind c.requires.whole c.in-Unsettled.ensures
-
-pub returns-in-Accepted : goal.returns-in-Accepted
+pub returns-in_err-put_outcome : goal.returns-in_err-put_outcome
 unfolding conclusion_text
-returns-in-Accepted g c = rw (← c.in-Accepted.ensures) c.put_text.ensures
+returns-in_err-put_outcome g c =
+    let d = c.args.m.now.desc in
+    let family = c.args.report.now.family in
+    let marks = c.args.report.now.marks in
+    let fault = err_from_is_err_and c.from_residual.result c.from_residual.ensures.1 in
+    rw fault.1 (Puts-stopped _ _ _ _ (outcome_line d (verdict_of family marks)) (evidence_text d family marks (verdict_of family marks)) _ _ c.in_err-put_outcome.ensures)
 
-pub returns-in-Unsettled : goal.returns-in-Unsettled
+pub returns : goal.returns
 unfolding conclusion_text
-returns-in-Unsettled g c =
-    let kind = c.in-Unsettled.kind in
-    let named = ap (λ name. unsettled_line name kind) (name_read c.args.m.now.desc c.in-Unsettled.instr _ c.name.ensures) in
-    rw (← c.in-Unsettled.ensures) (rw (c.as_slice.ensures.value ∙ c.unsettled_line.ensures ∙ named) at c.put.ensures.puts)
+returns g c =
+    let d = c.args.m.now.desc in
+    let family = c.args.report.now.family in
+    let marks = c.args.report.now.marks in
+    Puts-then _ _ _ _ _ _ (outcome_line d (verdict_of family marks)) (evidence_text d family marks (verdict_of family marks)) _ _ c.in_ok-put_outcome.ensures c.put_evidence.ensures
