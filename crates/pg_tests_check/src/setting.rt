@@ -15,11 +15,12 @@ pub const HEAD: &str = "machine { word 32; address 8; size 64; }\n";
 /// How many bytes a file may hold.
 const ROOM: usize = 1 << 20;
 
-/// How a command ended, and what it wrote.
+/// How a command ended, what it wrote, and the hardware.
 #[derive(Drop)]
 pub struct Ran {
     pub status: Status,
     pub text: String,
+    pub hw: Rig,
 }
 
 /// The files `d`, which holds a description, and `c` and `n`, which are empty; with the calls that fail, and how much each does
@@ -60,6 +61,7 @@ pub fn run(
         Ok(written) => Ok(Ran {
             status,
             text: text(alloc, written)?,
+            hw,
         }),
         Err(_) => Err("what is written is text".into()),
     }

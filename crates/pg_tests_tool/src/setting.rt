@@ -30,6 +30,7 @@ pgv verify DESC CERT
 pgv replay DESC CERT
 pgv run DESC CERT IMAGE.. --grant G --steps N [--slice K]
 pgv print DESC
+pgv gen NUMBER SIZE --cert FILE
 pgv migrate DESC CERT FILE
 pgv hcheck DESC --cert FILE [--budget K]
 ";

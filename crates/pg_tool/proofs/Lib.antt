@@ -16,5 +16,6 @@ pub mod ReplayLemmas
 pub mod SavingLemmas
 pub mod CheckLemmas
 pub mod MigrateLemmas
+pub mod GeneratingLemmas
 pub mod OneState
 pub mod EndsLemmas

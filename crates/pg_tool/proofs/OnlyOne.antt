@@ -13,9 +13,11 @@ use Rattle.pg_command.specs.declared.ask.Request.TheVariants as request
 use Rattle.pg_command.specs.declared.bare.BareWords.{BareWords}
 use Rattle.pg_command.specs.declared.run.RunWords.{RunWords}
 use Rattle.pg_command.specs.declared.print.PrintWords.{PrintWords}
+use Rattle.pg_command.specs.declared.generating.GenWords.{GenWords}
 use Rattle.pg_command.specs.declared.check.CheckWords.{CheckWords}
 use Rattle.pg_read.specs.declared.fault.DescFault.{DescFault}
 use Rattle.pg_read.specs.declared.fault.DescFault.TheVariants as read_fault
+use Rattle.pg_generate.proofs.OneDescription.{one-generated}
 use Rattle.pg_read.specs.Answer.{most_desc_bytes, IsAnswer}
 use Rattle.pg_read.proofs.OneAnswer.{answer_due, answer_is_due}
 use Rattle.pg_image.specs.declared.fault.ImageFault.{ImageFault}
@@ -38,6 +40,7 @@ use Rattle.pg_tool.specs.Print.{PrintDue}
 use Rattle.pg_tool.specs.Certificates.{CertDue}
 use Rattle.pg_tool.specs.Judged.{JudgedDue}
 use Rattle.pg_tool.specs.Check.{CheckDue}
+use Rattle.pg_tool.specs.Generating.{GenDue}
 use Rattle.pg_tool.specs.Asking.{WordsRefused, command_of, command_or_none, command_for}
 use Rattle.pg_tool.proofs.BareLemmas as bare
 use Rattle.pg_tool.proofs.RunLemmas as run
@@ -220,6 +223,13 @@ one-print files p = one-desc files p.desc
 one-check : (files : Files) (c : CheckWords) → IsOne (CheckDue c (Some files))
 one-check files c = one-desc files c.desc
 
+-- ---- `gen`
+
+one-gen : (files : Files) (g : GenWords) → IsOne (GenDue g (Some files))
+one-gen files g (Ok d) (Ok e) h k = ap (λ x. Ok x) (one-generated g.number g.count d e h k)
+one-gen files g (Ok d) (Err why) h k = absurd k
+one-gen files g (Err why) b h k = absurd h
+
 -- ---- `verify`, `replay` and `migrate`
 
 one-judged : (files : Files) (desc cert : List ℕ) → IsOne (JudgedDue desc cert (Some files))
@@ -237,6 +247,7 @@ one-command files (request.Verify v) = one-judged files v.desc v.cert
 one-command files (request.Replay r) = one-judged files r.desc r.cert
 one-command files (request.Run r) = one-run files r
 one-command files (request.Print p) = one-print files p
+one-command files (request.Gen g) = one-gen files g
 one-command files (request.Migrate m) = one-judged files m.desc m.cert
 one-command files (request.Hcheck c) = one-check files c
 

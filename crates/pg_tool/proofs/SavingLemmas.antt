@@ -21,7 +21,7 @@ use Rattle.pg_verify.proofs.TakeLemmas.{valid_texts_are_taken}
 use Rattle.pg_tool.specs.Certificates.{IsCertificate}
 use Rattle.pg_tool.specs.Judged.{verdict_status}
 use Rattle.pg_tool.specs.Meaning.{VerdictMeans}
-use Rattle.pg_tool.specs.Saving.{IsWritten, EndsSaved, LeavesUnsaved}
+use Rattle.pg_tool.specs.Saving.{IsWritten, IsSaved, EndsSaved, LeavesUnsaved}
 use Rattle.pg_tool.specs.World.{World}
 use Rattle.pg_tool.proofs.VerdictMeanings.{certificate_means, certificate_whole}
 
@@ -107,14 +107,14 @@ leaves_unsaved name bytes old new left others hw = record {
 }
 
 module _ (name : List ℕ) (d : Desc) (family : Family) (old new : World) (bytes : List ℕ) (report : Report) (valid : IsValid d)
-    (h : IsWritten d family bytes report) (others : BothTold old.files new.files (SameBut name)) (hw : new.hw ≡ old.hw) where
-  pub ends_saved : BothTold old.files new.files (λ was now. now name ≡ Some bytes) →
-      EndsSaved name d family bytes report old new (verdict_status (verdict_of report.family report.marks)) (verdict_text d report.family report.marks)
-  ends_saved saved = record {
-    status = refl;
-    wording = refl;
+    (h : IsWritten d family bytes report) (others : BothTold old.files new.files (SameBut name)) where
+  pub is_saved : BothTold old.files new.files (λ was now. now name ≡ Some bytes) → IsSaved name d family bytes report old new
+  is_saved saved = record {
     meaning = written_means d family bytes report valid h;
     again = written_again d family bytes report valid h;
     saved = both_told old.files new.files (λ was now. now name ≡ Some bytes) (SameBut name) saved others;
-    hw = hw;
   }
+
+  pub ends_saved : new.hw ≡ old.hw → BothTold old.files new.files (λ was now. now name ≡ Some bytes) →
+      EndsSaved name d family bytes report old new (verdict_status (verdict_of report.family report.marks)) (verdict_text d report.family report.marks)
+  ends_saved hw saved = record { status = refl; wording = refl; saving = is_saved saved; hw = hw }

@@ -15,6 +15,7 @@ use Rattle.pg_tool.specs.Verify.{verify_command}
 use Rattle.pg_tool.specs.Replay.{replay_command}
 use Rattle.pg_tool.specs.Migrate.{migrate_command}
 use Rattle.pg_tool.specs.Check.{check_command}
+use Rattle.pg_tool.specs.Generating.{gen_command}
 
 -- words that are refused come to that and nothing else
 abbrev pub WordsRefused : Step Refusal ⊥
@@ -40,6 +41,7 @@ command_of (request.Verify v) = verify_command v
 command_of (request.Replay r) = replay_command r
 command_of (request.Run r) = run_command r
 command_of (request.Print p) = print_command p
+command_of (request.Gen g) = gen_command g
 command_of (request.Migrate m) = migrate_command m
 command_of (request.Hcheck c) = check_command Hybrid c
 

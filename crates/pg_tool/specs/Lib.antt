@@ -20,6 +20,7 @@ pub mod Verify
 pub mod Replay
 pub mod Check
 pub mod Migrate
+pub mod Generating
 pub mod Asking
 pub mod Answering
 pub mod CanRuns

@@ -34,15 +34,18 @@ HoldsNow name bytes was now = (now name ≡ Some bytes) × SameBut name was now
 abbrev pub HoldsAtMost : List ℕ → List ℕ → Files → Files → Type 0
 HoldsAtMost name bytes was now = HasOldOrFront name bytes was now × SameBut name was now
 
--- the text of a certificate is saved whole; the status and the text that is put are those of its verdict, which means what it
--- says, and nothing else is touched. Where its text is within the limit, a verifier of the family takes it, and keeps the same
--- of it
-pub record EndsSaved (name : List ℕ) (d : Desc) (family : Family) (bytes : List ℕ) (report : Report) (old new : World) (given : Status) (text : List ℕ) : Type 0 where
-  pub status : given ≡ verdict_status (verdict_of report.family report.marks)
-  pub wording : text ≡ verdict_text d report.family report.marks
+-- the text of a certificate is saved whole, and its verdict means what it says. Where the text is within the limit, a verifier of
+-- the family takes it, and keeps the same of it
+pub record IsSaved (name : List ℕ) (d : Desc) (family : Family) (bytes : List ℕ) (report : Report) (old new : World) : Type 0 where
   pub meaning : VerdictMeans d report
   pub again : length bytes ≤ most_bytes → IsCertificate d family bytes report
   pub saved : BothTold old.files new.files (HoldsNow name bytes)
+
+-- a certificate is saved; the status and the text that is put are those of its verdict, and nothing else is touched
+pub record EndsSaved (name : List ℕ) (d : Desc) (family : Family) (bytes : List ℕ) (report : Report) (old new : World) (given : Status) (text : List ℕ) : Type 0 where
+  pub status : given ≡ verdict_status (verdict_of report.family report.marks)
+  pub wording : text ≡ verdict_text d report.family report.marks
+  pub saving : IsSaved name d family bytes report old new
   pub hw : new.hw ≡ old.hw
 
 -- where the save failed: the file has what it had, or a front of the text

@@ -84,7 +84,7 @@ fn prepare_check<F: Shelf, W: Watcher>(
 
 /// A certificate of a machine, found within a budget from 1 to 1,000,000: its text, and what is kept of it. The error is want
 /// of memory.
-fn checked<W: Watcher>(
+pub(crate) fn checked<W: Watcher>(
     alloc: Global,
     machine: Machine,
     family: Family,

@@ -13,7 +13,8 @@
 //! - `described`, `imaged`, `load`: bytes and files to machines and images. `certified`: files to certificates. `room`: more
 //!   cells than there are.
 //! - `judged`: a description and a certificate of it.
-//! - `bare`, `check` (and `hcheck`), `verify`, `replay`, `run`, `print`, `migrate`: the commands.
+//! - `bare`, `check` (and `hcheck`), `verify`, `replay`, `run`, `print`, `generating` (the command `gen`), `migrate`: the
+//!   commands.
 //! - `laws`: what is due for told files is one thing.
 #![tactic(auto)]
 
@@ -31,6 +32,7 @@ mod bare;
 mod certified;
 mod check;
 mod described;
+mod generating;
 mod imaged;
 mod judged;
 pub mod laws;
@@ -47,6 +49,7 @@ mod verify;
 
 use crate::bare::carry_bare;
 use crate::check::carry_check;
+use crate::generating::carry_gen;
 use crate::migrate::carry_migrate;
 use crate::print::carry_print;
 use crate::refusal::Stop;
@@ -67,9 +70,9 @@ use std::alloc::Global;
 /// Does what the words ask for, of which the first is the program's name.
 ///
 /// The hardware has to serve every machine, with room for 1,048,575 cells, and each of its counts below 2^62. It is
-/// untouched where the command is refused or a file could not be read. Where memory is refused no step was done, and it is
-/// untouched but in one case: where a run of a guest was due, it may have been set up for that run, its storage and program
-/// status word made and cells poked. Every file is left as it was, but one that the words name to be saved.
+/// untouched where the command is refused, a file could not be read or a certificate not be saved. Where memory is refused no
+/// step was done, and it is untouched but in one case: where a run was due, it may have been set up for that run, its storage
+/// and program status word made and cells poked. Every file is left as it was, but one that the words name to be saved.
 pub fn tool<F: Shelf, S: Sink, H: Hardware>(
     alloc: Global,
     words: &[String],
@@ -160,6 +163,7 @@ fn carry<F: Shelf, S: Sink, H: Hardware, W: Watcher>(
         Request::Replay(words) => carry_replay(alloc, words, shelf, out, hw),
         Request::Run(words) => carry_run(alloc, words, shelf, out, hw),
         Request::Print(words) => carry_print(alloc, words, shelf, out, hw),
+        Request::Gen(words) => carry_gen(alloc, words, shelf, out, hw, watcher),
         Request::Migrate(words) => carry_migrate(alloc, words, shelf, out, hw),
         Request::Hcheck(words) => carry_check(
             alloc,

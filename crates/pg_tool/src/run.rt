@@ -83,7 +83,7 @@ pub(crate) fn carry_run<F: Shelf, S: Sink, H: Hardware>(
 }
 
 /// Whether a verdict is that a monitor may run the machine.
-fn is_accepted(verdict: Verdict) -> bool
+pub(crate) fn is_accepted(verdict: Verdict) -> bool
     ensures yes { result ≡ true → verdict ≡ Accepted }
     ensures no { result ≡ false → verdict ≢ Accepted }
 {
