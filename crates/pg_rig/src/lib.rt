@@ -5,11 +5,15 @@
 //! (`rig`). It serves every machine and has room for `2^32 - 1` cells; nothing of it grows with the number of steps, and a
 //! step costs no more on a larger storage.
 //!
+//! `Spy` is any hardware, watched: of the addresses that are poked it keeps the least and the greatest (`spy`).
+//!
 //! `power_on` and `bare`, which are for every hardware, stand in `pg_hw`; they are named here too.
 #![tactic(auto)]
 
 mod rig;
+mod spy;
 mod window;
 
 pub use pg_hw::{bare, power_on};
 pub use rig::{Interpreting, Rig};
+pub use spy::Spy;

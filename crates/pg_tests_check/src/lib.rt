@@ -3,12 +3,14 @@
 //! code here: a crate with tests is proved twice, and this one has nothing to prove.
 //!
 //! - `setting`: the calls. `rows`: descriptions, and what is found of them. `classics`: the instructions that broke machines of
-//!   history, and mended ones. `saving`: what is saved, and what is not. `renewing`: certificates made anew. `watching`: who is
-//!   told of questions.
+//!   history, and mended ones. `saving`: what is saved, and what is not. `renewing`: certificates made anew. `tampering`:
+//!   certificates that were tampered with. `generated`: inputs of a number. `watching`: who is told of questions.
 #![tactic(auto)]
 
 #[cfg(test)]
 mod classics;
+#[cfg(test)]
+mod generated;
 #[cfg(test)]
 mod renewing;
 #[cfg(test)]
@@ -17,5 +19,7 @@ mod rows;
 mod saving;
 #[cfg(test)]
 mod setting;
+#[cfg(test)]
+mod tampering;
 #[cfg(test)]
 mod watching;
