@@ -18,9 +18,11 @@ from inputs.case import DESCRIPTION_FILE
 from inputs.checks import any_bodies, hard, pieced
 from inputs.pairs import PairFinder
 from judging import OTHER_FAMILY, Ended, Judge
+from judging_generated import CAN_BE_SHOWN
 from pgvmodel.command import Search
 from pgvmodel.deciding import Answer, Solver
 from pgvmodel.families import HYBRID, PURE, Family
+from pgvmodel.generator import BODIES, FIELDS, HEAD
 from pgvmodel.machine import Machine
 from pgvmodel.pairs import ALL_KINDS, BOUND, CONTROL, LOCATION, MODE, PRIVILEGED, USER_SENSITIVE, shows
 from pgvmodel.questions import Questions
@@ -342,6 +344,17 @@ def wrong_hybrid_verdicts(solver: Solver) -> list[str]:
     return [name for name, is_so in checks.items() if not is_so]
 
 
+def wrong_generated(solver: Solver) -> list[str]:
+    """Bodies that `gen` draws of which another kind can be shown than is said where its runs are judged."""
+    wrong = []
+    for body, shown in zip(BODIES, CAN_BE_SHOWN):
+        machine = Machine(read(f'{HEAD} instr g0 "{1:08b}{FIELDS}" {{ {body} }}'.encode()))
+        found = {kind for kind in PURE.kinds if solver.decided(machine, 0, kind).answer is not Answer.NEVER}
+        if found != shown:
+            wrong.append(f"{body}: {sorted(found)}, and not {sorted(shown)}")
+    return wrong
+
+
 def wrong_tries(solver: Solver, count: int) -> list[str]:
     """Random pairs of which a formula says another thing than the machine."""
     wrong = []
@@ -369,7 +382,7 @@ def main() -> int:
         print("check_decisions: no program z3", file=sys.stderr)
         return 2
     solver = Solver(Path(program))
-    wrong = [*wrong_rows(solver), *wrong_verdicts(solver), *wrong_hybrid_verdicts(solver)]
+    wrong = [*wrong_rows(solver), *wrong_generated(solver), *wrong_verdicts(solver), *wrong_hybrid_verdicts(solver)]
     tried = wrong_tries(solver, count)
     print("\n".join([*wrong, f"{len(ROWS) + len(HYBRID_ROWS)} rows, {len(wrong)} wrong", *tried]))
     return WRONG if wrong or len(tried) > 1 else GOOD

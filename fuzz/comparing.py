@@ -13,9 +13,13 @@ from typing import NamedTuple
 
 from inputs.case import CERTIFICATE_FILE, DESCRIPTION_FILE, SAVED_FILE, Case
 from judging import Ended, Judge, counted
+from judging_generated import GenerationJudge
 from judging_migrations import MigrationJudge
-from pgvmodel.command import CERTIFICATE, DESCRIPTION, IMAGE, SAVING, Answer, Migration, Search, answer, on_full_output
+from pgvmodel.command import (
+    CERTIFICATE, DESCRIPTION, IMAGE, SAVING, Answer, Answered, Generation, Migration, Search, answer, on_full_output,
+)
 from pgvmodel.deciding import Solver
+from pgvmodel.error_lines import NO_OUTPUT
 from pgvmodel.questions import NotModelled, Questions
 
 FULL = "/dev/full"
@@ -23,9 +27,6 @@ FULL = "/dev/full"
 
 SECONDS = 120
 """A run of the program that takes longer is stopped, and differs."""
-
-Answered = Answer | Search | Migration
-"""What the model says of a case: an answer, or what one has to be that is not told to the last byte."""
 
 REFUSED_FILES = (DESCRIPTION, IMAGE, CERTIFICATE)
 """Statuses of which the class of the fault is told beside."""
@@ -104,8 +105,11 @@ class Comparison:
     def __init__(self, program: Path, folder: Path, questions: Questions, solver: Solver | None = None) -> None:
         self.program = program
         self.questions = questions
-        self.judge = Judge(solver, questions)
-        self.migrations = MigrationJudge(questions)
+        self.judges = {
+            Search: Judge(solver, questions),
+            Migration: MigrationJudge(questions),
+            Generation: GenerationJudge(questions),
+        }
         self.folder = folder
         self.files = folder / "files"
         self.again = folder / "again"
@@ -114,7 +118,8 @@ class Comparison:
     def round(self, name: str, cases: Iterable[Case]) -> Tally:
         """Runs all cases of a round, but those that are not modelled."""
         tally = Tally()
-        self.judge.counts = self.migrations.counts = tally.judged
+        for judge in self.judges.values():
+            judge.counts = tally.judged
         for case in cases:
             self.place(case.files)
             model = self.by_model(case)
@@ -196,18 +201,21 @@ class Comparison:
         if isinstance(model, Answer):
             outcome = beside(model, program)
             return outcome if before == after else outcome._replace(errors=b"files were changed")
-        judge = self.judge if isinstance(model, Search) else self.migrations
         ended = Ended(program.status, program.output)
         try:
-            complaints = list(judge.complaints(model, ended, before, after, self))
+            complaints = list(self.judges[type(model)].complaints(model, ended, before, after, self))
         except Exception:
             return _failed()
-        return Outcome(None, b"", "\n".join(complaints).encode()) if complaints else program._replace(errors=b"")
+        if complaints:
+            return Outcome(None, b"", "\n".join(complaints).encode())
+        is_full = isinstance(model, Generation) and model.is_full
+        error = NO_OUTPUT if is_full else None
+        return beside(Answer(program.status, program.output, error), program)
 
     def with_others(self, program: Outcome, words: Sequence[str], tally: Tally) -> Outcome:
         """The outcome of a run, or a complaint where one with these other words ends otherwise."""
         other = self.by_program(words, self.files)
-        tally.judged["runs with another slice"] += 1
+        tally.judged["runs with other words"] += 1
         if other == program:
             return program
         return Outcome(None, b"", f"{shlex.join(words)}: {other.told()}, and not {program.told()}".encode())

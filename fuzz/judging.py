@@ -14,7 +14,7 @@ from inputs.pairs import PairFinder
 from pgvmodel import tree
 from pgvmodel.command import CERTIFICATE, Search, verifying
 from pgvmodel.deciding import Answer, Decision, Solver
-from pgvmodel.families import PURE
+from pgvmodel.families import PURE, Family
 from pgvmodel.machine import Machine, State
 from pgvmodel.pairs import shows
 from pgvmodel.questions import NotModelled, Questions
@@ -148,12 +148,7 @@ class Judge:
 
         The program's own `verify` has to say so too, but that it refuses the first line of the hybrid family.
         """
-        lines = saved.split(b"\n")
-        if lines[0] != search.family.first_line.encode():
-            yield f"the certificate begins with {lines[0][:40]!r}"
-        for line in lines:
-            if line.startswith(b"finding ") and b" spent " in line and line.split()[-1] != b"%d" % search.budget:
-                yield f"{line.decode()!r} with a budget of {search.budget}"
+        yield from faults_of_lines(saved, search.family, search.budget)
         verified = again.verified(search.text, saved)
         if verified != (ended if search.family is PURE else OTHER_FAMILY):
             yield f"`verify` ends with {verified.status}, and writes {verified.output[:200]!r}"
@@ -169,6 +164,16 @@ class Judge:
         self.counts["certificates"] += 1
         if (modelled.status, modelled.output) != ended:
             yield f"the model of `verify` answers {modelled.status}, {modelled.output[:200]!r}"
+
+
+def faults_of_lines(saved: bytes, family: Family, budget: int) -> Iterator[str]:
+    """What is wrong with a saved certificate's first line, and with the headers of what is left open by a budget."""
+    lines = saved.split(b"\n")
+    if lines[0] != family.first_line.encode():
+        yield f"the certificate begins with {lines[0][:40]!r}"
+    for line in lines:
+        if line.startswith(b"finding ") and b" spent " in line and line.split()[-1] != b"%d" % budget:
+            yield f"{line.decode()!r} with a budget of {budget}"
 
 
 def machine_has(machine: Machine) -> Callable[[State], bool]:

@@ -5,8 +5,10 @@ from collections.abc import Callable, Iterator
 from dataclasses import dataclass
 from random import Random
 
-from inputs import certificates, checks, command_lines, depths, guests, large, limits, lines, patterns, windows
-from inputs.case import Case, printing, running_bare
+from inputs import (
+    certificates, checks, command_lines, depths, generations, guests, large, limits, lines, patterns, tampered, windows,
+)
+from inputs.case import DESCRIPTION_FILE, Case, printing, running_bare
 from inputs.checker import Means
 from inputs.descriptions import ANY_MANNER, any_description, random_description, random_shape
 from inputs.images import ImageWriter, broken_image
@@ -15,11 +17,18 @@ from inputs.spelling import any_spelling, spelled
 from inputs.text_mutations import mutated
 from inputs.tree_mutations import perturbed, with_limit_fault, with_other_names, with_other_widths
 from pgvmodel import tree
+from pgvmodel.printer import printed
 from pgvmodel.questions import Questions
 
 STEPS = (1, 2, 3, 4, 6, 9, 15, 30, 60)
 GRANTS = (2, 3, 5, 7, 8, 9, 12, 16, 17, 24, 30, 40)
 FEW_INSTRUCTIONS = (1, 2, 3, 4)
+
+MANY = 12
+"""Runs of one description where a campaign is made of them: it takes longer to make one than to run it."""
+
+Seed = int | str
+"""Equal ones give equal inputs."""
 
 MOST_MODELLED_CELLS = 3000
 """Larger storages would be slow; `storages` and the large images have those."""
@@ -27,14 +36,15 @@ MOST_MODELLED_CELLS = 3000
 
 @dataclass(frozen=True)
 class RandomRound:
-    """Cases made one by one, each from a generator of its own."""
+    """Cases made one by one, each from a generator of its own; one where other rounds have `one_in`, if they take longer."""
 
     name: str
     make: Callable[[Random], Case]
+    one_in: int = 1
 
-    def cases(self, seed: int, count: int, _means: Means) -> Iterator[Case]:
-        """So many cases."""
-        for i in range(count):
+    def cases(self, seed: Seed, count: int, _means: Means) -> Iterator[Case]:
+        """So many cases, or their share."""
+        for i in range(-(-count // self.one_in)):
             yield self.make(Random(f"{seed} {self.name} {i}"))
 
 
@@ -45,7 +55,7 @@ class QuestionRound:
     name: str
     make: Callable[[Random, Questions], Case]
 
-    def cases(self, seed: int, count: int, means: Means) -> Iterator[Case]:
+    def cases(self, seed: Seed, count: int, means: Means) -> Iterator[Case]:
         """So many cases."""
         for i in range(count):
             yield self.make(Random(f"{seed} {self.name} {i}"), means.questions)
@@ -58,7 +68,7 @@ class CheckedRound:
     name: str
     make: Callable[[Random, Means], Iterator[Case]]
 
-    def cases(self, seed: int, count: int, means: Means) -> Iterator[Case]:
+    def cases(self, seed: Seed, count: int, means: Means) -> Iterator[Case]:
         """So many cases."""
         generators = (Random(f"{seed} {self.name} {i}") for i in itertools.count())
         yield from itertools.islice((case for rng in generators for case in self.make(rng, means)), count)
@@ -71,7 +81,7 @@ class ListRound:
     name: str
     cases_of: Callable[[], list[Case]]
 
-    def cases(self, seed: int, count: int, _means: Means) -> Iterator[Case]:
+    def cases(self, seed: Seed, count: int, _means: Means) -> Iterator[Case]:
         """At most so many cases."""
         yield from _sampled(f"{seed} {self.name}", self.cases_of(), count)
 
@@ -83,7 +93,7 @@ class CheckedListRound:
     name: str
     cases_of: Callable[[Means], list[Case]]
 
-    def cases(self, seed: int, count: int, means: Means) -> Iterator[Case]:
+    def cases(self, seed: Seed, count: int, means: Means) -> Iterator[Case]:
         """At most so many cases."""
         yield from _sampled(f"{seed} {self.name}", self.cases_of(means), count)
 
@@ -139,16 +149,42 @@ def edited_image(rng: Random) -> Case:
 
 def bare_runs(rng: Random) -> Case:
     """Any bodies, on a bare machine; a few grants are over the room."""
-    description = random_description(rng, random_shape(rng, small=rng.random() < 0.9), rng.choice(FEW_INSTRUCTIONS))
-    return _run(rng, description)
+    return _run(rng, _rough(rng))
 
 
 def tame_bare_runs(rng: Random) -> Case:
     """Bodies that mostly are done, on a bare machine; few storages are so small that the programs leave them."""
+    return _run(rng, _tame(rng))
+
+
+def _rough(rng: Random) -> tree.Description:
+    return random_description(rng, random_shape(rng, small=rng.random() < 0.9), rng.choice(FEW_INSTRUCTIONS))
+
+
+def _tame(rng: Random) -> tree.Description:
     shape = random_shape(rng, small=True)
     while shape.size < 12 and rng.random() < 0.9:
         shape = random_shape(rng, small=True)
-    return _run(rng, random_description(rng, shape, rng.choice([1, 2, 2, 4, 4, 7, 8, 8]), ANY_MANNER, TAME))
+    return random_description(rng, shape, rng.choice([1, 2, 2, 4, 4, 7, 8, 8]), ANY_MANNER, TAME)
+
+
+def many_bare_runs(rng: Random, _means: Means) -> Iterator[Case]:
+    """Runs of one machine of either kind, from images of all kinds."""
+    description = rng.choice([_rough, _tame, _tame])(rng)
+    text = printed(description)
+    for _ in range(MANY):
+        case = _run(rng, description)
+        yield case._replace(files={**case.files, DESCRIPTION_FILE: text})
+
+
+def many_spellings(rng: Random, _means: Means) -> Iterator[Case]:
+    """One description in spellings of all kinds, most of them with edits of its text or of its tree."""
+    valid = any_description(rng, FEW_INSTRUCTIONS)
+    for _ in range(MANY):
+        kind = rng.choices(["valid", "text", "tree", "names", "widths"], [20, 40, 20, 10, 10])[0]
+        other = {"tree": perturbed, "names": with_other_names, "widths": with_other_widths}.get(kind)
+        text = any_spelling(rng, valid) if other is None else spelled(rng, other(rng, valid))
+        yield printing(mutated(rng, text) if kind == "text" else text)
 
 
 def _run(rng: Random, description: tree.Description) -> Case:
@@ -174,7 +210,10 @@ def operators(rng: Random) -> Case:
 
 
 def full_outputs(rng: Random, means: Means) -> Iterator[Case]:
-    """Any of these where standard output takes nothing; some without their last word. None of them saves a file."""
+    """Any of these where standard output takes nothing; some without their last word. None of them saves a file.
+
+    Such runs of `gen`, which does, are in a round with its other ones.
+    """
     makers = [spelled_round, edited_text, edited_image, tame_bare_runs]
     asking = [certificates.certificates, certificates.replays]
     checked = [guests.windows, guests.certified]
@@ -218,6 +257,8 @@ ROUNDS = (
     QuestionRound("logs", certificates.logs),
     QuestionRound("replays", certificates.replays),
     QuestionRound("migrations", certificates.migrations),
+    CheckedRound("tampered-certificates", tampered.tampered),
+    RandomRound("generated", generations.generations, one_in=10),
     CheckedRound("full-outputs", full_outputs),
     ListRound("certificate-lines", certificates.odd_lines),
     ListRound("log-lines", certificates.odd_logs),
@@ -245,3 +286,10 @@ LONG_ROUNDS = (
     CheckedListRound("long-guest-runs", large.long_guest_runs),
     ListRound("large-certificates", certificates.largest),
 )
+
+CAMPAIGN_ROUNDS = (
+    CheckedRound("many-bare-runs", many_bare_runs),
+    CheckedRound("many-spellings", many_spellings),
+)
+
+BY_NAME = {source.name: source for source in (*ROUNDS, *SEARCH_ROUNDS, *LONG_ROUNDS, *CAMPAIGN_ROUNDS)}

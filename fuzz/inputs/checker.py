@@ -42,8 +42,16 @@ class Checker:
             return saved.read_bytes() if saved.is_file() and saved.stat().st_size <= MOST_BYTES else None
 
 
+FEW = 5
+"""Runs of guests of one machine, mostly."""
+
+
 class Means(NamedTuple):
-    """What inputs are made with beside chance: the clauses of questions, and certificates as the program makes them."""
+    """What inputs are made with beside chance: the clauses of questions, and certificates as the program makes them.
+
+    A machine of guests is run `few` times, since it takes longer to check it than to run it.
+    """
 
     questions: Questions
     checker: Checker
+    few: int = FEW

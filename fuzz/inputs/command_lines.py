@@ -140,11 +140,23 @@ CHECK_LINES = (
 )
 """Lines behind `check` and `hcheck`; C and K stand for a whole option each."""
 
+GEN_LINES = (
+    "", "2", "2 1", "2 1 C", "C 2 1", "2 C 1", "2 C", "C", "1 2 3 C", "2 1 C C", "2 1 C K", "2 1 --cert", "2 1 --cert=",
+    "2 1 --cert x y", "2 1 --cert=x", "2 --cert 1 x", "-- 2 1 C", "C -- 2 1", "2 C -- 1", "2 -- C 1", "-- C 2 1", "2 1 -- C",
+    "2 -1 C", "-2 1 C", "C -- -2 1", "2 1 --cert -x", "2 1 --cert=-x", "2 1 --cert -", "2 1 --cert --", "2 - C", "- 1 C",
+    "2 1 --Cert x", "2 1 --cer x", "2 1 -c x", "2 1 -cert x", "2 1 --cert:x", "2 1 C --help", "2 1 C -h", "help 2 1 C",
+    "2 1 C --grant 8", "2 1 C --slice 1", "2 1 C --steps=3", "2 1 C --number 2", "2 --size 1 C", "--number=2 1 C", "gen 2 1 C",
+    "2 d C", "d 1 C", "d C", "n v C", "2 1 --cert dir", "2 1 --cert dir/x", "2 1 --cert dir/", "2 1 --cert none/x",
+    "2 1 --cert d/x", "2 1 --cert x/", "2 1 --cert ./x", "2 1 --cert dir/../x", "2 1 --cert ..", "2 1 --cert .",
+    "2 1 --cert d", "2 1 --cert v", "2 61 --cert dir", "2 0 --cert none/x", "2 x --cert dir", "2 1 --cert 2", "0 1 C", "3 2 C",
+)
+"""Lines behind `gen`; C and K stand for a whole option each."""
+
 POOL = (
     "bare", "run", "print", "verify", "d", "i", "n", "v", "badv", "none", "open", "--grant", "--steps", "8", "2", "--grant=8",
     "--steps=3", "--grant=+9", "--steps=0", "--", "-", "", "--help", "-h", "x", "--grant=65", "+1", "63", "-1", "--slice=1",
     "help", "bad", "badi", "dir", "check", "--cert", "--cert=x", "--budget", "--budget=5", "x", "replay", "migrate", "hcheck",
-    "--slice", "--slice=5", "--slice=0", "z", "t", "tv",
+    "--slice", "--slice=5", "--slice=0", "z", "t", "tv", "gen", "1", "0",
 )
 
 
@@ -158,12 +170,13 @@ def shapes() -> list[Case]:
     lines += [["print", name] for name in PRINT_FILES]
     lines += [line for command in ("verify", "replay") for line in _verify_shapes(command)]
     lines += [line for command in ("check", "hcheck") for line in _check_shapes(command)]
-    lines += _migrate_shapes()
+    lines += [*_migrate_shapes(), *_gen_shapes()]
     lines += [[word, "n", *CERT] for word in ("Check", "chec", "checks", "CHECK", "check ", "--check", "bare", "print", "run")]
     lines += [[word, "n", *CERT] for word in ("Hcheck", "hchec", "hchecks", "h-check", "hcheck ", "--hcheck", "hybrid")]
     lines += [[word, "n", *CERT] for word in ("verify", "replay", "migrate")]
     lines += [[word, "n", "v"] for word in ("Verify", "verif", "verifys", "VERIFY", "verify ", "--verify", "check", "hcheck")]
     lines += [[word, "n", "v"] for word in ("Replay", "repla", "replays", "REPLAY", "replay ", "--replay")]
+    lines += [[word, "2", "1", *CERT] for word in ("Gen", "ge", "gene", "generate", "gen ", "--gen", "check", "print", "run")]
     lines += [[word, "n", "v", "x"] for word in ("Migrate", "migrat", "migrates", "--migrate", "verify", "replay", "check")]
     lines += [*_bare_shapes(), *_run_shapes()]
     lines += [["print", f"d{NO_UTF_8}"], [NO_UTF_8, "d"], ["print", "--", NO_UTF_8]]
@@ -211,8 +224,15 @@ def _migrate_shapes() -> list[list[str]]:
     return [["migrate", *line] for line in lines]
 
 
+def _gen_shapes() -> list[list[str]]:
+    rests = [["", "1", *CERT], ["2", "", *CERT], ["2", "1", "--cert", ""], ["2", "1", "--cert", "n" * 300]]
+    rests += [[f"2{NO_UTF_8}", "1", *CERT], ["2", f"1{NO_UTF_8}", *CERT], ["2", "1", f"--cert=x{NO_UTF_8}"]]
+    rests += [["2", "1", "--cert", name] for name in ("d\u00e9", "a b c", "x\ny")]
+    return [["gen", *rest] for rest in (*map(_filled, GEN_LINES), *rests)]
+
+
 def _filled(line: str) -> list[str]:
-    """The words of one of BARE_LINES, RUN_LINES or CHECK_LINES."""
+    """The words of one of BARE_LINES, RUN_LINES, CHECK_LINES or GEN_LINES."""
     options = {"G": GRANT, "S": STEPS, "L": SLICE, "C": CERT, "K": BUDGET}
     return [part for word in line.split() for part in options.get(word, [word])]
 
@@ -231,6 +251,8 @@ def numbers() -> list[Case]:
     for spelling in NUMBER_SPELLINGS:
         for command in ("check", "hcheck"):
             lines += [[command, "n", *CERT, "--budget", spelling], [command, f"--budget={spelling}", "n", *CERT]]
+        lines += [["gen", *words, *CERT] for words in ([spelling, "1"], ["2", spelling], ["--", spelling, "1"])]
+        lines += [["gen", *CERT, *words] for words in ([spelling, "1"], ["--", "2", spelling])]
     return [_case(line) for line in lines]
 
 
@@ -254,6 +276,7 @@ def refusals() -> list[Case]:
     for command, description, place in product(("check", "hcheck"), ("n", *descriptions), places):
         lines.append([command, f"--cert={place}", "--", description])
     lines += [["migrate", "--", *files] for files in product(("n", *descriptions), certificates, places)]
+    lines += [["gen", f"--cert={place}", "2", size] for place, size in product(places, ("1", "0", "61", "d"))]
     return [_case(line) for line in lines]
 
 
@@ -263,7 +286,7 @@ FILES_ALONE = {"print": ["d"], "verify": ["n", "v"], "replay": ["n", "v"], "migr
 
 def random_line(rng: Random) -> Case:
     """A line that is taken, with up to three edits."""
-    command = rng.choice(["bare", "run", "run", "print", "verify", "check", "replay", "migrate", "hcheck"])
+    command = rng.choice(["bare", "run", "run", "print", "verify", "check", "replay", "migrate", "hcheck", "gen"])
     files = ["n", "v", "i", *["z"] * rng.choice([0, 0, 1, 6])] if command == "run" else ["d", "i"]
     words = [*files, "--grant=8", "--steps=3"] if rng.random() < 0.5 else [*files, *BOTH]
     if command == "run" and rng.random() < 0.5:
@@ -272,6 +295,8 @@ def random_line(rng: Random) -> Case:
         words = FILES_ALONE[command]
     if command in ("check", "hcheck") and rng.random() < 0.9:
         words = ["n", *CERT, *rng.choice([[], BUDGET, ["--budget=7"]])]
+    if command == "gen" and rng.random() < 0.9:
+        words = [*rng.choice([["2", "1"], ["0", "+1"]]), *CERT]
     for _ in range(rng.choice([0, 1, 1, 2, 3])):
         words = _edited(rng, words)
     return _case([command, *words] if rng.random() < 0.95 else words)

@@ -43,10 +43,6 @@ BUDGETS = (BUDGET, BUDGET, BUDGET, 1, 2, 10, 50, 1000)
 """Of a check: most settle what they ask, and some leave it open."""
 
 
-FEW = 5
-"""Runs of a machine."""
-
-
 def rough(rng: Random, means: Means) -> Iterator[Case]:
     """Bodies that mostly are guarded or use no control register, some of them nearly; a few images are broken."""
     return _runs_of(rng, means, _machine(rng, ROUGH, rng.choice([1, 2, 3, 4]), 0.25))
@@ -80,11 +76,12 @@ def systems(rng: Random, means: Means) -> Iterator[Case]:
 def _shared(rng: Random, means: Means, machine: Edges | System, steps: Sequence[int]) -> Iterator[Case]:
     """Runs of a machine that is shared out among guests, each time anew."""
     text = machine.description()
-    for _ in range(FEW):
+    certificate = checked(means, text)
+    for _ in range(means.few):
         machine.share_out()
         images = [machine.image() for _ in range(machine.guests)]
         count = _steps(rng, steps)
-        yield running_guests(text, checked(means, text), images, machine.grant, count, *_slices(rng, count))
+        yield running_guests(text, certificate, images, machine.grant, count, *_slices(rng, count))
 
 
 def certified(rng: Random, means: Means) -> Iterator[Case]:
@@ -92,7 +89,7 @@ def certified(rng: Random, means: Means) -> Iterator[Case]:
     makers = [certificates.telling, certificates.quiet, certificates.differing, certificates.searched, certificates.mixed]
     makers += [_pieced, _pieced, _pieced, _listed, _small_machine, _small_machine, _small_machine]
     description = rng.choice(makers)(rng)
-    for _ in range(FEW):
+    for _ in range(means.few):
         certificate = rng.choices([_own, _written, _of_another, _of_an_older, _damaged, _hybrid], [30, 12, 10, 20, 20, 8])[0]
         text = certificate(rng, means, description)
         yield _with_guests(rng, description, text, rng.choice([0, 1, 3, 9]))
@@ -155,8 +152,9 @@ def _hybrid(_rng: Random, means: Means, description: tree.Description) -> bytes:
 
 def _runs_of(rng: Random, means: Means, description: tree.Description) -> Iterator[Case]:
     """Runs of guests with what `check` saves of their machine."""
-    for _ in range(FEW):
-        yield _with_guests(rng, description, checked(means, printed(description)), _steps(rng, STEPS))
+    certificate = checked(means, printed(description))
+    for _ in range(means.few):
+        yield _with_guests(rng, description, certificate, _steps(rng, STEPS))
 
 
 def _steps(rng: Random, usual: Sequence[int]) -> int:

@@ -10,10 +10,10 @@ from inputs.guests import checked
 from inputs.snippets import HEAD, many, one, sums
 from pgvmodel import image, reader
 from pgvmodel.body import mask
-from pgvmodel.words import OPTIONS
+from pgvmodel.words import RANGES
 
-MOST_CELLS = OPTIONS["grant"][-1]
-MOST_STEPS = OPTIONS["steps"][-1]
+MOST_CELLS = RANGES["grant"][-1]
+MOST_STEPS = RANGES["steps"][-1]
 GRANT = 8
 LINE = b"2: 02000002\n"
 WIDE_HEAD = b"machine { word 64; address 20; size %d; }" % MOST_CELLS

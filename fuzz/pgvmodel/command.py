@@ -1,7 +1,7 @@
 """What the program answers to its words: the order in which it refuses, and the texts."""
 
 from collections.abc import Callable, Sequence
-from functools import partial
+from functools import lru_cache, partial
 from typing import NamedTuple
 
 from pgvmodel import tree
@@ -9,6 +9,7 @@ from pgvmodel.certificate import Marks, Question, verified
 from pgvmodel.error_lines import NO_OUTPUT, ErrorLine, missing, unreadable, unwritable
 from pgvmodel.families import HYBRID, PURE, Family
 from pgvmodel.faults import Fault
+from pgvmodel.generator import Generated, generated
 from pgvmodel.image import read_image
 from pgvmodel.machine import MONITOR_CELLS, base_of, run_bare, run_guest, state_text
 from pgvmodel.printer import printed
@@ -26,6 +27,7 @@ USAGE = (
     "pgv replay DESC CERT\n"
     "pgv run DESC CERT IMAGE.. --grant G --steps N [--slice K]\n"
     "pgv print DESC\n"
+    "pgv gen NUMBER SIZE --cert FILE\n"
     "pgv migrate DESC CERT FILE\n"
     "pgv hcheck DESC --cert FILE [--budget K]\n"
 )
@@ -33,7 +35,7 @@ USAGE = (
 SEARCHES = {"check": PURE, "hcheck": HYBRID}
 """Commands that ask questions, and of which kinds."""
 
-SAVING = (*SEARCHES, "migrate")
+SAVING = (*SEARCHES, "migrate", "gen")
 """Commands that save a file."""
 
 DONE = ACCEPTED
@@ -45,6 +47,10 @@ Load = Callable[[str], bytes]
 
 CanSave = Callable[[str], bool]
 """Whether a file of a name can be written; the empty name is that of none."""
+
+
+MOST_KEPT = 16
+"""Descriptions that are kept; most are named by several lines, one behind the other."""
 
 
 class Answer(NamedTuple):
@@ -76,6 +82,18 @@ class Migration(NamedTuple):
     answer: Answer
 
 
+class Generation(NamedTuple):
+    """What `gen` is asked: its text rests on what the certificate says that it saves, which `judging_generated.py` judges."""
+
+    made: Generated
+    saved: str
+    is_full: bool = False
+
+
+Answered = Answer | Search | Migration | Generation
+"""An answer, or what one has to be that is not told to the last byte."""
+
+
 class _Refused(Exception):
     """A step refuses, with this answer."""
 
@@ -84,7 +102,7 @@ class _Refused(Exception):
         self.answer = answer_
 
 
-def answer(words: Sequence[str], load: Load, questions: Questions, can_save: CanSave = bool) -> Answer | Search | Migration:
+def answer(words: Sequence[str], load: Load, questions: Questions, can_save: CanSave = bool) -> Answered:
     """What the program is to answer. The first step that refuses says so.
 
     Raises NotModelled where the answer rests on the clauses of a question, and there is no program to ask for them.
@@ -98,8 +116,10 @@ def answer(words: Sequence[str], load: Load, questions: Questions, can_save: Can
         return refused.answer
 
 
-def on_full_output(answered: Answer) -> Answer:
+def on_full_output(answered: Answer | Generation) -> Answer | Generation:
     """The same where standard output takes nothing, which is seen where there is something to write."""
+    if isinstance(answered, Generation):
+        return answered._replace(is_full=True)
     return Answer(UNWRITABLE, b"", NO_OUTPUT) if answered.output else answered
 
 
@@ -116,8 +136,11 @@ def _loaded(load: Load, name: str) -> bytes:
         raise _Refused(Answer(UNREADABLE, b"", unreadable(name))) from None
 
 
-def _carried_out(asked: Request, load: Load, questions: Questions, can_save: CanSave) -> Answer | Search | Migration:
-    """The description, then what the command does with it."""
+def _carried_out(asked: Request, load: Load, questions: Questions, can_save: CanSave) -> Answered:
+    """The description, then what the command does with it. `gen` reads no file."""
+    if asked.command == "gen":
+        _ask_to_save(can_save, asked.saved)
+        return Generation(generated(asked.numbers["number"], asked.numbers["size"]), asked.saved)
     text = load(asked.files[0])
     description = _described(text)
     match asked.command:
@@ -136,10 +159,15 @@ def _carried_out(asked: Request, load: Load, questions: Questions, can_save: Can
 def _described(text: bytes) -> tree.Description:
     """The valid description of a text."""
     try:
-        description = read(text)
-        check(description)
+        return _valid(text)
     except Fault as fault:
         raise _Refused(_told(DESCRIPTION, f"description: {fault.line}\n")) from None
+
+
+@lru_cache(MOST_KEPT)
+def _valid(text: bytes) -> tree.Description:
+    description = read(text)
+    check(description)
     return description
 
 

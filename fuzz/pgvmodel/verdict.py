@@ -20,6 +20,13 @@ def verdict(description: tree.Description, marks: Marks, kinds: Sequence[str] = 
     return status, "".join(_line(name, row) for name, row in by_name.items()) + ending
 
 
+def concluded(description: tree.Description, marks: Marks) -> tuple[int, str]:
+    """The status, and what all marks come to in a line, without the states behind it."""
+    names = [instruction.name for instruction in description.instructions]
+    status, ending = _ending({name: {kind: marks[name, kind] for kind in KINDS} for name in names}, description.word)
+    return status, ending.partition("\n")[0]
+
+
 def _line(name: str, row: dict[str, Mark]) -> str:
     return " ".join([name, *(f"{kind} {_told(kind, mark.found)}" for kind, mark in row.items())]) + "\n"
 

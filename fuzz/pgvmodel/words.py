@@ -5,13 +5,18 @@ from collections.abc import Mapping, Sequence
 from dataclasses import dataclass, field
 from typing import NamedTuple
 
-OPTIONS = {
+from pgvmodel.tokens import NUMBERS
+
+RANGES = {
     "grant": range(2, 1_048_576),
     "steps": range(0, 1_000_001),
     "slice": range(1, 1_000_001),
     "budget": range(1, 1_000_001),
+    "number": range(NUMBERS),
+    "size": range(1, 61),
 }
-"""Options that have a number, and what each may be: cells, steps of a machine, turns of a guest, and steps of a search."""
+"""What each number may be: cells, steps of a machine, turns of a guest, and steps of a search, behind options of these names;
+and of `gen`, whose words they are, that from which all is made, and how many instructions."""
 
 BUDGET = 20_000
 """Steps of a search where `check` or `hcheck` is not told how many."""
@@ -27,7 +32,8 @@ MOST_IMAGES = 8
 class Form:
     """How many files a command names, the options that it wants, each once, and those that may be left out.
 
-    So many more files may follow as `more_files` says. Where `saves_last` is true the last file is one that is written.
+    So many more files may follow as `more_files` says. Where `saves_last` is true the last file is one that is written. Of a
+    command that names no files, words may be numbers: `numbers` has their names, in order.
     """
 
     files: int
@@ -35,10 +41,12 @@ class Form:
     others: Mapping[str, int] = field(default_factory=dict)
     saves_last: bool = False
     more_files: int = 0
+    numbers: tuple[str, ...] = ()
 
     def takes(self, count: int) -> bool:
-        """Whether so many files may stand."""
-        return self.files <= count <= self.files + self.more_files
+        """Whether so many words may stand beside the options."""
+        least = self.files + len(self.numbers)
+        return least <= count <= least + self.more_files
 
 
 FORMS = {
@@ -50,13 +58,14 @@ FORMS = {
     "hcheck": Form(1, ("cert",), {"budget": BUDGET}),
     "replay": Form(2),
     "migrate": Form(3, saves_last=True),
+    "gen": Form(0, ("cert",), numbers=("number", "size")),
 }
 """The commands. Files are a description, then an image or a certificate, and behind that of `run` an image for each guest.
 
 `cert` is the name of one that is written.
 """
 
-_DIGITS = re.compile(r"\+?0*([0-9]{1,9})")
+_DIGITS = re.compile(r"\+?0*([0-9]{1,20})")
 
 
 class Request(NamedTuple):
@@ -79,11 +88,13 @@ def request(words: Sequence[str]) -> Request | None:
     form = FORMS[words[0]]
     try:
         files, given = _sorted_out(words[1:], (*form.options, *form.others))
-        numbers = {name: _number(text, OPTIONS[name]) for name, text in given.items() if name in OPTIONS}
+        spelled = {**given, **dict(zip(form.numbers, files))}
+        numbers = {name: _number(text, RANGES[name]) for name, text in spelled.items() if name in RANGES}
     except _Refused:
         return None
     if not form.takes(len(files)) or any(name not in given for name in form.options):
         return None
+    files = files[len(form.numbers) :]
     saved = files[-1] if form.saves_last else given.get("cert")
     return Request(words[0], tuple(files), {**form.others, **numbers}, saved)
 
