@@ -10,8 +10,8 @@ ghost use Rattle.pg_symex.specs.There.{AreBits, AreRegs};
 
 use pg_cells::Touched;
 use pg_circuit::Circuit;
+use pg_machine::Machine;
 use pg_symex::{Regs, run_symbolic};
-use pg_valid::Machine;
 use pg_vec::Bits;
 use std::alloc::{AllocError, Global};
 

@@ -10,8 +10,8 @@ use crate::answers::found;
 use crate::watcher::{Silent, Watcher};
 use pg_ask::ask;
 use pg_cert::{Cert, Family, Finding, FindingList, instr_of, kind_of};
+use pg_machine::Machine;
 use pg_type::Kind;
-use pg_valid::Machine;
 use std::alloc::{AllocError, Global};
 
 /// What is found of the question of an instruction, of a number below `count()`, and a kind. Nothing else is kept of the

@@ -2,9 +2,10 @@
 
 use crate::stop::Stop;
 use pg_edge::{LoadFault, Shelf};
+use pg_machine::{Machine, check};
 use pg_read::{DESC_BYTES, DescFault, read_desc};
 use pg_report::{DescriptionLine, RefusalLine};
-use pg_valid::{Machine, TypeFault, check};
+use pg_valid::TypeFault;
 use std::alloc::Global;
 
 /// The machine that a file describes.

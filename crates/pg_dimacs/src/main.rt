@@ -27,7 +27,7 @@ use crate::text::push_formula;
 use pg_ask::{Asked, ask};
 use pg_edge::{Shelf, Sink};
 use pg_host::{DirShelf, StdSink};
-use pg_valid::Machine;
+use pg_machine::Machine;
 use std::alloc::{AllocError, Global};
 use std::env;
 use std::io::ErrorKind;

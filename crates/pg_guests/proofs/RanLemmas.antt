@@ -4,7 +4,7 @@ use Rattle.std.proofs.lemmas.List.{length-set, length-replicate, get_or-replicat
 use Rattle.std.proofs.lemmas.Option.{slice_get-get_or}
 use Rattle.pg_word.specs.Psw.{packed, power_on_psw}
 use Rattle.pg_ast.specs.declared.tree.Desc.{Desc}
-use Rattle.pg_valid.specs.declared.machine.Machine.{Machine}
+use Rattle.pg_machine.specs.declared.machine.Machine.{Machine}
 use Rattle.pg_valid.specs.Valid.{IsValid}
 use Rattle.pg_valid.proofs.ValidFacts.{IsShape-of_valid}
 use Rattle.pg_meaning.specs.States.{State}

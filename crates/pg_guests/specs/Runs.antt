@@ -2,7 +2,7 @@
 use Rattle.std.specs.Prelude.{◌≡◌, ℕ, ◌+◌, ◌-◌, ◌*◌, ◌<◌, ◌≤◌, ◌^◌, List, [], ◌∷◌, All, length, map, take, slice_get, slice_index, None, Some}
 use Rattle.pg_ast.specs.declared.tree.Desc.{Desc}
 use Rattle.pg_word.specs.Psw.{packed, power_on_psw}
-use Rattle.pg_valid.specs.declared.machine.Machine.{Machine}
+use Rattle.pg_machine.specs.declared.machine.Machine.{Machine}
 use Rattle.pg_meaning.specs.States.{State}
 use Rattle.pg_meaning.specs.Steps.{power_on, bare}
 use Rattle.pg_hw.specs.declared.counts.Counts.{Counts}

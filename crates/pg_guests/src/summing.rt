@@ -12,8 +12,8 @@ ghost use Rattle.pg_guests.specs.Begun.{summary_of};
 use crate::running::Ran;
 use pg_edge::{Failed, Sink};
 use pg_hw::Hardware;
+use pg_machine::Machine;
 use pg_report::{put_steps, put_summary};
-use pg_valid::Machine;
 
 /// Puts the summary of guests that ran: the counts of turns, and a line for each guest in order, with its number, its program
 /// status word and the sum of its cells. It takes no memory, and the time grows with the guests' cells.

@@ -13,8 +13,8 @@ ghost use Rattle.pg_guests.specs.Begun.{told_of};
 use crate::running::Ran;
 use pg_edge::{Failed, Sink};
 use pg_hw::Hardware;
+use pg_machine::Machine;
 use pg_report::{put_guest, put_state, put_steps};
-use pg_valid::Machine;
 
 /// Puts the text of guests that ran: each guest's number and its state, in order, and the counts of turns. It takes no memory,
 /// and the time grows with the guests' cells.

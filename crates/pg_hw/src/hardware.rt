@@ -10,7 +10,7 @@
 //! refused.
 
 use super::counts::Counts;
-use pg_valid::Machine;
+use pg_machine::Machine;
 use pg_word::Psw;
 use std::alloc::AllocError;
 

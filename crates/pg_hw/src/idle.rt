@@ -8,10 +8,11 @@ ghost use Rattle.pg_hw.specs.Idling.{cause_where};
 
 use super::memory::{Advanced, Memory, Works};
 use super::parts::trap;
-use pg_valid::Machine;
+use pg_machine::Machine;
 use pg_word::{Cause, Psw, window_len};
 
 /// The steps of machines without instructions.
+#[derive(Drop)]
 pub struct Idling;
 
 /// A hardware in memory that serves the machines without instructions.
@@ -22,7 +23,11 @@ impl Works for Idling {
 
     ghost does = { λ d. d.instrs ≡ [] };
 
-    fn advance(cells: &mut [u64], psw: Psw, m: &Machine) -> Advanced {
+    fn ready() -> Self {
+        Idling
+    }
+
+    fn advance(&mut self, cells: &mut [u64], psw: Psw, m: &Machine) -> Advanced {
         let usable = window_len(psw, cells.len() as u32);
         let cause = cause_of(psw.p, usable);
         Advanced {

@@ -1,8 +1,9 @@
 //! A hardware in memory, whatever machines it runs.
 //!
 //! A `Memory` is a storage that is a vector, a program status word, and counts, which are those at the bottom. What a step
-//! makes of storage and program status word is not its own: it has that from `Works`, a trait of one function. So `Memory`
-//! is proved to be a `Hardware` once, for every way to do a step, and each way is proved to do *Step*.
+//! makes of storage and program status word is not its own: it has that from `Works`, which keeps the room that it takes
+//! for a step. So `Memory` is proved to be a `Hardware` once, for every way to do a step, and each way is proved to do
+//! *Step*.
 //!
 //! A burst is steps one after another, until one traps. Nothing grows with the number of steps.
 
@@ -17,10 +18,9 @@ ghost use Rattle.pg_hw.specs.Bursts.{traps, is_user, untrapped_at};
 use super::counts::Counts;
 use super::hardware::Hardware;
 use super::parts::raised;
-use pg_valid::Machine;
+use pg_machine::Machine;
 use pg_word::{Mode, Psw};
 use std::alloc::{AllocError, Global};
-use std::marker::PhantomData;
 
 /// What a step leaves beside its stores.
 #[derive(Clone, Copy)]
@@ -31,7 +31,7 @@ pub struct Advanced {
     pub trapped: bool,
 }
 
-/// A way to do steps.
+/// A way to do steps, with the room that it takes for them.
 pub trait Works {
     ghost use Rattle.std.specs.Prelude.{◌≡◌};
     ghost use Rattle.pg_ast.specs.declared.tree.Desc.{Desc};
@@ -43,8 +43,11 @@ pub trait Works {
     /// The machines whose steps it does.
     ghost does: { Desc → Type 0 };
 
+    /// Ready for a first step.
+    fn ready() -> Self;
+
     /// One step of a machine whose storage is `cells`.
-    fn advance(cells: &mut [u64], psw: Psw, m: &Machine) -> Advanced
+    fn advance(&mut self, cells: &mut [u64], psw: Psw, m: &Machine) -> Advanced
         requires known { does m.now.desc }
         requires state { IsState m.now.desc (at_psw cells.old psw) }
         ensures state { at_psw cells.new result.psw ≡ stepped m.now.desc (at_psw cells.old psw) }
@@ -58,7 +61,7 @@ pub struct Memory<W: Works> {
     cells: Vec<u64>,
     psw: Psw,
     counts: Counts,
-    works: PhantomData<W>,
+    works: W,
     ghost addressable: { vec_len cells < 2 ^ 32 },
 }
 
@@ -74,7 +77,7 @@ impl<W: Works> Memory<W> {
             cells: Vec::new(alloc),
             psw: Psw::power_on(0),
             counts: Counts::none(),
-            works: PhantomData,
+            works: W::ready(),
         }
     }
 
@@ -87,7 +90,7 @@ impl<W: Works> Memory<W> {
         ensures counts { self.new.counts ≡ after_steps self.old.counts 1 (untrapped_at m.now.desc (at_psw self.old.cells.items self.old.psw)) }
     {
         let mode = self.psw.mode;
-        let advanced = W::advance(&mut self.cells, self.psw, m);
+        let advanced = self.works.advance(&mut self.cells, self.psw, m);
         self.psw = advanced.psw;
         self.counts.steps = raised(self.counts.steps);
         if is_user(mode) && !advanced.trapped {

@@ -12,7 +12,7 @@ ghost use Rattle.pg_hw.specs.Serving.{SameServed, IsServedWord, IsServedPsw};
 ghost use Rattle.pg_hw.specs.Running.{after_pokes, Ran, Poked};
 
 use crate::hardware::Hardware;
-use pg_valid::Machine;
+use pg_machine::Machine;
 use pg_word::Psw;
 
 /// Switches a hardware on with an image of its size: every cell is poked, and the program status word is loaded.

@@ -1,7 +1,5 @@
 pub mod WriteLemmas
-pub mod LetLemmas
-pub mod NumberLemmas
-pub mod Typing
-pub mod RunLemmas
-pub mod MayLemmas
+pub mod CodeLemmas
+pub mod FrameLemmas
+pub mod WayLemmas
 pub mod FetchLemmas

@@ -1,6 +1,4 @@
-pub mod Entries
-pub mod EntryView
 pub mod Writes
-pub mod Numbers
-pub mod Runs
+pub mod Frames
+pub mod Courses
 pub mod Outcomes

@@ -1,7 +1,6 @@
 //! What an instruction leaves to be done.
 
-use arrayvec::ArrayVec;
-use pg_valid::MOST_ACCESSES;
+use crate::stores::Stores;
 use pg_word::Psw;
 
 /// A store that is to be made: a cell at an address of the window.
@@ -15,11 +14,11 @@ pub struct Write {
 /// word that follows.
 #[derive(Debug, Drop)]
 pub struct Effect {
-    pub writes: ArrayVec<Write, MOST_ACCESSES>,
+    pub writes: Stores,
     pub psw: Psw,
 }
 
-/// How an instruction ends.
+/// How an instruction ends, with what it leaves.
 #[derive(Debug, Drop)]
 pub enum Outcome {
     /// By an access outside the window, of the fetch too.
@@ -29,4 +28,17 @@ pub enum Outcome {
     /// No pattern matches the word that was fetched.
     NoPattern,
     Done(Effect),
+}
+
+/// How an instruction ends, where what it leaves lies in a frame.
+#[derive(Clone, Copy, Debug, PartialEq, Eq)]
+pub enum Ended {
+    /// By an access outside the window, of the fetch too.
+    MemTrap,
+    /// By `trap;`.
+    Trap,
+    /// No pattern matches the word that was fetched.
+    NoPattern,
+    /// It is done: the frame has its stores and the program status word that follows.
+    Done,
 }

@@ -1,28 +1,32 @@
 //! Executes an instruction over the cells that it sees.
 //!
-//! An instruction sees a window of a storage, read by address (`cells`). It is fetched at P and executed as its body
-//! says (`fetch`), and nothing is written into the window meanwhile: stores are kept in order in a buffer, which
-//! later reads of the same body look through first (`overlay`), and whoever compares what effects leave. What comes out
-//! is a trap of either kind, no pattern, or an effect: the stores to be made and the program status word that follows
-//! (`effect`). So a body that traps after a store has changed nothing, and whoever holds the cells makes the stores where it
-//! pleases.
+//! An instruction sees a window of a storage, read by address (`cells`). It is fetched at P, found by its pattern, and its code
+//! is run (`fetch`). Code is a list of operations, which `pg_code` makes once of each body; it runs over a frame (`frame`):
+//! slots for numbers, the stores so far (`stores`), and the program status word that will be left. `operations` goes through
+//! them, one after another, and ends where the definitions of code end (`course` has how it may end); what it computes of
+//! single numbers stands in `numbers`.
 //!
-//! Expressions have numbers that carry their width (`values`); lets lie in another buffer (`lets`). The buffers have
-//! room for what the limits of a description allow, so neither is ever full, and nothing is allocated.
+//! Nothing is written into the window meanwhile: stores are kept in the frame, in order, and a load looks through them first
+//! where there are any (`overlay`), and so does whoever compares what effects leave. What comes out is a trap of either kind,
+//! no pattern, or an effect: the stores to be made and the program status word that follows (`effect`). So a body that traps
+//! after a store has changed nothing, and whoever holds the cells makes the stores where it pleases.
+//!
+//! A frame is made once and begun anew for each instruction. Nothing is allocated, and no operation copies more than a number.
 #![tactic(auto)]
 
 mod cells;
-mod deeds;
+mod course;
 mod effect;
-mod entry;
 mod fetch;
-mod lets;
+mod frame;
 mod numbers;
+mod operations;
 mod overlay;
-mod run;
-mod values;
+mod stores;
 
 pub use cells::Cells;
-pub use effect::{Effect, Outcome, Write};
-pub use fetch::{at, execute};
+pub use effect::{Effect, Ended, Outcome, Write};
+pub use fetch::{at, execute, step_in};
+pub use frame::Frame;
 pub use overlay::Overlay;
+pub use stores::Stores;

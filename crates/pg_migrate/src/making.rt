@@ -11,9 +11,9 @@ ghost use Rattle.pg_migrate.specs.Made.{steps_of, IsMade};
 
 use pg_ask::ask;
 use pg_cert::{Finding, Mark, StepList};
+use pg_machine::Machine;
 use pg_proof::{Act, ActList, trim};
 use pg_type::Kind;
-use pg_valid::Machine;
 use pg_word::{CellList, Sparse};
 use std::alloc::{AllocError, Global};
 

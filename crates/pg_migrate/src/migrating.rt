@@ -13,7 +13,7 @@ ghost use Rattle.pg_migrate.specs.Migrated.{IsMigrated, report_told};
 use crate::logs::{LogList, logs_of};
 use crate::making::finding;
 use pg_cert::{Cert, Family, FindingList, Mark, Report, instr_of, kind_of};
-use pg_valid::Machine;
+use pg_machine::Machine;
 use pg_verify::{VerifyFault, verify};
 use std::alloc::{AllocError, Global};
 

@@ -8,7 +8,7 @@ use Rattle.pg_word.specs.declared.psw.Psw.{Psw}
 use Rattle.pg_word.specs.Psw.{IsPsw, packed, power_on_psw}
 use Rattle.pg_word.specs.Shape.{bits_above}
 use Rattle.pg_ast.specs.declared.tree.Desc.{Desc}
-use Rattle.pg_valid.specs.declared.machine.Machine.{Machine}
+use Rattle.pg_machine.specs.declared.machine.Machine.{Machine}
 use Rattle.pg_meaning.specs.States.{State, IsState, shape_of}
 use Rattle.pg_meaning.specs.Steps.{power_on}
 use Rattle.pg_valid.specs.Valid.{IsValid}

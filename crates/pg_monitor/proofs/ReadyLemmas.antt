@@ -11,7 +11,7 @@ use Rattle.pg_ast.specs.declared.tree.Desc.{Desc}
 use Rattle.pg_meaning.specs.States.{State, IsState}
 use Rattle.pg_meaning.specs.Steps.{power_on}
 use Rattle.pg_valid.specs.Valid.{IsValid}
-use Rattle.pg_valid.specs.declared.machine.Machine.{Machine}
+use Rattle.pg_machine.specs.declared.machine.Machine.{Machine}
 use Rattle.pg_valid.proofs.StepSound.{power_on-state}
 use Rattle.pg_hw.specs.Serving.{blank}
 use Rattle.pg_routine.specs.Granting.{with_grant}

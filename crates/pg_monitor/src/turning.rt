@@ -20,8 +20,8 @@ ghost use Rattle.pg_monitor.specs.Current.{Holds, Runs, Interpreted, Went};
 
 use crate::guest::Guest;
 use pg_hw::Hardware;
+use pg_machine::Machine;
 use pg_routine::{compose, emulate_told};
-use pg_valid::Machine;
 use pg_word::{Mode, unpack};
 
 /// Enters a guest: loads the program status word that is composed of its virtual one.

@@ -31,7 +31,7 @@ HasOtherControl old psw = (psw.mode ≢ old.mode) ⊎ (psw.l ≢ old.l) ⊎ (psw
 -- the same window and the same P
 pub record SameEffect (cells : List ℕ) (x y : Effect) : Type 0 where
   pub same_p : x.psw.p ≡ y.psw.p
-  pub same_window : written x.writes.items cells ≡ written y.writes.items cells
+  pub same_window : written x.writes cells ≡ written y.writes cells
 
 -- the same mode, P and window
 pub record AreAlike (s t : State) : Type 0 where

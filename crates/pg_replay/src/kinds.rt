@@ -12,8 +12,8 @@ use crate::observe::{
 };
 use crate::same::{is_in_user, is_same, same_mode, same_size, same_window};
 use pg_ast::Instr;
+use pg_machine::Machine;
 use pg_type::Kind;
-use pg_valid::Machine;
 use pg_word::{Mode, Sparse};
 
 /// Whether two states show a kind of an instruction, of a number below `count()`: exactly where they do, by the definition

@@ -14,8 +14,8 @@ use crate::state::is_state;
 use crate::window::window_of;
 use pg_ast::Instr;
 use pg_interp::{Cells, Effect, Outcome, Overlay, Write, execute};
+use pg_machine::Machine;
 use pg_meaning::matches;
-use pg_valid::Machine;
 use pg_word::{Psw, Sparse};
 
 /// Whether P is usable at a state, and the word there matches the instruction's pattern.

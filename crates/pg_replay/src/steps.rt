@@ -11,7 +11,7 @@ ghost use Rattle.pg_replay.specs.Storing.{cause_of};
 use crate::stored::{after_stores, stored};
 use crate::window::window_of;
 use pg_interp::{Effect, Outcome, execute};
-use pg_valid::Machine;
+use pg_machine::Machine;
 use pg_word::{Cause, Sparse, pack_trap, unpack};
 use std::alloc::{AllocError, Global};
 
@@ -49,9 +49,9 @@ fn trap(
 
 /// A step that is done. The error is want of memory.
 fn done(alloc: Global, s: &Sparse, effect: &Effect) -> Result<(Option<Cause>, Sparse), AllocError>
-    requires { All (λ w. w.at < length (window (state_of s.now))) effect.now.writes.items }
+    requires { All (λ w. w.at < length (window (state_of s.now))) effect.now.writes }
     ensures cause { IfOk result (λ r. r.0 ≡ None) }
-    ensures state { IfOk result (λ r. state_of r.1 ≡ record { cells = put_back (state_of s.now) (written effect.now.writes.items (window (state_of s.now))); psw = effect.now.psw }) }
+    ensures state { IfOk result (λ r. state_of r.1 ≡ record { cells = put_back (state_of s.now) (written effect.now.writes (window (state_of s.now))); psw = effect.now.psw }) }
 {
     let mut state = after_stores(alloc, s, effect.writes.as_slice())?;
     state.psw = effect.psw;

@@ -13,7 +13,7 @@ ghost use Rattle.std.specs.Option.{option_map};
 ghost use Rattle.pg_rig.specs.Spying.{extended};
 
 use pg_hw::{Counts, Hardware};
-use pg_valid::Machine;
+use pg_machine::Machine;
 use pg_word::Psw;
 use std::alloc::AllocError;
 

@@ -13,7 +13,7 @@ use Rattle.pg_interp.specs.declared.effect.Effect.{Effect}
 use Rattle.pg_interp.specs.declared.effect.Outcome.{Outcome}
 use Rattle.pg_interp.specs.declared.effect.Outcome.TheVariants.{Done as Effects}
 use Rattle.pg_interp.specs.Writes.{written}
-use Rattle.pg_interp.specs.Outcomes.{ending_as, IsOutcome}
+use Rattle.pg_interp.specs.Outcomes.{ending_as, IsOutcome, OnEffect, IsEffect}
 use Rattle.pg_interp.proofs.WriteLemmas.{written-length}
 use Rattle.pg_routine.specs.Granting.{guest_at, with_grant}
 use Rattle.pg_routine.proofs.GrantLaws.{guest-length, guest-window, with_grant-put_back}
@@ -51,14 +51,21 @@ traps-of d cells base size psw from len o e within from_is len_is h is =
 -- the storage after the stores of an instruction that is done
 pub step-done : (d : Desc) (cells : List ℕ) (base size : ℕ) (psw : Psw) (from len : ℕ) (o : Outcome) (effect : Effect) (ws : List Write) →
     base + size ≤ length cells → from ≡ base + min psw.l size → len ≡ window_len_of psw size →
-    IsOutcome d.word (take len (drop from cells)) (ending d (take len (drop from cells)) psw) o → o ≡ Effects effect → ws ≡ effect.writes.items →
+    IsOutcome d.word (take len (drop from cells)) (ending d (take len (drop from cells)) psw) o → o ≡ Effects effect → ws ≡ effect.writes →
     with_grant cells from (written ws (take len (drop from cells))) ≡ with_grant cells base (step d (guest_at cells base size psw)).cells
 step-done d cells base size psw from len o effect ws within from_is len_is h is ws_is =
     let w = take len (drop from cells) in
-    let after = written effect.writes.items w in
+    let after = written effect.writes w in
     let whole : length after ≡ window_len_of psw size =
-    written-length effect.writes.items w ∙ guest-length cells from len (omega (arith, from_is, len_is, within)) ∙ len_is in
+    written-length effect.writes w ∙ guest-length cells from len (omega (arith, from_is, len_is, within)) ∙ len_is in
     ap (λ xs. with_grant cells from (written xs w)) ws_is ∙ ap (λ n. with_grant cells n after) from_is
     ∙ sym (with_grant-put_back cells after base size psw within whole)
     ∙ ap (λ t. with_grant cells base t.cells)
     (step-of d cells base size psw from len o (Done (record { window = after; psw = effect.psw })) within from_is len_is h (ap (ending_as w) is))
+
+-- an instruction that is done makes no more stores than it has accesses
+pub few-writes : (bits : ℕ) (window : List ℕ) (ending : Ending) (o : Outcome) (effect : Effect) (ws : List Write) → IsOutcome bits window ending o → o ≡ Effects effect → ws ≡ effect.writes → length ws ≤ 8
+few-writes bits window ending o effect ws h is e =
+    let P : Outcome → Type 0 = OnEffect bits window in
+    let effects : IsEffect bits window effect = subst P is h.effect in
+    omega (arith, ap length e, effects.most)

@@ -12,7 +12,7 @@ ghost use Rattle.pg_routine.specs.Granting.{guest_at, GrantPoked};
 use crate::window::{Span, Window, span_of};
 use pg_hw::Hardware;
 use pg_interp::{Outcome, Write, execute};
-use pg_valid::Machine;
+use pg_machine::Machine;
 use pg_word::{Cause, Psw, pack_trap, unpack};
 
 /// One step of a guest's machine.
@@ -57,7 +57,7 @@ pub fn emulate_told<H: Hardware>(
         Outcome::Trap => trap(m, hw, base, size, psw, Cause::Trap),
         Outcome::NoPattern => trap(m, hw, base, size, psw, Cause::NoPattern),
         Outcome::Done(effect) => {
-            store(hw, span, &effect.writes);
+            store(hw, span, effect.writes.as_slice());
             *psw = effect.psw;
             false
         }

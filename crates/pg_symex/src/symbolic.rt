@@ -27,8 +27,8 @@ use crate::stmts::in_order;
 use pg_ast::Instr;
 use pg_cells::{Touched, Write};
 use pg_circuit::{Circuit, Gate};
+use pg_machine::Machine;
 use pg_meaning::Decoder;
-use pg_valid::Machine;
 use pg_vec::{Bits, ops};
 use std::alloc::{AllocError, Global};
 

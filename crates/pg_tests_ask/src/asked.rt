@@ -5,11 +5,11 @@ ghost use Rattle.pg_cnf.specs.Truth.{clauses_true};
 
 use pg_ask::{Asked, ask, states_of};
 use pg_cnf::Cnf;
+use pg_machine::Machine;
 use pg_read::read_desc;
 use pg_replay::replay;
 use pg_sat::{Answer, solve};
 use pg_type::{Kind, check};
-use pg_valid::Machine;
 use pg_word::Sparse;
 use std::alloc::{AllocError, Global};
 use std::process::Abort;

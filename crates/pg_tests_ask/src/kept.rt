@@ -4,8 +4,8 @@ ghost use Rattle.std.specs.Prelude.{◌<◌, length};
 
 use crate::asked::{KINDS, machine, question};
 use pg_cnf::Cnf;
+use pg_machine::Machine;
 use pg_type::Kind;
-use pg_valid::Machine;
 use std::alloc::{AllocError, Global};
 use std::test::Fail;
 

@@ -6,8 +6,8 @@
 use crate::gates::{GateRun, gate_run};
 use crate::interpreted::{State, Storage, due};
 use crate::told::told;
+use pg_machine::{Machine, check};
 use pg_read::read_desc;
-use pg_valid::{Machine, check};
 use pg_word::Mode;
 use std::alloc::Global;
 use std::process::Abort;

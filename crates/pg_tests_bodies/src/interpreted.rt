@@ -4,7 +4,7 @@ ghost use Rattle.std.specs.Prelude.{◌≡◌, ◌<◌, OnSome, IfSome};
 ghost use Rattle.pg_word.specs.Psw.{IsPsw};
 
 use pg_interp::{Cells, Effect, Outcome, execute};
-use pg_valid::Machine;
+use pg_machine::Machine;
 use pg_word::{Mode, Psw};
 
 /// The first words of a storage, which has 0 at all addresses above.

@@ -5,8 +5,8 @@ use crate::setting::{
     told_of,
 };
 use pg_cert::Verdict;
+use pg_machine::Machine;
 use pg_type::Kind;
-use pg_valid::Machine;
 use pg_verify::{StepCause, Verifier, VerifyFault};
 use std::alloc::Global;
 use std::test::Fail;

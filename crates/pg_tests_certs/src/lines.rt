@@ -2,7 +2,7 @@
 
 use crate::setting::{LINES, NONE, machine, told};
 use pg_cert::{Cert, Family, FindingList, LineFault, Verdict, parse_line, write};
-use pg_valid::Machine;
+use pg_machine::Machine;
 use std::alloc::Global;
 use std::test::Fail;
 

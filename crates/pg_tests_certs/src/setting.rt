@@ -1,9 +1,9 @@
 //! The certificate, its texts, and the calls.
 
 use pg_cert::Verdict;
+use pg_machine::Machine;
 use pg_read::read_desc;
 use pg_type::check;
-use pg_valid::Machine;
 use pg_verify::{Verifier, VerifyFault, verify};
 use std::alloc::{AllocError, Global};
 use std::process::Abort;

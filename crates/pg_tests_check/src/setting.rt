@@ -1,10 +1,10 @@
 //! What the commands over certificates are run on.
 
 use pg_edge::{MemShelf, MemSink};
+use pg_machine::check as valid;
 use pg_read::read_desc;
 use pg_rig::Rig;
 use pg_tool::{Status, tool};
-use pg_valid::check as valid;
 use pg_verify::Verifier;
 use std::alloc::{AllocError, Global};
 use std::test::Fail;

@@ -4,7 +4,7 @@ ghost use Rattle.std.specs.Prelude.{◌≡◌, [], IfOk};
 
 use pg_ast::Desc;
 use pg_hw::{Counts, Hardware};
-use pg_valid::{Machine, check};
+use pg_machine::{Machine, check};
 use pg_word::{Mode, Psw};
 use sqlite_items::Items;
 use std::alloc::Global;

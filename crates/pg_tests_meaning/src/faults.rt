@@ -1,7 +1,8 @@
 //! Which descriptions are valid, and the faults of others. A text is a beginning, a part so many times, and an end.
 
+use pg_machine::check;
 use pg_read::read_desc;
-use pg_valid::{TypeFault, check};
+use pg_valid::TypeFault;
 use sqlite_items::Items;
 use std::alloc::Global;
 use std::test::Fail;

@@ -5,7 +5,7 @@ ghost use Rattle.pg_word.specs.Psw.{IsPsw};
 
 use crate::texts::{M0, machine};
 use pg_interp::{Cells, Outcome, at, execute};
-use pg_valid::Machine;
+use pg_machine::Machine;
 use pg_word::{Mode, Psw};
 use std::alloc::Global;
 use std::process::Abort;

@@ -1,7 +1,7 @@
 //! Descriptions of texts, for the tests.
 
+use pg_machine::{Machine, check};
 use pg_read::read_desc;
-use pg_valid::{Machine, check};
 use std::alloc::Global;
 use std::test::Fail;
 

@@ -12,7 +12,7 @@ use Rattle.pg_cert.specs.Verdicts.{verdict_of}
 use Rattle.pg_command.specs.declared.run.RunWords.{RunWords}
 use Rattle.pg_edge.specs.Shelf.{Files}
 use Rattle.pg_type.specs.Accepting.{IsAccepted}
-use Rattle.pg_valid.specs.declared.machine.Machine.{Machine}
+use Rattle.pg_machine.specs.declared.machine.Machine.{Machine}
 use Rattle.pg_valid.specs.Valid.{IsValid}
 use Rattle.pg_tool.specs.declared.refusal.Refusal.{Refusal}
 use Rattle.pg_tool.specs.declared.refusal.Stop.{Stop}

@@ -22,8 +22,8 @@ use pg_classify::{Watcher, classify_watched};
 use pg_command::CheckWords;
 use pg_edge::{Shelf, Sink};
 use pg_hw::Hardware;
+use pg_machine::Machine;
 use pg_report::put_verdict;
-use pg_valid::Machine;
 use plan::CheckPlan;
 use std::alloc::{AllocError, Global};
 

@@ -8,9 +8,10 @@ ghost use Rattle.std.specs.Prelude.{◌≡◌, ◌≤◌, length, IfOk, IfErr, I
 ghost use Rattle.pg_read.specs.Answer.{most_desc_bytes};
 ghost use Rattle.pg_tool.specs.Descriptions.{TextDue, told_of_reading, told_of_type};
 
+use pg_machine::{Machine, check};
 use pg_read::{DescFault, read_desc};
 use pg_report::DescriptionLine;
-use pg_valid::{Machine, TypeFault, check};
+use pg_valid::TypeFault;
 use std::alloc::Global;
 
 /// The machine that the bytes describe, or why they describe none; `None` where memory was refused.

@@ -34,8 +34,9 @@ use pg_edge::{Failed, Shelf, Sink};
 use pg_generate::generate;
 use pg_guests::{Ran, put_summaries, run_guests};
 use pg_hw::Hardware;
+use pg_machine::check;
 use pg_report::{put_instructions, put_outcome};
-use pg_valid::{TypeFault, check};
+use pg_valid::TypeFault;
 use plan::GenPlan;
 use std::alloc::{AllocError, Global};
 

@@ -8,7 +8,7 @@ ghost use Rattle.std.specs.Prelude.{◌≡◌};
 ghost use Rattle.pg_type.specs.Accepting.{IsAccepted, IsHybridAccepted};
 ghost use Rattle.pg_type.specs.PaperWords.{HoldPaperWords};
 
-use pg_valid::Machine;
+use pg_machine::Machine;
 
 /// A machine of which each instruction is privileged or not sensitive.
 #[derive(Clone, Copy)]

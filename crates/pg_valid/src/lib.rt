@@ -1,11 +1,11 @@
 //! Which descriptions are valid, and what a valid one is sure of.
 //!
 //! `specs/Valid.antt` says which: seven classes, each a condition on the description alone, and the fault of the first
-//! class that has one. `check` tests a description and makes a `Machine` of it, which is valid by its type; a
-//! description that is not valid comes back with that fault, a `TypeFault`.
+//! class that has one. `test_all` tests a description; of one that is not valid it tells that fault, a `TypeFault`. A valid
+//! one is made into a `Machine` above, in `pg_machine`.
 //!
 //! The seven classes are tested in `classes`, in their order: the head there; how much is held in `limits`; names given
-//! twice in `twice` and, for instructions, with a `table` that the machine keeps; patterns of the wrong form in
+//! twice in `twice` and, for instructions, with a `table` that a machine keeps; patterns of the wrong form in
 //! `well_formed`; patterns that match one word both in `overlaps`; names that mean nothing in `scopes`; and widths in
 //! `widths`. Their functions are the definitions one for one. `names` and `let_widths` are the lists that the walks over
 //! bodies carry.
@@ -21,7 +21,6 @@ mod fault;
 pub mod laws;
 mod let_widths;
 mod limits;
-mod machine;
 mod names;
 mod overlaps;
 mod scopes;
@@ -31,7 +30,7 @@ mod twice;
 mod well_formed;
 mod widths;
 
-pub use check_desc::check;
+pub use check_desc::test_all;
 pub use fault::{Limit, TypeFault};
 pub use limits::{MOST_ACCESSES, MOST_EXPRESSIONS, MOST_INSTRUCTIONS, MOST_LETS, MOST_STATEMENTS};
-pub use machine::Machine;
+pub use table::NameTable;

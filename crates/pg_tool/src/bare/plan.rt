@@ -3,7 +3,7 @@
 ghost use Rattle.pg_tool.specs.CanRuns.{CanRun};
 
 use pg_image::Image;
-use pg_valid::Machine;
+use pg_machine::Machine;
 
 /// A run of a bare machine.
 #[derive(Drop)]

@@ -1,7 +1,7 @@
 //! A certificate that was found, before any of it is saved or put.
 
 use pg_cert::Report;
-use pg_valid::Machine;
+use pg_machine::Machine;
 
 /// A machine, the text of a certificate of it, and what is kept of that.
 #[derive(Drop)]

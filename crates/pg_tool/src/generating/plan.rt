@@ -7,7 +7,7 @@ ghost use Rattle.pg_tool.specs.Generating.{gen_slice, gen_steps};
 
 use pg_cert::Report;
 use pg_image::Image;
-use pg_valid::Machine;
+use pg_machine::Machine;
 use sqlite_items::Items;
 
 /// A machine and images of a number, the text of a certificate of the machine, and what is kept of that.

@@ -1,7 +1,7 @@
 //! A certificate that was read, before anything of it is put.
 
 use pg_cert::Report;
-use pg_valid::Machine;
+use pg_machine::Machine;
 
 /// A machine, and what is kept of a certificate of it.
 #[derive(Drop)]

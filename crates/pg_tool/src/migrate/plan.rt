@@ -1,7 +1,7 @@
 //! A certificate that was made anew, before any of it is saved or put.
 
 use pg_cert::Report;
-use pg_valid::Machine;
+use pg_machine::Machine;
 
 /// A machine, what is kept of a certificate of it, and the text of the one that was made of that.
 #[derive(Drop)]

@@ -3,7 +3,7 @@
 ghost use Rattle.std.specs.Prelude.{◌≡◌};
 ghost use Rattle.pg_print.specs.Layout.{printed};
 
-use pg_valid::Machine;
+use pg_machine::Machine;
 
 /// The text of a description, and the description as a machine.
 #[derive(Drop)]

@@ -8,7 +8,7 @@ ghost use Rattle.pg_guests.specs.Runs.{CanRun, run_of};
 
 use pg_cert::Report;
 use pg_image::Image;
-use pg_valid::Machine;
+use pg_machine::Machine;
 use sqlite_items::Items;
 
 /// A run of guests under a monitor, and the certificate by which it may be done.

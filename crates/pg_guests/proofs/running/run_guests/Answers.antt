@@ -1,5 +1,5 @@
 use Rattle.std.proofs.Common.{◌∙◌, ap, arith}
-use Rattle.pg_valid.specs.declared.machine.Machine.{Machine}
+use Rattle.pg_machine.specs.declared.machine.Machine.{Machine}
 use Rattle.pg_hw.specs.declared.counts.Counts.{Counts}
 use Rattle.pg_hw.proofs.ServingLaws.{SameServed-then}
 use Rattle.pg_guests.proofs.RanLemmas.{run-states, run-stands, run-untrapped, run-left, set-up-same}

@@ -3,7 +3,7 @@ use Rattle.pg_meaning.specs.States.{State}
 use Rattle.pg_meaning.specs.Steps.{ByMemTrap, ByTrap, ByNoPattern, Done}
 use Rattle.pg_interp.specs.Writes.{written}
 use Rattle.pg_interp.specs.Outcomes.{ending_as}
-use Rattle.pg_routine.proofs.StepLemmas.{seen-words, step-of, traps-of, step-done}
+use Rattle.pg_routine.proofs.StepLemmas.{few-writes, seen-words, step-of, traps-of, step-done}
 use Rattle.pg_routine.proofs.StoreLemmas.{PokedWithin-more, GrantPoked-as}
 use Rattle.pg_routine.proofs.routine.emulate_told.Goals as goal
 
@@ -72,8 +72,8 @@ returns-in-Done-clause-grant g c =
     record {
       state = c.store.ensures.grant.state
           ∙ ap (λ cs. let u : State = record old { cells = cs } in u)
-          (step-done c.args.m.now.desc _ _ _ _ _ _ c.execute-outcome.result c.in-Done.effect _ c.requires.within c.span_of-span.ensures.from c.span_of-span.ensures.len c.execute-outcome.ensures c.in-Done.is c.deref.ensures.0);
-      tally = PokedWithin-more _ 8 _ _ c.deref.ensures.1 c.store.ensures.grant.tally;
+          (step-done c.args.m.now.desc _ _ _ _ _ _ c.execute-outcome.result c.in-Done.effect _ c.requires.within c.span_of-span.ensures.from c.span_of-span.ensures.len c.execute-outcome.ensures c.in-Done.is c.as_slice.ensures);
+      tally = PokedWithin-more _ 8 _ _ (few-writes _ _ _ c.execute-outcome.result c.in-Done.effect c.as_slice.result.now c.execute-outcome.ensures c.in-Done.is c.as_slice.ensures) c.store.ensures.grant.tally;
       bottom = c.store.ensures.grant.bottom;
       room = c.store.ensures.grant.room;
     }
@@ -81,12 +81,12 @@ returns-in-Done-clause-grant g c =
 pub returns-in-Done-clause-psw : goal.returns-in-Done-clause-psw
 returns-in-Done-clause-psw g c =
     let w = take c.span_of-span.result.len (drop c.span_of-span.result.from (g.H.Hardware.machinery c.args.hw.now).state.cells) in
-    let e = Done (record { window = written c.in-Done.effect.writes.items w; psw = c.in-Done.effect.psw }) in
+    let e = Done (record { window = written c.in-Done.effect.writes w; psw = c.in-Done.effect.psw }) in
     ap (λ r. r.psw)
     (step-of c.args.m.now.desc _ _ _ _ _ _ c.execute-outcome.result e c.requires.within c.span_of-span.ensures.from c.span_of-span.ensures.len c.execute-outcome.ensures (ap (ending_as w) c.in-Done.is))
 
 pub returns-in-Done-clause-told : goal.returns-in-Done-clause-told
 returns-in-Done-clause-told g c =
     let w = take c.span_of-span.result.len (drop c.span_of-span.result.from (g.H.Hardware.machinery c.args.hw.now).state.cells) in
-    let e = Done (record { window = written c.in-Done.effect.writes.items w; psw = c.in-Done.effect.psw }) in
+    let e = Done (record { window = written c.in-Done.effect.writes w; psw = c.in-Done.effect.psw }) in
     traps-of c.args.m.now.desc _ _ _ _ _ _ c.execute-outcome.result e c.requires.within c.span_of-span.ensures.from c.span_of-span.ensures.len c.execute-outcome.ensures (ap (ending_as w) c.in-Done.is)

@@ -1,5 +1,5 @@
 use Rattle.std.proofs.Common.{◌≡◌, ℕ, List, Err, sym, ap, subst, arith}
-use Rattle.pg_valid.specs.declared.machine.Machine.{Machine}
+use Rattle.pg_machine.specs.declared.machine.Machine.{Machine}
 use Rattle.pg_tool.specs.Bare.{BareDue}
 use Rattle.pg_tool.specs.Images.{ImageDue}
 use Rattle.pg_tool.specs.Answering.{Comes}

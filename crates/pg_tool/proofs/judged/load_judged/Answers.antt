@@ -1,5 +1,5 @@
 use Rattle.std.proofs.Common.{Err, subst}
-use Rattle.pg_valid.specs.declared.machine.Machine.{Machine}
+use Rattle.pg_machine.specs.declared.machine.Machine.{Machine}
 use Rattle.pg_cert.specs.declared.report.Report.{Report}
 use Rattle.pg_tool.specs.Answering.{Comes}
 use Rattle.pg_tool.specs.Certificates.{CertDue}

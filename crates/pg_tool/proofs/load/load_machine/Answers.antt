@@ -1,5 +1,5 @@
 use Rattle.std.proofs.Common.{Ok, Err, IfSome, sym, ap, subst}
-use Rattle.pg_valid.specs.declared.machine.Machine.{Machine}
+use Rattle.pg_machine.specs.declared.machine.Machine.{Machine}
 use Rattle.pg_report.specs.declared.line.DescriptionLine.TheVariants as told_line
 use Rattle.pg_report.specs.declared.line.RefusalLine.TheVariants.{Description}
 use Rattle.pg_read.specs.Answer.{most_desc_bytes}

@@ -2,7 +2,7 @@ use Rattle.std.proofs.Common.{◌≡◌, ◌+◌, ◌-◌, ◌*◌, ◌≤◌, �
 use Rattle.std.proofs.lemmas.List.Elements.{All-weaker}
 use Rattle.pg_alloc.specs.Fit.{kept_cells}
 use Rattle.pg_cert.specs.declared.report.Report.{Report}
-use Rattle.pg_valid.specs.declared.machine.Machine.{Machine}
+use Rattle.pg_machine.specs.declared.machine.Machine.{Machine}
 use Rattle.pg_tool.specs.Answering.{Comes}
 use Rattle.pg_tool.specs.Certificates.{CertDue}
 use Rattle.pg_tool.specs.Images.{Fills, ImagesDue}

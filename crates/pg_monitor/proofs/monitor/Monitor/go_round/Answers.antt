@@ -1,5 +1,5 @@
 use Rattle.std.proofs.Common.{length, refl, ap, ◌∙◌, subst, arith}
-use Rattle.pg_valid.specs.declared.machine.Machine.{Machine}
+use Rattle.pg_machine.specs.declared.machine.Machine.{Machine}
 use Rattle.pg_hw.proofs.ServingLaws.{SameServed-then}
 use Rattle.pg_monitor.specs.Standing.{Stands}
 use Rattle.pg_monitor.proofs.PlanLemmas.{Turned-machine, grants-length}

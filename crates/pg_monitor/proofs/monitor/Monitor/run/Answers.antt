@@ -1,5 +1,5 @@
 use Rattle.std.proofs.Common.{ap, ◌∙◌, subst, arith}
-use Rattle.pg_valid.specs.declared.machine.Machine.{Machine}
+use Rattle.pg_machine.specs.declared.machine.Machine.{Machine}
 use Rattle.pg_hw.proofs.ServingLaws.{SameServed-then}
 use Rattle.pg_monitor.specs.Standing.{Stands}
 use Rattle.pg_monitor.proofs.PlanLemmas.{Followed-own, Followed-on, Followed-end, Turned-machine, grants-length}

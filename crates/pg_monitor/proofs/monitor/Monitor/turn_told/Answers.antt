@@ -1,5 +1,5 @@
 use Rattle.std.proofs.Common.{ap, ◌∙◌, lit<, slice_set, slice_get, List}
-use Rattle.pg_valid.specs.declared.machine.Machine.{Machine}
+use Rattle.pg_machine.specs.declared.machine.Machine.{Machine}
 use Rattle.pg_hw.specs.Machinery.{Machinery}
 use Rattle.pg_hw.proofs.ServingLaws.{SameServed-then}
 use Rattle.pg_monitor.specs.declared.guest.Guest.{Guest}

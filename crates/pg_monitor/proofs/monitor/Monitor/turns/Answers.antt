@@ -1,5 +1,5 @@
 use Rattle.std.proofs.Common.{ap, ◌∙◌, slice_set, slice_get, List, arith}
-use Rattle.pg_valid.specs.declared.machine.Machine.{Machine}
+use Rattle.pg_machine.specs.declared.machine.Machine.{Machine}
 use Rattle.pg_hw.proofs.ServingLaws.{SameServed-then}
 use Rattle.pg_monitor.specs.declared.guest.Guest.{Guest}
 use Rattle.pg_monitor.proofs.OwnLemmas.{owned-set}

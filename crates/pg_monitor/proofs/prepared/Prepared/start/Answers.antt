@@ -1,6 +1,6 @@
 use Rattle.std.proofs.Common.{◌≡◌, ◌∙◌, ap, sym, subst, [], ◌∷◌, None, arith}
 use Rattle.pg_word.specs.Psw.{packed, power_on_psw}
-use Rattle.pg_valid.specs.declared.machine.Machine.{Machine}
+use Rattle.pg_machine.specs.declared.machine.Machine.{Machine}
 use Rattle.pg_valid.proofs.ValidFacts.{IsShape-of_valid}
 use Rattle.pg_meaning.specs.States.{IsState}
 use Rattle.pg_hw.specs.Machinery.{Machinery, poked_at}
