@@ -1,8 +1,8 @@
 //! The check of a description.
 //!
 //! `check` is the one way from a description to a `Machine`. It tests the classes of validity, and makes what a machine keeps
-//! besides: the decoders, when no pattern is longer than a word, and the codes of the bodies. A description is taken by value
-//! and comes back with its fault, so that it is never copied.
+//! besides: the table of decoders, when no pattern is longer than a word, and the codes of the bodies. A description is
+//! taken by value and comes back with its fault, so that it is never copied.
 
 ghost use Rattle.std.specs.Prelude.{◌≡◌, IfOk, IfErr, OnOk};
 ghost use Rattle.pg_valid.specs.declared.fault.TypeFault.TheVariants.{Memory};
@@ -12,7 +12,7 @@ ghost use Rattle.pg_valid.specs.Verdicts.{IsFault};
 use crate::machine::Machine;
 use pg_ast::Desc;
 use pg_code::Codes;
-use pg_meaning::decoders_of;
+use pg_decode::DecodeTable;
 use pg_valid::{TypeFault, test_all};
 use std::alloc::Global;
 
@@ -26,11 +26,11 @@ pub fn check(alloc: Global, desc: Desc) -> Result<Machine, (Desc, TypeFault)>
 {
     match test_all(alloc, &desc) {
         Err(fault) => Err((desc, fault)),
-        Ok(names) => match decoders_of(alloc, desc.instrs.as_slice()) {
+        Ok(names) => match DecodeTable::of(alloc, desc.instrs.as_slice()) {
             Err(_) => Err((desc, TypeFault::Memory)),
-            Ok(decoders) => match Codes::of(alloc, &desc, decoders.as_slice()) {
+            Ok(table) => match Codes::of(alloc, &desc, table.decoders.as_slice()) {
                 Err(_) => Err((desc, TypeFault::Memory)),
-                Ok(codes) => Ok(Machine::of(desc, names, decoders, codes)),
+                Ok(codes) => Ok(Machine::of(desc, names, table, codes)),
             },
         },
     }
