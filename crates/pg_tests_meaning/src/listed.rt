@@ -1,4 +1,4 @@
-//! The operations of a body: a let, a load, a field, a test with two blocks, a sum, a store, an assignment.
+//! The operations of bodies: a let, a load, a field, a test with two blocks, a sum, a store, an assignment; and what is joined.
 
 use crate::texts::machine;
 use pg_ast::Op;
@@ -13,51 +13,45 @@ const TEXT: &str = "machine { word 32; address 8; size 64; }
 
 const WORD: u64 = 0xffff_ffff;
 
-const LISTED: [Operation; 13] = [
+const LISTED: [Operation; 10] = [
     // let v = mem[x];
-    Operation::Field {
+    Operation::LoadField {
         to: 0,
         low: 16,
         mask: 0xff,
     },
-    Operation::Load { to: 0, x: 0 },
     // if (v < 100:32)
-    Operation::Put { to: 2, value: 100 },
-    Operation::Bin {
+    Operation::BinLit {
         op: Op::Lt,
         to: 1,
         x: 0,
-        y: 2,
+        y: 100,
         mask: WORD,
     },
-    Operation::Unless { test: 1, over: 6 },
+    Operation::Unless { test: 1, over: 5 },
     // mem[x] = (v + sext(k, 32));
     Operation::Field {
-        to: 1,
-        low: 16,
-        mask: 0xff,
-    },
-    Operation::Field {
-        to: 3,
+        to: 2,
         low: 8,
         mask: 0xff,
     },
     Operation::Sext {
-        to: 3,
-        x: 3,
+        to: 2,
+        x: 2,
         top: 7,
         fill: 0xffff_ff00,
     },
     Operation::Bin {
         op: Op::Add,
-        to: 2,
+        to: 1,
         x: 0,
-        y: 3,
+        y: 2,
         mask: WORD,
     },
-    Operation::Store {
-        at: 1,
-        x: 2,
+    Operation::StoreField {
+        x: 1,
+        low: 16,
+        mask_at: 0xff,
         mask: WORD,
     },
     // else
@@ -72,16 +66,48 @@ const LISTED: [Operation; 13] = [
     Operation::SetP { x: 1 },
 ];
 
+/// A difference of two cells, and a jump.
+const JOINED: &str = "machine { word 32; address 8; size 64; }
+    instr sub \"00000001_xxxxxxxx_yyyyyyyy_zzzzzzzz\" { mem[x] = (mem[y] - mem[z]); }
+    instr jmp \"00000010_................_aaaaaaaa\" { pc = a; }";
+
+const DIFFERENCE: [Operation; 2] = [
+    Operation::BinLoads {
+        op: Op::Sub,
+        to: 0,
+        low_x: 8,
+        low_y: 0,
+        mask_x: 0xff,
+        mask_y: 0xff,
+        mask: WORD,
+    },
+    Operation::StoreField {
+        x: 0,
+        low: 16,
+        mask_at: 0xff,
+        mask: WORD,
+    },
+];
+
+const JUMP: [Operation; 1] = [Operation::SetPField { low: 0, mask: 0xff }];
+
 #[test]
 fn makes_these_operations_of_a_body(rt: HostRuntime) -> Result<(), Fail> {
     let machine = machine(rt.alloc(), TEXT)?;
     if machine.count() != 1 {
         return Err("one instruction".into());
     }
-    let code = machine.code(0);
-    assert_eq!(rt; code.len(), LISTED.len());
-    for (made, listed) in code.iter().zip(&LISTED) {
-        assert_eq!(rt; *made, *listed);
+    assert!(rt; machine.code(0) == &LISTED[..]);
+    Ok(())
+}
+
+#[test]
+fn joins_what_bodies_have_often(rt: HostRuntime) -> Result<(), Fail> {
+    let machine = machine(rt.alloc(), JOINED)?;
+    if machine.count() != 2 {
+        return Err("two instructions".into());
     }
+    assert!(rt; machine.code(0) == &DIFFERENCE[..]);
+    assert!(rt; machine.code(1) == &JUMP[..]);
     Ok(())
 }
