@@ -6,7 +6,7 @@
 ghost use Rattle.std.specs.Prelude.{◌≡◌};
 ghost use Rattle.pg_hw.specs.Idling.{cause_where};
 
-use super::memory::{Advanced, Memory, Works};
+use super::memory::{Memory, Ran, Works};
 use super::parts::trap;
 use pg_machine::Machine;
 use pg_word::{Cause, Psw, window_len};
@@ -27,12 +27,20 @@ impl Works for Idling {
         Idling
     }
 
-    fn advance(&mut self, cells: &mut [u64], psw: Psw, m: &Machine) -> Advanced {
+    fn run(&mut self, cells: &mut [u64], psw: Psw, m: &Machine, k: u64) -> Ran {
+        if k == 0 {
+            return Ran {
+                psw,
+                done: 0,
+                untrapped: 0,
+            };
+        }
         let usable = window_len(psw, cells.len() as u32);
         let cause = cause_of(psw.p, usable);
-        Advanced {
+        Ran {
             psw: trap(cells, m.shape(), psw, cause),
-            trapped: true,
+            done: 1,
+            untrapped: 0,
         }
     }
 }

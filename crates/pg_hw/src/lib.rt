@@ -11,8 +11,8 @@
 //!
 //! - `hardware`: the trait. `counts`: what is counted.
 //! - `runs`: what is run on any hardware, switching on and bare runs. `laws`: of counts and bursts.
-//! - `memory`: a hardware in memory, whatever machines it runs; `parts`: the trap, and a count that rises by one. `idle`: the
-//!   smallest hardware.
+//! - `memory`: a hardware in memory, whatever machines it runs, and what is owed by a way to do their steps, a burst a call;
+//!   `parts`: the trap, and a count that rises. `idle`: the smallest hardware.
 #![tactic(auto)]
 
 mod counts;
@@ -26,6 +26,6 @@ mod runs;
 pub use counts::Counts;
 pub use hardware::Hardware;
 pub use idle::{Idle, Idling};
-pub use memory::{Advanced, Memory, Works};
+pub use memory::{Memory, Ran, Works};
 pub use parts::{raised, trap};
 pub use runs::{bare, power_on};

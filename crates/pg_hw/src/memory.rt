@@ -1,34 +1,40 @@
 //! A hardware in memory, whatever machines it runs.
 //!
-//! A `Memory` is a storage that is a vector, a program status word, and counts, which are those at the bottom. What a step
-//! makes of storage and program status word is not its own: it has that from `Works`, which keeps the room that it takes
-//! for a step. So `Memory` is proved to be a `Hardware` once, for every way to do a step, and each way is proved to do
+//! A `Memory` is a storage that is a vector, a program status word, and counts, which are those at the bottom. What steps
+//! make of storage and program status word is not its own: it has that from `Works`, which keeps the room that it takes
+//! for a step. So `Memory` is proved to be a `Hardware` once, for every way to do steps, and each way is proved to do
 //! *Step*.
 //!
-//! A burst is steps one after another, until one traps. Nothing grows with the number of steps.
+//! A burst is steps one after another, until one traps, and a step is a burst of one. `Works` does a burst in one call, which
+//! hands back how many steps it did and how many of them count as untrapped. So between the steps of a burst nothing is read
+//! from the hardware or written to it but cells: the program status word is put back once, and the counts rise once. Nothing
+//! grows with the number of steps.
 
 ghost use Rattle.std.specs.Prelude.{◌≡◌, ◌^◌, ◌<◌, [], vec_len};
 ghost use Rattle.pg_word.specs.Psw.{power_on_psw};
 ghost use Rattle.pg_meaning.specs.States.{IsState};
-ghost use Rattle.pg_meaning.specs.Steps.{step};
-ghost use Rattle.pg_hw.specs.Tallies.{no_counts, after_steps};
+ghost use Rattle.pg_meaning.specs.Steps.{steps};
+ghost use Rattle.pg_hw.specs.Tallies.{no_counts};
 ghost use Rattle.pg_hw.specs.Machinery.{at_psw};
-ghost use Rattle.pg_hw.specs.Bursts.{traps, is_user, untrapped_at};
+ghost use Rattle.pg_hw.specs.Bursts.{burst_length};
+ghost use Rattle.pg_hw.specs.Running.{after_run};
 
 use super::counts::Counts;
 use super::hardware::Hardware;
 use super::parts::raised;
 use pg_machine::Machine;
-use pg_word::{Mode, Psw};
+use pg_word::Psw;
 use std::alloc::{AllocError, Global};
 
-/// What a step leaves beside its stores.
+/// What a run of steps leaves beside its stores.
 #[derive(Clone, Copy)]
-pub struct Advanced {
+pub struct Ran {
     /// The program status word that follows.
     pub psw: Psw,
-    /// Whether the step trapped, by whatever cause.
-    pub trapped: bool,
+    /// The steps done, the one that trapped among them.
+    pub done: u64,
+    /// The steps that began in user mode and did not trap.
+    pub untrapped: u64,
 }
 
 /// A way to do steps, with the room that it takes for them.
@@ -36,8 +42,8 @@ pub trait Works {
     ghost use Rattle.std.specs.Prelude.{◌≡◌};
     ghost use Rattle.pg_ast.specs.declared.tree.Desc.{Desc};
     ghost use Rattle.pg_meaning.specs.States.{IsState};
-    ghost use Rattle.pg_meaning.specs.Steps.{step as stepped};
-    ghost use Rattle.pg_hw.specs.Bursts.{traps as is_trap};
+    ghost use Rattle.pg_meaning.specs.Steps.{steps as stepped_often};
+    ghost use Rattle.pg_hw.specs.Bursts.{burst_length, untrapped_among};
     ghost use Rattle.pg_hw.specs.Machinery.{at_psw};
 
     /// The machines whose steps it does.
@@ -46,12 +52,14 @@ pub trait Works {
     /// Ready for a first step.
     fn ready() -> Self;
 
-    /// One step of a machine whose storage is `cells`.
-    fn advance(&mut self, cells: &mut [u64], psw: Psw, m: &Machine) -> Advanced
+    /// Steps of a machine whose storage is `cells`, until `k` were done or one trapped, which is then the last: from 1 to
+    /// `k`, or 0 where `k` is 0.
+    fn run(&mut self, cells: &mut [u64], psw: Psw, m: &Machine, k: u64) -> Ran
         requires known { does m.now.desc }
         requires state { IsState m.now.desc (at_psw cells.old psw) }
-        ensures state { at_psw cells.new result.psw ≡ stepped m.now.desc (at_psw cells.old psw) }
-        ensures traps { result.trapped ≡ is_trap m.now.desc (at_psw cells.old psw) };
+        ensures done { result.done ≡ burst_length m.now.desc k (at_psw cells.old psw) }
+        ensures state { at_psw cells.new result.psw ≡ stepped_often m.now.desc result.done (at_psw cells.old psw) }
+        ensures untrapped { result.untrapped ≡ untrapped_among m.now.desc result.done (at_psw cells.old psw) };
 }
 
 /// A hardware in memory, which has room for `2^32 - 1` cells.
@@ -81,22 +89,19 @@ impl<W: Works> Memory<W> {
         }
     }
 
-    /// One step, counted; whether it trapped.
-    fn advance(&mut self, m: &Machine) -> bool
+    /// Steps until `k` were done or one trapped, counted once for all of them; how many they were.
+    fn run(&mut self, m: &Machine, k: u64) -> u64
         requires known { W.does m.now.desc }
         requires state { IsState m.now.desc (at_psw self.old.cells.items self.old.psw) }
-        ensures traps { result ≡ traps m.now.desc (at_psw self.old.cells.items self.old.psw) }
-        ensures state { at_psw self.new.cells.items self.new.psw ≡ step m.now.desc (at_psw self.old.cells.items self.old.psw) }
-        ensures counts { self.new.counts ≡ after_steps self.old.counts 1 (untrapped_at m.now.desc (at_psw self.old.cells.items self.old.psw)) }
+        ensures done { result ≡ burst_length m.now.desc k (at_psw self.old.cells.items self.old.psw) }
+        ensures state { at_psw self.new.cells.items self.new.psw ≡ steps m.now.desc result (at_psw self.old.cells.items self.old.psw) }
+        ensures counts { self.new.counts ≡ after_run m.now.desc self.old.counts result (at_psw self.old.cells.items self.old.psw) }
     {
-        let mode = self.psw.mode;
-        let advanced = self.works.advance(&mut self.cells, self.psw, m);
-        self.psw = advanced.psw;
-        self.counts.steps = raised(self.counts.steps);
-        if is_user(mode) && !advanced.trapped {
-            self.counts.untrapped = raised(self.counts.untrapped);
-        }
-        advanced.trapped
+        let ran = self.works.run(&mut self.cells, self.psw, m, k);
+        self.psw = ran.psw;
+        self.counts.steps = raised(self.counts.steps, ran.done);
+        self.counts.untrapped = raised(self.counts.untrapped, ran.untrapped);
+        ran.done
     }
 }
 
@@ -123,16 +128,11 @@ impl<W: Works> Hardware for Memory<W> {
     }
 
     fn step(&mut self, m: &Machine) {
-        self.advance(m);
+        self.run(m, 1);
     }
 
     fn burst(&mut self, m: &Machine, k: u64) -> u64 {
-        for done in 0..k {
-            if self.advance(m) {
-                return done + 1;
-            }
-        }
-        k
+        self.run(m, k)
     }
 
     fn peek(&self, at: u32) -> u64 {
@@ -141,7 +141,7 @@ impl<W: Works> Hardware for Memory<W> {
 
     fn poke(&mut self, at: u32, word: u64) {
         self.cells[at as usize] = word;
-        self.counts.pokes = raised(self.counts.pokes);
+        self.counts.pokes = raised(self.counts.pokes, 1);
     }
 
     fn psw(&self) -> Psw {
@@ -150,17 +150,10 @@ impl<W: Works> Hardware for Memory<W> {
 
     fn set_psw(&mut self, psw: Psw) {
         self.psw = psw;
-        self.counts.loads = raised(self.counts.loads);
+        self.counts.loads = raised(self.counts.loads, 1);
     }
 
     fn counts(&self) -> Counts {
         self.counts
     }
-}
-
-/// Whether a mode is the user's.
-fn is_user(mode: Mode) -> bool
-    ensures { result ≡ is_user mode }
-{
-    matches!(mode, Mode::U)
 }

@@ -1,4 +1,4 @@
-//! What hardwares do alike, whatever machines they run: the trap, and a count that rises by one.
+//! What hardwares do alike, whatever machines they run: the trap, and a count that rises.
 
 ghost use Rattle.std.specs.Prelude.{◌≡◌, ◌≤◌, length, slice_set, slice_index};
 ghost use Rattle.pg_word.specs.Shape.{IsShape};
@@ -21,9 +21,9 @@ pub fn trap(cells: &mut [u64], shape: &Shape, psw: Psw, cause: Cause) -> Psw
     loaded
 }
 
-/// A count that rises by one, and stands still at its last value.
-pub fn raised(count: u64) -> u64
-    ensures { result ≡ raised_by 1 count }
+/// A count that rises by so many, and stands still at its last value.
+pub fn raised(count: u64, by: u64) -> u64
+    ensures { result ≡ raised_by by count }
 {
-    count.saturating_add(1)
+    count.saturating_add(by)
 }
