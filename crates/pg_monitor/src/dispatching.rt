@@ -68,7 +68,7 @@ impl<'m> Monitor<'m> {
     {
         let machine = self.accepted.machine();
         let mut guest = self.select(hw, k);
-        let trapped = turn_once(machine, hw, &mut guest);
+        let trapped = turn_once(machine, hw, &mut guest, &mut self.frame);
         self.guests.set(k, guest);
         trapped
     }
@@ -89,7 +89,7 @@ impl<'m> Monitor<'m> {
         }
         let machine = self.accepted.machine();
         let mut guest = self.select(hw, k);
-        turn_often(machine, hw, &mut guest, n);
+        turn_often(machine, hw, &mut guest, n, &mut self.frame);
         self.guests.set(k, guest);
     }
 

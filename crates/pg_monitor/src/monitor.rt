@@ -13,6 +13,7 @@ ghost use Rattle.pg_monitor.specs.Standing.{Stands};
 use crate::guest::Guest;
 use pg_alloc::Grants;
 use pg_hw::Hardware;
+use pg_interp::Frame;
 use pg_machine::Machine;
 use pg_type::Accepted;
 use pg_word::{Psw, pack};
@@ -26,6 +27,8 @@ pub struct Monitor<'m> {
     pub(crate) granted: Grants,
     pub(crate) guests: Items<Guest>,
     pub(crate) current: Option<usize>,
+    /// Where steps that trapped are interpreted: made once, since it is large beside a step.
+    pub(crate) frame: Frame,
     /// Each guest has a grant among those that the monitor made; the others are held for none.
     pub(crate) ghost owned: { AreOwned accepted.machine.now.desc.size granted guests },
 }
@@ -77,6 +80,7 @@ impl<'m> Monitor<'m> {
             granted: Grants::new(alloc, accepted.machine().shape().q),
             guests: Items::from_vec(guests),
             current: None,
+            frame: Frame::new(),
         })
     }
 

@@ -5,7 +5,7 @@
 //! is in supervisor mode, so the mode tells whether a step trapped. The trap has stored the program status word of its
 //! entry in cell 0, where the guest's P stands: mode, relocation and bound of the guest are as they were, since no direct
 //! step of an accepted machine changes them. The instruction that trapped is then interpreted from the guest's own program
-//! status word, and the guest is entered again.
+//! status word, and the guest is entered again. It is interpreted in the monitor's frame, which is lent to each turn.
 
 ghost use Rattle.std.specs.Prelude.{◌≡◌, ◌+◌, ◌<◌, ◌≤◌, ◌^◌, true};
 ghost use Rattle.pg_type.specs.Accepting.{IsAccepted};
@@ -20,6 +20,7 @@ ghost use Rattle.pg_monitor.specs.Current.{Holds, Runs, Interpreted, Went};
 
 use crate::guest::Guest;
 use pg_hw::Hardware;
+use pg_interp::Frame;
 use pg_machine::Machine;
 use pg_routine::{compose, emulate_told};
 use pg_word::{Mode, unpack};
@@ -35,7 +36,7 @@ pub(crate) fn enter<H: Hardware>(hw: &mut H, guest: Guest)
 }
 
 /// Interprets the step of a guest that trapped, and enters the guest again; whether the guest's own step trapped.
-fn interpret<H: Hardware>(m: &Machine, hw: &mut H, guest: &mut Guest) -> bool
+fn interpret<H: Hardware>(m: &Machine, hw: &mut H, guest: &mut Guest, frame: &mut Frame) -> bool
     requires served { H.serves hw.old m.now.desc }
     requires holds { Holds m.now.desc (H.machinery hw.old).state guest.old }
     ensures interpreted { Interpreted m.now.desc (H.machinery hw.old) (H.machinery hw.new) guest.old guest.new }
@@ -43,14 +44,19 @@ fn interpret<H: Hardware>(m: &Machine, hw: &mut H, guest: &mut Guest) -> bool
     ensures served { SameServed (H.serves hw.old) (H.serves hw.new) }
 {
     let mut psw = guest.psw;
-    let trapped = emulate_told(m, hw, guest.base, guest.size, &mut psw);
+    let trapped = emulate_told(m, hw, guest.base, guest.size, &mut psw, frame);
     guest.psw = psw;
     enter(hw, *guest);
     trapped
 }
 
 /// One turn; whether the guest's own step trapped.
-pub(crate) fn turn_once<H: Hardware>(m: &Machine, hw: &mut H, guest: &mut Guest) -> bool
+pub(crate) fn turn_once<H: Hardware>(
+    m: &Machine,
+    hw: &mut H,
+    guest: &mut Guest,
+    frame: &mut Frame,
+) -> bool
     requires accepted { ∥ IsAccepted m.now.desc ∥₁ }
     requires served { H.serves hw.old m.now.desc }
     requires runs { Runs m.now.desc (H.machinery hw.old).state guest.old }
@@ -66,13 +72,19 @@ pub(crate) fn turn_once<H: Hardware>(m: &Machine, hw: &mut H, guest: &mut Guest)
             guest.psw.p = psw.p;
             false
         }
-        Mode::S => interpret(m, hw, guest),
+        Mode::S => interpret(m, hw, guest, frame),
     }
 }
 
 /// Some turns, `most` at most and one at least: a burst, and where its last step trapped, that step interpreted. How many
 /// turns they were.
-fn turn_on<H: Hardware>(m: &Machine, hw: &mut H, guest: &mut Guest, most: u64) -> u64
+fn turn_on<H: Hardware>(
+    m: &Machine,
+    hw: &mut H,
+    guest: &mut Guest,
+    most: u64,
+    frame: &mut Frame,
+) -> u64
     requires accepted { ∥ IsAccepted m.now.desc ∥₁ }
     requires served { H.serves hw.old m.now.desc }
     requires runs { Runs m.now.desc (H.machinery hw.old).state guest.old }
@@ -88,14 +100,20 @@ fn turn_on<H: Hardware>(m: &Machine, hw: &mut H, guest: &mut Guest, most: u64) -
         Mode::U => guest.psw.p = psw.p,
         Mode::S => {
             guest.psw.p = unpack(m.shape(), hw.peek(0)).p;
-            interpret(m, hw, guest);
+            interpret(m, hw, guest, frame);
         }
     }
     done
 }
 
 /// `n` turns.
-pub(crate) fn turn_often<H: Hardware>(m: &Machine, hw: &mut H, guest: &mut Guest, n: u64)
+pub(crate) fn turn_often<H: Hardware>(
+    m: &Machine,
+    hw: &mut H,
+    guest: &mut Guest,
+    n: u64,
+    frame: &mut Frame,
+)
     requires accepted { ∥ IsAccepted m.now.desc ∥₁ }
     requires served { H.serves hw.old m.now.desc }
     requires runs { Runs m.now.desc (H.machinery hw.old).state guest.old }
@@ -104,6 +122,6 @@ pub(crate) fn turn_often<H: Hardware>(m: &Machine, hw: &mut H, guest: &mut Guest
 {
     let mut left = n;
     while left > 0 {
-        left -= turn_on(m, hw, guest, left);
+        left -= turn_on(m, hw, guest, left, frame);
     }
 }

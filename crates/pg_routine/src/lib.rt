@@ -7,7 +7,8 @@
 //! (`window`), executes it by the interpreter, and pokes what it stores, or makes the guest's trap in the guest's cells
 //! (`routine`).
 //!
-//! No routine takes memory or refuses anything, and none touches a cell outside the grant.
+//! No routine takes memory or refuses anything, and none touches a cell outside the grant. Who does many steps lends a frame of
+//! the interpreter to each, since it is large beside a step.
 #![tactic(auto)]
 
 mod composing;

@@ -11,7 +11,7 @@ ghost use Rattle.pg_routine.specs.Granting.{guest_at, GrantPoked};
 
 use crate::window::{Span, Window, span_of};
 use pg_hw::Hardware;
-use pg_interp::{Outcome, Write, execute};
+use pg_interp::{Ended, Frame, Write, step_in};
 use pg_machine::Machine;
 use pg_word::{Cause, Psw, pack_trap, unpack};
 
@@ -29,16 +29,19 @@ pub fn emulate<H: Hardware>(m: &Machine, hw: &mut H, base: u32, size: u32, psw: 
     ensures psw { psw.new ≡ (step m.now.desc (guest_at (H.machinery hw.old).state.cells base size psw.old)).psw }
     ensures served { SameServed (H.serves hw.old) (H.serves hw.new) }
 {
-    emulate_told(m, hw, base, size, psw);
+    let mut frame = Frame::new();
+    emulate_told(m, hw, base, size, psw, &mut frame);
 }
 
-/// One step of a guest's machine, as `emulate` does it; whether it trapped, by whatever cause.
+/// One step of a guest's machine, as `emulate` does it; whether it trapped, by whatever cause. It is done in a frame that is
+/// made once for many steps; what the frame has before means nothing.
 pub fn emulate_told<H: Hardware>(
     m: &Machine,
     hw: &mut H,
     base: u32,
     size: u32,
     psw: &mut Psw,
+    frame: &mut Frame,
 ) -> bool
     requires served { H.serves hw.old m.now.desc }
     requires addressable { base + size < 2 ^ 32 }
@@ -51,14 +54,14 @@ pub fn emulate_told<H: Hardware>(
     ensures served { SameServed (H.serves hw.old) (H.serves hw.new) }
 {
     let span = span_of(*psw, base, size);
-    let outcome = execute(m, &Window { hw, span }, *psw);
-    match outcome {
-        Outcome::MemTrap => trap(m, hw, base, size, psw, Cause::Memory),
-        Outcome::Trap => trap(m, hw, base, size, psw, Cause::Trap),
-        Outcome::NoPattern => trap(m, hw, base, size, psw, Cause::NoPattern),
-        Outcome::Done(effect) => {
-            store(hw, span, effect.writes.as_slice());
-            *psw = effect.psw;
+    let ended = step_in(m, &Window { hw, span }, *psw, frame);
+    match ended {
+        Ended::MemTrap => trap(m, hw, base, size, psw, Cause::Memory),
+        Ended::Trap => trap(m, hw, base, size, psw, Cause::Trap),
+        Ended::NoPattern => trap(m, hw, base, size, psw, Cause::NoPattern),
+        Ended::Done => {
+            store(hw, span, frame.writes.as_slice());
+            *psw = frame.next;
             false
         }
     }

@@ -2,6 +2,7 @@
 
 use crate::setting::{counts, has_words, head_alone, psw};
 use pg_hw::{Hardware, Idle};
+use pg_interp::Frame;
 use pg_routine::{compose, emulate, emulate_told};
 use pg_word::Mode;
 use std::test::Fail;
@@ -27,7 +28,7 @@ fn a_guest_keeps_to_its_grant(rt: HostRuntime) -> Result<(), Fail> {
     assert!(rt; has_words(&hw, &[(0, 0), (2, 0x0602_0008), (3, 0)]));
     assert!(rt; guest == psw(Mode::S, 0, 0, 0));
     assert_eq!(rt; hw.size(), 64);
-    let trapped = emulate_told(&machine, &mut hw, 2, 8, &mut guest);
+    let trapped = emulate_told(&machine, &mut hw, 2, 8, &mut guest, &mut Frame::new());
     assert!(rt; trapped);
     // Then (s, 0, (0, 0)) under cause 1, no cell is usable.
     assert!(rt; has_words(&hw, &[(0, 0), (2, 0x0200_0000), (3, 0)]));

@@ -2,78 +2,90 @@ use Rattle.std.proofs.Common.{◌∙◌, ap, take, drop}
 use Rattle.pg_meaning.specs.States.{State}
 use Rattle.pg_meaning.specs.Steps.{ByMemTrap, ByTrap, ByNoPattern, Done}
 use Rattle.pg_interp.specs.Writes.{written}
-use Rattle.pg_interp.specs.Outcomes.{ending_as}
+use Rattle.pg_interp.specs.declared.effect.Effect.{Effect}
+use Rattle.pg_interp.specs.Outcomes.{ending_as, outcome_in}
 use Rattle.pg_routine.proofs.StepLemmas.{few-writes, seen-words, step-of, traps-of, step-done}
 use Rattle.pg_routine.proofs.StoreLemmas.{PokedWithin-more, GrantPoked-as}
 use Rattle.pg_routine.proofs.routine.emulate_told.Goals as goal
 
-pub execute-outcome-requires-clause-words : goal.execute-outcome-requires-clause-words
-execute-outcome-requires-clause-words g c =
+pub step_in-ended-requires-clause-words : goal.step_in-ended-requires-clause-words
+step_in-ended-requires-clause-words g c =
     seen-words c.args.m.now.desc _ _ _ _ c.span_of-span.result.from c.span_of-span.result.len
     c.requires.within c.span_of-span.ensures.from c.span_of-span.ensures.len c.requires.guest
 
 pub returns-in-MemTrap-clause-grant : goal.returns-in-MemTrap-clause-grant
 returns-in-MemTrap-clause-grant g c =
+    let w = take c.span_of-span.result.len (drop c.span_of-span.result.from (g.H.Hardware.machinery c.args.hw.now).state.cells) in
     GrantPoked-as c.args.base 8 _ _ _ _
     (ap (λ (r : State). r.cells)
-    (step-of c.args.m.now.desc _ _ _ _ _ _ c.execute-outcome.result ByMemTrap c.requires.within c.span_of-span.ensures.from c.span_of-span.ensures.len c.execute-outcome.ensures (ap (ending_as _) c.in-MemTrap.is)))
+    (step-of c.args.m.now.desc _ _ _ _ _ _ (outcome_in c.step_in-ended.new.frame c.step_in-ended.result) ByMemTrap c.requires.within c.span_of-span.ensures.from c.span_of-span.ensures.len c.step_in-ended.ensures (ap (λ r. ending_as w (outcome_in c.step_in-ended.new.frame r)) c.in-MemTrap.is)))
     c.trap.ensures.grant
 
 pub returns-in-MemTrap-clause-psw : goal.returns-in-MemTrap-clause-psw
 returns-in-MemTrap-clause-psw g c =
+    let w = take c.span_of-span.result.len (drop c.span_of-span.result.from (g.H.Hardware.machinery c.args.hw.now).state.cells) in
     c.trap.ensures.psw
     ∙ ap (λ r. r.psw)
-    (step-of c.args.m.now.desc _ _ _ _ _ _ c.execute-outcome.result ByMemTrap c.requires.within c.span_of-span.ensures.from c.span_of-span.ensures.len c.execute-outcome.ensures (ap (ending_as _) c.in-MemTrap.is))
+    (step-of c.args.m.now.desc _ _ _ _ _ _ (outcome_in c.step_in-ended.new.frame c.step_in-ended.result) ByMemTrap c.requires.within c.span_of-span.ensures.from c.span_of-span.ensures.len c.step_in-ended.ensures (ap (λ r. ending_as w (outcome_in c.step_in-ended.new.frame r)) c.in-MemTrap.is))
 
 pub returns-in-MemTrap-clause-told : goal.returns-in-MemTrap-clause-told
 returns-in-MemTrap-clause-told g c =
+    let w = take c.span_of-span.result.len (drop c.span_of-span.result.from (g.H.Hardware.machinery c.args.hw.now).state.cells) in
     c.trap.ensures.told
-    ∙ traps-of c.args.m.now.desc _ _ _ _ _ _ c.execute-outcome.result ByMemTrap c.requires.within c.span_of-span.ensures.from c.span_of-span.ensures.len c.execute-outcome.ensures (ap (ending_as _) c.in-MemTrap.is)
+    ∙ traps-of c.args.m.now.desc _ _ _ _ _ _ (outcome_in c.step_in-ended.new.frame c.step_in-ended.result) ByMemTrap c.requires.within c.span_of-span.ensures.from c.span_of-span.ensures.len c.step_in-ended.ensures (ap (λ r. ending_as w (outcome_in c.step_in-ended.new.frame r)) c.in-MemTrap.is)
 
 pub returns-in-Trap-clause-grant : goal.returns-in-Trap-clause-grant
 returns-in-Trap-clause-grant g c =
+    let w = take c.span_of-span.result.len (drop c.span_of-span.result.from (g.H.Hardware.machinery c.args.hw.now).state.cells) in
     GrantPoked-as c.args.base 8 _ _ _ _
     (ap (λ (r : State). r.cells)
-    (step-of c.args.m.now.desc _ _ _ _ _ _ c.execute-outcome.result ByTrap c.requires.within c.span_of-span.ensures.from c.span_of-span.ensures.len c.execute-outcome.ensures (ap (ending_as _) c.in-Trap.is)))
+    (step-of c.args.m.now.desc _ _ _ _ _ _ (outcome_in c.step_in-ended.new.frame c.step_in-ended.result) ByTrap c.requires.within c.span_of-span.ensures.from c.span_of-span.ensures.len c.step_in-ended.ensures (ap (λ r. ending_as w (outcome_in c.step_in-ended.new.frame r)) c.in-Trap.is)))
     c.trap-in-Trap.ensures.grant
 
 pub returns-in-Trap-clause-psw : goal.returns-in-Trap-clause-psw
 returns-in-Trap-clause-psw g c =
+    let w = take c.span_of-span.result.len (drop c.span_of-span.result.from (g.H.Hardware.machinery c.args.hw.now).state.cells) in
     c.trap-in-Trap.ensures.psw
     ∙ ap (λ r. r.psw)
-    (step-of c.args.m.now.desc _ _ _ _ _ _ c.execute-outcome.result ByTrap c.requires.within c.span_of-span.ensures.from c.span_of-span.ensures.len c.execute-outcome.ensures (ap (ending_as _) c.in-Trap.is))
+    (step-of c.args.m.now.desc _ _ _ _ _ _ (outcome_in c.step_in-ended.new.frame c.step_in-ended.result) ByTrap c.requires.within c.span_of-span.ensures.from c.span_of-span.ensures.len c.step_in-ended.ensures (ap (λ r. ending_as w (outcome_in c.step_in-ended.new.frame r)) c.in-Trap.is))
 
 pub returns-in-Trap-clause-told : goal.returns-in-Trap-clause-told
 returns-in-Trap-clause-told g c =
+    let w = take c.span_of-span.result.len (drop c.span_of-span.result.from (g.H.Hardware.machinery c.args.hw.now).state.cells) in
     c.trap-in-Trap.ensures.told
-    ∙ traps-of c.args.m.now.desc _ _ _ _ _ _ c.execute-outcome.result ByTrap c.requires.within c.span_of-span.ensures.from c.span_of-span.ensures.len c.execute-outcome.ensures (ap (ending_as _) c.in-Trap.is)
+    ∙ traps-of c.args.m.now.desc _ _ _ _ _ _ (outcome_in c.step_in-ended.new.frame c.step_in-ended.result) ByTrap c.requires.within c.span_of-span.ensures.from c.span_of-span.ensures.len c.step_in-ended.ensures (ap (λ r. ending_as w (outcome_in c.step_in-ended.new.frame r)) c.in-Trap.is)
 
 pub returns-in-NoPattern-clause-grant : goal.returns-in-NoPattern-clause-grant
 returns-in-NoPattern-clause-grant g c =
+    let w = take c.span_of-span.result.len (drop c.span_of-span.result.from (g.H.Hardware.machinery c.args.hw.now).state.cells) in
     GrantPoked-as c.args.base 8 _ _ _ _
     (ap (λ (r : State). r.cells)
-    (step-of c.args.m.now.desc _ _ _ _ _ _ c.execute-outcome.result ByNoPattern c.requires.within c.span_of-span.ensures.from c.span_of-span.ensures.len c.execute-outcome.ensures (ap (ending_as _) c.in-NoPattern.is)))
+    (step-of c.args.m.now.desc _ _ _ _ _ _ (outcome_in c.step_in-ended.new.frame c.step_in-ended.result) ByNoPattern c.requires.within c.span_of-span.ensures.from c.span_of-span.ensures.len c.step_in-ended.ensures (ap (λ r. ending_as w (outcome_in c.step_in-ended.new.frame r)) c.in-NoPattern.is)))
     c.trap-in-NoPattern.ensures.grant
 
 pub returns-in-NoPattern-clause-psw : goal.returns-in-NoPattern-clause-psw
 returns-in-NoPattern-clause-psw g c =
+    let w = take c.span_of-span.result.len (drop c.span_of-span.result.from (g.H.Hardware.machinery c.args.hw.now).state.cells) in
     c.trap-in-NoPattern.ensures.psw
     ∙ ap (λ r. r.psw)
-    (step-of c.args.m.now.desc _ _ _ _ _ _ c.execute-outcome.result ByNoPattern c.requires.within c.span_of-span.ensures.from c.span_of-span.ensures.len c.execute-outcome.ensures (ap (ending_as _) c.in-NoPattern.is))
+    (step-of c.args.m.now.desc _ _ _ _ _ _ (outcome_in c.step_in-ended.new.frame c.step_in-ended.result) ByNoPattern c.requires.within c.span_of-span.ensures.from c.span_of-span.ensures.len c.step_in-ended.ensures (ap (λ r. ending_as w (outcome_in c.step_in-ended.new.frame r)) c.in-NoPattern.is))
 
 pub returns-in-NoPattern-clause-told : goal.returns-in-NoPattern-clause-told
 returns-in-NoPattern-clause-told g c =
+    let w = take c.span_of-span.result.len (drop c.span_of-span.result.from (g.H.Hardware.machinery c.args.hw.now).state.cells) in
     c.trap-in-NoPattern.ensures.told
-    ∙ traps-of c.args.m.now.desc _ _ _ _ _ _ c.execute-outcome.result ByNoPattern c.requires.within c.span_of-span.ensures.from c.span_of-span.ensures.len c.execute-outcome.ensures (ap (ending_as _) c.in-NoPattern.is)
+    ∙ traps-of c.args.m.now.desc _ _ _ _ _ _ (outcome_in c.step_in-ended.new.frame c.step_in-ended.result) ByNoPattern c.requires.within c.span_of-span.ensures.from c.span_of-span.ensures.len c.step_in-ended.ensures (ap (λ r. ending_as w (outcome_in c.step_in-ended.new.frame r)) c.in-NoPattern.is)
 
 pub returns-in-Done-clause-grant : goal.returns-in-Done-clause-grant
 returns-in-Done-clause-grant g c =
+    let effect : Effect = record { writes = c.step_in-ended.new.frame.writes; psw = c.step_in-ended.new.frame.next } in
+    let done = ap (outcome_in c.step_in-ended.new.frame) c.in-Done.is in
     let old = (g.H.Hardware.machinery c.args.hw.now).state in
     record {
       state = c.store.ensures.grant.state
           ∙ ap (λ cs. let u : State = record old { cells = cs } in u)
-          (step-done c.args.m.now.desc _ _ _ _ _ _ c.execute-outcome.result c.in-Done.effect _ c.requires.within c.span_of-span.ensures.from c.span_of-span.ensures.len c.execute-outcome.ensures c.in-Done.is c.as_slice.ensures);
-      tally = PokedWithin-more _ 8 _ _ (few-writes _ _ _ c.execute-outcome.result c.in-Done.effect c.as_slice.result.now c.execute-outcome.ensures c.in-Done.is c.as_slice.ensures) c.store.ensures.grant.tally;
+          (step-done c.args.m.now.desc _ _ _ _ _ _ (outcome_in c.step_in-ended.new.frame c.step_in-ended.result) effect _ c.requires.within c.span_of-span.ensures.from c.span_of-span.ensures.len c.step_in-ended.ensures done c.as_slice.ensures);
+      tally = PokedWithin-more _ 8 _ _ (few-writes _ _ _ (outcome_in c.step_in-ended.new.frame c.step_in-ended.result) effect c.as_slice.result.now c.step_in-ended.ensures done c.as_slice.ensures) c.store.ensures.grant.tally;
       bottom = c.store.ensures.grant.bottom;
       room = c.store.ensures.grant.room;
     }
@@ -81,12 +93,12 @@ returns-in-Done-clause-grant g c =
 pub returns-in-Done-clause-psw : goal.returns-in-Done-clause-psw
 returns-in-Done-clause-psw g c =
     let w = take c.span_of-span.result.len (drop c.span_of-span.result.from (g.H.Hardware.machinery c.args.hw.now).state.cells) in
-    let e = Done (record { window = written c.in-Done.effect.writes w; psw = c.in-Done.effect.psw }) in
+    let e = Done (record { window = written c.step_in-ended.new.frame.writes w; psw = c.step_in-ended.new.frame.next }) in
     ap (λ r. r.psw)
-    (step-of c.args.m.now.desc _ _ _ _ _ _ c.execute-outcome.result e c.requires.within c.span_of-span.ensures.from c.span_of-span.ensures.len c.execute-outcome.ensures (ap (ending_as w) c.in-Done.is))
+    (step-of c.args.m.now.desc _ _ _ _ _ _ (outcome_in c.step_in-ended.new.frame c.step_in-ended.result) e c.requires.within c.span_of-span.ensures.from c.span_of-span.ensures.len c.step_in-ended.ensures (ap (λ r. ending_as w (outcome_in c.step_in-ended.new.frame r)) c.in-Done.is))
 
 pub returns-in-Done-clause-told : goal.returns-in-Done-clause-told
 returns-in-Done-clause-told g c =
     let w = take c.span_of-span.result.len (drop c.span_of-span.result.from (g.H.Hardware.machinery c.args.hw.now).state.cells) in
-    let e = Done (record { window = written c.in-Done.effect.writes w; psw = c.in-Done.effect.psw }) in
-    traps-of c.args.m.now.desc _ _ _ _ _ _ c.execute-outcome.result e c.requires.within c.span_of-span.ensures.from c.span_of-span.ensures.len c.execute-outcome.ensures (ap (ending_as w) c.in-Done.is)
+    let e = Done (record { window = written c.step_in-ended.new.frame.writes w; psw = c.step_in-ended.new.frame.next }) in
+    traps-of c.args.m.now.desc _ _ _ _ _ _ (outcome_in c.step_in-ended.new.frame c.step_in-ended.result) e c.requires.within c.span_of-span.ensures.from c.span_of-span.ensures.len c.step_in-ended.ensures (ap (λ r. ending_as w (outcome_in c.step_in-ended.new.frame r)) c.in-Done.is)
