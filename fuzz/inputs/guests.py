@@ -23,6 +23,7 @@ from pgvmodel import tree
 from pgvmodel.machine import MONITOR_CELLS
 from pgvmodel.printer import printed
 from pgvmodel.reader import read
+from pgvmodel.validity import Fault, check
 from pgvmodel.words import MOST_IMAGES
 
 COUNTS = (1, 1, 1, 2, 2, 2, 2, 3, 3, 4, 5, 6, 7, MOST_IMAGES, MOST_IMAGES)
@@ -136,10 +137,18 @@ def _of_another(rng: Random, means: Means, _description: tree.Description) -> by
     return checked(means, printed(rng.choice([certificates.telling, certificates.quiet, _pieced])(rng)))
 
 
+def _is_valid(description: tree.Description) -> bool:
+    try:
+        check(description)
+    except Fault:
+        return False
+    return True
+
+
 def _of_an_older(rng: Random, means: Means, description: tree.Description) -> bytes:
-    """That of the same machine, but that one body of it was another."""
+    """That of the same machine, but that one body of it was another, where it is valid with that one too."""
     older = with_near_miss(rng, description) if description.instructions else description
-    return checked(means, printed(older))
+    return checked(means, printed(older if _is_valid(older) else description))
 
 
 def _damaged(rng: Random, means: Means, description: tree.Description) -> bytes:
