@@ -1,7 +1,7 @@
 //! The check of a description.
 //!
 //! `check` is the one way from a description to a `Machine`. It tests the classes of validity, and makes what a machine keeps
-//! besides: the table of decoders, when no pattern is longer than a word, and the codes of the bodies. A description is
+//! besides: the table of opcodes and decoders, when no pattern is longer than a word, and the codes of the bodies. A description is
 //! taken by value and comes back with its fault, so that it is never copied.
 
 ghost use Rattle.std.specs.Prelude.{◌≡◌, IfOk, IfErr, OnOk};

@@ -1,5 +1,6 @@
 pub mod Folds
 pub mod PatternLemmas
+pub mod OpcodeLemmas
 pub mod DecoderLemmas
 pub mod ValueEquations
 pub mod DeedEquations

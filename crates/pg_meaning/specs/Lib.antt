@@ -1,5 +1,6 @@
 pub mod Patterns
 pub mod Fields
+pub mod Opcodes
 pub mod Decoders
 pub mod Values
 pub mod Bodies

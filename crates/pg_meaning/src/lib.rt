@@ -8,13 +8,16 @@
 //! Everything is total: a tree needs not be valid to have a meaning. Which descriptions are valid stands in `pg_valid`,
 //! above, and what is asked of an instruction in `pg_type`.
 //!
-//! Two things are code here. `patterns` has which words a pattern matches and its fields, place by place as they are
-//! defined. `decoder` has what is kept of a pattern, so that a step asks by one `and` and one comparison; it answers as
-//! the pattern does. `proofs/` has the equations of values and deeds, one a form, for those who compute with them.
+//! Three things are code here. `patterns` has which words a pattern matches and its fields, place by place as they are
+//! defined. `opcode` has the bits that a pattern tests, so that a step asks by one `and` and one comparison, and `decoder` its
+//! fields by their letters; both answer as the pattern does. `proofs/` has the equations of values and deeds, one a form, for
+//! those who compute with them.
 #![tactic(auto)]
 
 mod decoder;
+mod opcode;
 mod patterns;
 
-pub use decoder::{Decoder, decoders_of, taking_number};
+pub use decoder::{Decoder, decoders_of};
+pub use opcode::{Opcode, opcodes_of, taking_number};
 pub use patterns::{Field, field_of, matches, run_length};

@@ -2,7 +2,7 @@
 //!
 //! A pattern lists the bits of a word from the highest one on: 0 and 1 want that bit, a dot takes either, and so does a
 //! letter, whose run is a field. The functions are the definitions one for one, and go over the pattern; a machine that
-//! runs asks a decoder in their place. Nothing here takes memory.
+//! runs asks an opcode and a decoder in their place. Nothing here takes memory.
 
 ghost use Rattle.std.specs.Prelude.{◌≡◌, ◌≤◌, length};
 ghost use Rattle.pg_meaning.specs.Patterns.{bit_of_word, takes_bit, matches, run_length, field_of_letter, field_of};

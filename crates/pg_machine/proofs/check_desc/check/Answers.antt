@@ -16,5 +16,5 @@ of-requires c =
 pub of-requires-in-Ok-of-2-clause-table_is : goal.of-requires-in-Ok-of-2-clause-table_is
 of-requires-in-Ok-of-2-clause-table_is c =
     let t = c.in-Ok-of.table in
-    let P : List Instr → Type 0 = λ is. IsTable is t.decoders.items t.shift t.skips.items in
-    subst P c.as_slice.ensures c.in-Ok-of.ensures
+    let P : List Instr → Type 0 = λ is. IsTable is t.decoders.items t.opcodes.items t.shift t.skips.items in
+    subst P c.as_slice.ensures c.in-Ok-of.ensures.table
