@@ -6,7 +6,7 @@
 ghost use Rattle.std.specs.Prelude.{◌≡◌};
 ghost use Rattle.pg_hw.specs.Idling.{cause_where};
 
-use super::memory::{Memory, Ran, Works};
+use super::memory::{BurstEnd, Memory, Works};
 use super::parts::trap;
 use pg_machine::Machine;
 use pg_word::{Cause, Psw, window_len};
@@ -27,9 +27,9 @@ impl Works for Idling {
         Idling
     }
 
-    fn run(&mut self, cells: &mut [u64], psw: Psw, m: &Machine, k: u64) -> Ran {
+    fn run(&mut self, cells: &mut [u64], psw: Psw, m: &Machine, k: u64) -> BurstEnd {
         if k == 0 {
-            return Ran {
+            return BurstEnd {
                 psw,
                 done: 0,
                 untrapped: 0,
@@ -37,7 +37,7 @@ impl Works for Idling {
         }
         let usable = window_len(psw, cells.len() as u32);
         let cause = cause_of(psw.p, usable);
-        Ran {
+        BurstEnd {
             psw: trap(cells, m.shape(), psw, cause),
             done: 1,
             untrapped: 0,

@@ -26,6 +26,6 @@ mod runs;
 pub use counts::Counts;
 pub use hardware::Hardware;
 pub use idle::{Idle, Idling};
-pub use memory::{Memory, Ran, Works};
+pub use memory::{BurstEnd, Memory, Works};
 pub use parts::{raised, trap};
 pub use runs::{bare, power_on};

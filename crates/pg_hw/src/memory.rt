@@ -26,9 +26,9 @@ use pg_machine::Machine;
 use pg_word::Psw;
 use std::alloc::{AllocError, Global};
 
-/// What a run of steps leaves beside its stores.
+/// What a burst leaves beside its stores.
 #[derive(Clone, Copy)]
-pub struct Ran {
+pub struct BurstEnd {
     /// The program status word that follows.
     pub psw: Psw,
     /// The steps done, the one that trapped among them.
@@ -54,7 +54,7 @@ pub trait Works {
 
     /// Steps of a machine whose storage is `cells`, until `k` were done or one trapped, which is then the last: from 1 to
     /// `k`, or 0 where `k` is 0.
-    fn run(&mut self, cells: &mut [u64], psw: Psw, m: &Machine, k: u64) -> Ran
+    fn run(&mut self, cells: &mut [u64], psw: Psw, m: &Machine, k: u64) -> BurstEnd
         requires known { does m.now.desc }
         requires state { IsState m.now.desc (at_psw cells.old psw) }
         ensures done { result.done ≡ burst_length m.now.desc k (at_psw cells.old psw) }
@@ -97,11 +97,11 @@ impl<W: Works> Memory<W> {
         ensures state { at_psw self.new.cells.items self.new.psw ≡ steps m.now.desc result (at_psw self.old.cells.items self.old.psw) }
         ensures counts { self.new.counts ≡ after_run m.now.desc self.old.counts result (at_psw self.old.cells.items self.old.psw) }
     {
-        let ran = self.works.run(&mut self.cells, self.psw, m, k);
-        self.psw = ran.psw;
-        self.counts.steps = raised(self.counts.steps, ran.done);
-        self.counts.untrapped = raised(self.counts.untrapped, ran.untrapped);
-        ran.done
+        let end = self.works.run(&mut self.cells, self.psw, m, k);
+        self.psw = end.psw;
+        self.counts.steps = raised(self.counts.steps, end.done);
+        self.counts.untrapped = raised(self.counts.untrapped, end.untrapped);
+        end.done
     }
 }
 

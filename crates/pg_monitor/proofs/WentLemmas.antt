@@ -22,7 +22,7 @@ use Rattle.pg_hw.specs.Machinery.{Machinery}
 use Rattle.pg_hw.specs.Bursts.{traps, is_user, one_if, untrapped_at, untrapped_among, supervisor_among, burst_length, BottomRises}
 use Rattle.pg_hw.specs.Running.{Ran}
 use Rattle.pg_hw.proofs.TallyLaws.{raised_by-zero, RisesWithin-none}
-use Rattle.pg_hw.proofs.BurstLaws.{burst_length-goes_on, burst_length-some, untrapped_among-one}
+use Rattle.pg_hw.proofs.BurstLaws.{one_if-most, burst_length-goes_on, burst_length-some, untrapped_among-one}
 use Rattle.pg_routine.specs.Composing.{composed}
 use Rattle.pg_routine.specs.Granting.{with_grant}
 use Rattle.pg_routine.proofs.GrantLaws.{with_grant-same}
@@ -310,10 +310,6 @@ Went-none d h g runs =
       bottom = BottomTurns-none h.bottom;
       room = refl;
     }
-
-one_if-most : (b : Bool) → one_if b ≤ 1
-one_if-most true = omega arith
-one_if-most false = omega arith
 
 pub direct_among-most : (d : Desc) (base n : ℕ) (s : State) → direct_among d base n s ≤ n
 unfolding direct_among

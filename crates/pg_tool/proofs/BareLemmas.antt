@@ -1,17 +1,17 @@
 -- Runs of a bare machine: how many cells they leave, what they count, and the text of the state that they reach.
-use Rattle.std.proofs.Common.{◌≡◌, ℕ, zero, suc, ◌-◌, ◌<◌, ◌≤◌, ◌^◌, Bool, true, false, List, length, take, drop, replicate, All, Option, Result, Err, inl, inr, refl, sym, ◌∙◌, ap, subst, arith}
+use Rattle.std.proofs.Common.{◌≡◌, ℕ, ◌-◌, ◌<◌, ◌≤◌, ◌^◌, List, length, take, drop, replicate, All, Option, Result, Err, inl, inr, refl, sym, ◌∙◌, ap, subst, arith}
 use Rattle.std.proofs.lemmas.List.{length-append, length-replicate, take_all}
 use Rattle.std.proofs.lemmas.List.Elements.{All-take, All-drop}
 use Rattle.pg_word.specs.declared.psw.Psw.{Psw}
 use Rattle.pg_word.specs.declared.shape.Shape.{Shape}
 use Rattle.pg_ast.specs.declared.tree.Desc.{Desc}
 use Rattle.pg_meaning.specs.States.{State, IsState, shape_of}
-use Rattle.pg_meaning.specs.Steps.{steps, power_on, bare}
+use Rattle.pg_meaning.specs.Steps.{power_on, bare}
 use Rattle.pg_valid.specs.Valid.{IsValid}
 use Rattle.pg_valid.proofs.StepSound.{steps-state, steps-length, power_on-state}
-use Rattle.pg_hw.specs.Bursts.{one_if, untrapped_among, untrapped_at}
 use Rattle.pg_hw.specs.Machinery.{Machinery}
 use Rattle.pg_hw.specs.Running.{after_pokes, Ran}
+use Rattle.pg_hw.proofs.BurstLaws.{untrapped_among-most}
 use Rattle.pg_hw.specs.Serving.{blank}
 use Rattle.pg_hw.specs.Tallies.{after_load}
 use Rattle.pg_image.specs.Lines.{state_text}
@@ -61,18 +61,6 @@ span-fits w v g cells same h =
     subst (λ n. All (λ word. word < 2 ^ n) (span 0 g cells)) (sym same) (All-take (λ word. word < 2 ^ w) g (drop 0 cells) (All-drop (λ word. word < 2 ^ w) 0 cells h))
 
 -- ---- counts
-
-one_if-most : (b : Bool) → one_if b ≤ 1
-one_if-most true = omega arith
-one_if-most false = omega arith
-
-untrapped_at-most : (d : Desc) (s : State) → untrapped_at d s ≤ 1
-untrapped_at-most d s = one_if-most _
-
-untrapped_among-most : (d : Desc) (n : ℕ) (s : State) → untrapped_among d n s ≤ n
-unfolding untrapped_among
-untrapped_among-most d zero s = omega arith
-untrapped_among-most d (suc n) s = omega (arith, untrapped_among-most d n s, untrapped_at-most d (steps d n s))
 
 -- a hardware that was switched on with the image of a run
 abbrev pub switched_on : BareRun → Machinery → Machinery
