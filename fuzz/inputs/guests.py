@@ -119,7 +119,7 @@ def _small_machine(rng: Random) -> tree.Description:
 def checked(means: Means, text: bytes, budget: int = BUDGET, command: str = "check") -> bytes:
     """What `check` or `hcheck` saves of a description, or else one that is written here."""
     saved = means.checker.certificate(text, budget, command)
-    return certificates.certificate_of(Random(text), read(text), means.questions) if saved is None else saved
+    return _written(Random(text), means, read(text)) if saved is None else saved
 
 
 def _own(rng: Random, means: Means, description: tree.Description) -> bytes:
@@ -128,8 +128,8 @@ def _own(rng: Random, means: Means, description: tree.Description) -> bytes:
 
 
 def _written(rng: Random, means: Means, description: tree.Description) -> bytes:
-    """One that has other logs and pairs than those of `check`, of either version."""
-    return certificates.certificate_of(rng, description, means.questions)
+    """One that has other logs and pairs than those of `check`, of either version; nothing of a description that is not valid."""
+    return certificates.certificate_of(rng, description, means.questions) if _is_valid(description) else b""
 
 
 def _of_another(rng: Random, means: Means, _description: tree.Description) -> bytes:
