@@ -18,6 +18,6 @@ mod shape;
 mod sparse;
 
 pub use cause::Cause;
-pub use psw::{Mode, Psw, pack, pack_trap, unpack, window_len};
+pub use psw::{Mode, NEW_PSW_CELL, OLD_PSW_CELL, Psw, pack, pack_trap, unpack, window_len};
 pub use shape::Shape;
 pub use sparse::{CellList, Sparse};

@@ -15,6 +15,12 @@ ghost use Rattle.pg_word.specs.Psw.{IsPsw, bit_of, packed, packed_trap, power_on
 use super::bits::above;
 use super::shape::Shape;
 
+/// The cell in which a trap stores the program status word at entry.
+pub const OLD_PSW_CELL: u32 = 0;
+
+/// The cell whose word a trap loads as the program status word.
+pub const NEW_PSW_CELL: u32 = 1;
+
 /// The mode of the machine: supervisor or user.
 #[derive(Clone, Copy, Debug, PartialEq, Eq)]
 pub enum Mode {
