@@ -4,6 +4,11 @@
 //! each node of a circuit a variable, and to the ands and exclusive ors the clauses that tie it to those of the operands:
 //! `specs/Encoded.antt` says which. An assignment makes them all true exactly where it is what the nodes are worth on some
 //! values of the inputs, and the root is true: that is the law of `laws`.
+//!
+//! # Modules
+//!
+//! - `clause`: clauses, and formulas of them. `encoding`: the clauses of a circuit.
+//! - `laws`: what these clauses say. `rows`: those of worked circuits.
 #![tactic(auto)]
 
 mod clause;
