@@ -11,6 +11,12 @@
 //! [`MemShelf`] and [`MemSink`] hold everything in memory and tell it. They fail at the calls that they
 //! were asked to fail at, where a write would pass the room, and where a save names no file, and nowhere
 //! else, so that tests can meet every refusal.
+//!
+//! # Modules
+//!
+//! - `shelf`, `sink`: the traits.
+//! - `mem_shelf`, `mem_sink`: both in memory. `mem_file`: the files of such a shelf. `failing`: the calls that are to fail.
+//! - `count`: counters that stay at their last value.
 #![tactic(auto)]
 
 mod count;
