@@ -8,6 +8,17 @@
 //! Where a clause is false under a trail of literals, the literals that are to blame are traced back along the trail. The
 //! clause that is learned says that they are not all as they are; its hints are the clauses that it was resolved from.
 //! `specs/Cut.antt` says what is traced.
+//!
+//! # Modules
+//!
+//! - `solver`: the calls. `answer`: what they answer.
+//! - `turn`: one turn of the search. `search`: a literal that is assigned, and what follows. `conflict`: what is done at a
+//!   conflict. `jump`: how far the trail is cut then.
+//! - `learn`: the step that a conflict teaches. `trace`: the conflict, traced back along the trail. `flags`: the literals that a
+//!   trace has come to. `shrink`: fewer of them. `draw`: the step that they make.
+//! - `decide`: what is assigned next. `guide`: what that goes by, of which nothing is said in contracts: `heap`, variables by how
+//!   much they took part in conflicts; `pace`, when the search begins anew; `plan`, variables that may be equal, which are
+//!   `pairs` of `gates` with the same `marks`.
 #![tactic(auto)]
 
 mod answer;
