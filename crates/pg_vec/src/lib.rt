@@ -12,6 +12,12 @@
 //!
 //! `gate` and `compare` are for those who build further strings of the same gates, and count their nodes: each call says
 //! exactly how many it adds at most.
+//!
+//! # Modules
+//!
+//! - `bits`: strings. `ops`: the operations on them. `pairwise`, `sum`, `product`, `shift`: what these are made of.
+//! - `gate`: single gates. `compare`: gates that compare two strings.
+//! - `laws`: what follows from the definitions alone.
 #![tactic(auto)]
 
 mod bits;
