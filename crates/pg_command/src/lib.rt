@@ -15,6 +15,13 @@
 //! command more is such a module in the code, in the definitions and among the laws, each named in its `Lib.antt`; a variant
 //! of [`Request`]; and a line in each place where commands are told apart: `command_line` and `asked` (`line.rt`), `commands`
 //! (`specs/Line.antt`), and the two laws of each command (`proofs/CommandLaws.antt`).
+//!
+//! # Modules
+//!
+//! - `line`: the whole line. `ask`: what it asks for, and why there is nothing that it asks for.
+//! - `bare`, `check`, `verify`, `replay`, `run`, `print`, `generating` (the command `gen`), `migrate`, `hcheck`: the commands.
+//! - `arguments`: the arguments that commands are made of. `running`: those of commands that run images. `values`: what arguments
+//!   give.
 #![tactic(auto)]
 
 ghost use Rattle.std.specs.Prelude.{◌≡◌, ◌≢◌, ◌↔◌, ◌⊎◌, IfOk, IsErrOf, Some, None, [], map, string_bytes};
