@@ -5,7 +5,7 @@
 //! it has a pair of states as a window, two program status words and two sizes (`specs/Pair.antt`). `laws` says that
 //! nothing is lost by that: two states show a kind exactly where they are those of a pair that shows it.
 //!
-//! `placed` goes back from a pair to its states: it makes the state of a window of which few words are named, with zeros in
+//! `placing` goes back from a pair to its states: it makes the state of a window of which few words are named, with zeros in
 //! all other cells, and `laws` says that two such states are those of their pair.
 #![tactic(auto)]
 
