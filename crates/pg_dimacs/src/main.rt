@@ -5,7 +5,7 @@
 //! KIND is `privileged`, `control`, `mode`, `location`, `bound`, `ucontrol`, `ulocation` or `ubound`. What is written is a
 //! formula in the format DIMACS CNF, which can be true exactly where two states show the kind of the instruction: lines of
 //! comment that say what its variables stand for (`comments`), and its text (`text`). Refusals have the lines and statuses of
-//! `pgv`. Nothing that `pgv` does stands on this program.
+//! `pgv` (`stop`). The words are read in `request`, and the file in `load`. Nothing that `pgv` does stands on this program.
 #![tactic(auto)]
 
 ghost use Rattle.std.specs.Prelude.{◌≡◌, ◌<◌, length, slice_get, Some, IfSome, IfOk};

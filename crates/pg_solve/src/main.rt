@@ -2,8 +2,9 @@
 //!
 //!     pg_solve FILE [BUDGET] [--check]
 //!
-//! `dimacs` reads the file; `pg_sat` solves, and learns at most BUDGET clauses; `pg_proof` checks. What is written is what
-//! solvers write, so that this one can be run beside others. Nothing that `pgv` does stands on this program.
+//! `request` reads the words and `dimacs` the file; `pg_sat` solves, and learns at most BUDGET clauses; `log` hands the log to the
+//! checker of `pg_proof`. What is written is what solvers write, so that this one can be run beside others. Nothing that `pgv`
+//! does stands on this program.
 #![tactic(auto)]
 
 mod dimacs;
