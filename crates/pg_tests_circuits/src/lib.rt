@@ -5,6 +5,8 @@
 //! table of operands, and compared with the machine's own arithmetic, at each width of a table; and again on constants,
 //! with values that were worked out by hand. That it is right for all operands is proved; here it is seen that the
 //! definitions of the proof mean what a machine computes.
+//!
+//! - `gates`: gates, and which need no node. `strings`: the operations on strings. `clauses`: clauses of small circuits.
 #![tactic(auto)]
 
 #[cfg(test)]

@@ -11,6 +11,7 @@
 //! - `listed`: the operations of a body.
 //! - `machines`: what a machine is asked for.
 //! - `outcomes`: instructions executed.
+//! - `texts`: descriptions of texts.
 #![tactic(auto)]
 
 #[cfg(test)]

@@ -1,5 +1,5 @@
-//! Tests of the solver's parts, of public calls alone, against what was worked out by hand: what a checker takes of logs, and
-//! where propagation leads.
+//! Tests of the solver and of its parts, of public calls alone, against what was worked out by hand: answers (`tests/sat`), what a
+//! checker takes of logs (`proof`), and where propagation leads (`watch`).
 #![tactic(auto)]
 
 #[cfg(test)]
