@@ -4,8 +4,9 @@
 //! each is a few machine instructions: sums and products wrap at 64 bits first and are cut to n bits then, which is the
 //! same since `2^n` divides `2^64`.
 //!
-//! The interpreter computes with these functions. Strings of gates are proved against the definitions that they cite, so
-//! that a circuit and a run mean the same by an operator.
+//! The definitions that they cite are what bodies mean by an operator. The operations of code and the strings of gates are
+//! proved against these, so that a run and a circuit mean the same; whoever computes with such numbers elsewhere calls the
+//! functions.
 
 ghost use Rattle.std.specs.Prelude.{◌≡◌, ◌+◌, ◌-◌, ◌*◌, ◌%◌, ◌^◌, ◌<◌, ◌≤◌, bit_and, bit_or, bit_xor, if◌then◌else◌, ◌==◌};
 ghost use Rattle.pg_word.specs.Bits.{IsWidth, sum_of, difference_of, product_of, complement_of, left_shifted, right_shifted, bits_between, joined, sign_extended, equal_bit, below_bit};

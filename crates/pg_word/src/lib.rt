@@ -7,6 +7,14 @@
 //! description language's expressions: each is the arithmetic one, for every width from 1 to 64.
 //!
 //! All of it takes no memory and refuses nothing: what a call needs of its numbers stands in its `requires`.
+//!
+//! # Modules
+//!
+//! - `shape`: the numbers of a machine. `psw`: program status words, their words, the cells of a trap, and windows. `cause`: why a
+//!   step traps.
+//! - `bits`: numbers of n bits. `bytes`: words as bytes.
+//! - `sparse`: states of which only the cells that are not zero are listed.
+//! - `laws`: what follows from the definitions alone.
 #![tactic(auto)]
 
 pub mod bits;
