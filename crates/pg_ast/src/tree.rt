@@ -4,8 +4,8 @@
 //! exactly where they are the same description, whatever their storage. Expressions and statements may
 //! go down any number of levels here: the limits stand on `Instr`, whose body is known to keep them, so
 //! that a walk over it recurses no further. The reader makes trees, the printer writes them, the tests
-//! of validity go over them, and the interpreter executes the bodies. What a tree means is defined above
-//! this crate; here stand its parts and, by its tokens, how each is written.
+//! of validity go over them, and of the bodies code and gates are made. What a tree means is defined
+//! above this crate; here stand its parts and, by its tokens, how each is written.
 
 ghost use Rattle.std.specs.Prelude.{◌≡◌, ◌↔◌, IsSome, IfSome};
 ghost use Rattle.pg_ast.specs.Levels.{IsShallow};
