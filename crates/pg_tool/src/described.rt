@@ -1,7 +1,7 @@
 //! Bytes to machines.
 //!
 //! `load_machine` calls `machine_of` with the bytes of a file. They are read (`pg_read`), and what is read is checked
-//! (`pg_type`); the first fault of either becomes the line that tells of it, each the one of its name. The bytes are known
+//! (`pg_machine`); the first fault of either becomes the line that tells of it, each the one of its name. The bytes are known
 //! to keep the reader's limit, so its `Long` never comes. Want of memory is no fault of the text, and has no line.
 
 ghost use Rattle.std.specs.Prelude.{◌≡◌, ◌≤◌, length, IfOk, IfErr, IfSome, Ok, Err};
