@@ -5,6 +5,15 @@
 //! it has taken the empty clause, no assignment makes all clauses of the question true, whoever wrote the log.
 //!
 //! It shares nothing with a solver but the literals. `specs/Refutation.antt` says what a valid step is.
+//!
+//! # Modules
+//!
+//! - `step`: what a log is made of, and why a step is refused. `question`: what is taken of a question.
+//! - `checker`: the checker and its calls. `propagation`: whether a step is valid. `removal`: clauses that are taken away.
+//! - `tight`: whether a step is the resolvent of its hints' clauses. `cover`: whether a clause held is part of some literals.
+//! - `marks`: flags that are all taken down at once.
+//! - `replay`: whole logs. `trimming`: the steps of a log that show something. `tidying`: removals behind the last use of clauses.
+//! - `laws`: what the definitions of a refutation say.
 #![tactic(auto)]
 
 mod checker;
