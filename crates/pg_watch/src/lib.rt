@@ -4,7 +4,8 @@
 //! left or a clause is falsified: `specs/Trail.antt` says what these words mean. From below: `arena` has the clauses
 //! and `assignment` the trail with the values of all literals; `look` goes through one clause; `lists` and `index` say which
 //! clauses watch which literals; `visit`, `walk` and `queue` draw what follows from one visit, one list and all that was set;
-//! `fresh` looks at clauses that watch none, `attach` finds literals for them, and `settle` joins both.
+//! `fresh` looks at clauses that watch none, `attach` finds literals for them, and `settle` joins both. `watches` has the calls,
+//! and `fix` says where propagation ends.
 #![tactic(auto)]
 
 mod arena;
