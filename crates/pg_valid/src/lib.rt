@@ -1,8 +1,8 @@
 //! Which descriptions are valid, and what a valid one is sure of.
 //!
 //! `specs/Valid.antt` says which: seven classes, each a condition on the description alone, and the fault of the first
-//! class that has one. `test_all` tests a description; of one that is not valid it tells that fault, a `TypeFault`. A valid
-//! one is made into a `Machine` above, in `pg_machine`.
+//! class that has one. `test_all` (`check_desc`) tests a description; of one that is not valid it tells that fault, a
+//! `TypeFault` (`fault`). A valid one is made into a `Machine` above, in `pg_machine`.
 //!
 //! The seven classes are tested in `classes`, in their order: the head there; how much is held in `limits`; names given
 //! twice in `twice` and, for instructions, with a `table` that a machine keeps; patterns of the wrong form in

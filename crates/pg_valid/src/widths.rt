@@ -1,7 +1,7 @@
 //! Widths of expressions.
 //!
 //! The seventh class of validity. In the definitions of what a body does each value carries its width; a body without a
-//! fault of this class never meets a width that does not fit, which is what the interpreter rests on. The small
+//! fault of this class never meets a width that does not fit, which is what code and gates of it rest on. The small
 //! functions are the rows of the table of widths, `None` where an expression or a part of it breaks it. Statements are
 //! gone over in the order of the text with the visible lets and their widths, and the lets of a block end with it; they
 //! are counted in that order from 0, an if before those inside it, and a fault has the place of the first whose own
