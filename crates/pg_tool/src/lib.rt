@@ -2,7 +2,8 @@
 //!
 //! `tool` reads the words and does what they ask for: it loads the files that they name, works on the hardware that it is
 //! given, and puts the text of it into the sink that it is given. It makes no file, stream or hardware itself: what it is
-//! given is seen through the traits `Shelf`, `Sink` and `Hardware` alone. The program `pgv` calls it once.
+//! given is seen through the traits `Shelf`, `Sink` and `Hardware` alone. The program `pgv` makes one call, `tool_watched`, which
+//! tells a watcher besides of each question that is asked.
 //!
 //! A command has a module of its own, in `src`, `specs` and `proofs` alike, and one line in each of three places: the words
 //! (`pg_command`), the definition (`command_of`, `specs/Asking.antt`) and `carry` below. Its definition is a `Command`
