@@ -2,11 +2,11 @@
 //!
 //! What is asked of an instruction, as the 1974 paper does (section 3): whether it is privileged, and whether it is
 //! sensitive, to the mode, to the place of its window, or to the bound. `specs/Kinds.antt` says which two states show a
-//! kind (`Kind`), `Accepting` what it is for a description to be accepted, `PaperWords` the same in the paper's own
+//! kind (`Kind`, in `kind`), `Accepting` what it is for a description to be accepted, `PaperWords` the same in the paper's own
 //! words. They compute: `rows` has runs and pairs of states that were worked out by hand, over the machines of
 //! `Examples`.
 //!
-//! An `Accepted` is a machine whose instructions are as the monitor of Theorem 1 needs them, a `HybridAccepted` as that
+//! An `Accepted` (`accepted`) is a machine whose instructions are as the monitor of Theorem 1 needs them, a `HybridAccepted` as that
 //! of Theorem 3. `alike` says what a monitor gains by it: what is done in user mode is done alike wherever the window and
 //! P are the same. `laws` has what else follows from the definitions alone.
 //!
