@@ -41,8 +41,3 @@ IsLooked clauses old new place (Conflict number) = IsConflict clauses new.litera
 abbrev pub AreSeen : List (List ℤ) → Trail → Trail → List ℕ → Fix → Type 0
 AreSeen clauses old new places Quiet = (length new.literals ≡ length old.literals → AreOpen clauses new.literals places)
 AreSeen clauses old new places (Conflict number) = IsConflict clauses new.literals number
-
--- nothing is left of them, or a clause is falsified
-abbrev pub IsStill : List (List ℤ) → Trail → List ℕ → Fix → Type 0
-IsStill clauses new places Quiet = AreOpen clauses new.literals places
-IsStill clauses new places (Conflict number) = IsConflict clauses new.literals number
