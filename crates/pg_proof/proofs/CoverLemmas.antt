@@ -10,12 +10,16 @@ use Rattle.std.proofs.lemmas.List.Folds.{list_any-append}
 use Rattle.std.proofs.lemmas.Bool.Decides.{Decides-int_eq, nat_tests}
 use Rattle.pg_proof.specs.Places.{has, place, is_marked, AreWithin}
 use Rattle.pg_proof.specs.State.{clause_at, AreHeldWithin}
-use Rattle.pg_proof.specs.Covered.{passes, is_covered, home, is_listed, AreHung, list_passes, place_passes, homes_pass}
+use Rattle.pg_proof.specs.Covered.{passes, is_covered, home, is_listed, AreHung, list_passes, place_passes}
 use Rattle.pg_proof.specs.Removal.{without}
 use Rattle.pg_proof.specs.Marked.{marked}
 use Rattle.pg_proof.proofs.WithinLemmas.{both}
 use Rattle.pg_proof.proofs.MarkedLemmas.{place-same, place-below, none_up, or_false, swapped, AreHeldWithin-clause}
 use Rattle.pg_proof.proofs.RemovalLemmas.{one_of}
+
+-- whether a clause passes that is listed at place 0 or at the place of one of these literals
+abbrev pub homes_pass : (ℤ → Bool) → List (Option (List ℤ)) → List (List ℕ) → List ℤ → Bool
+homes_pass test held hung lits = place_passes test held hung 0 || list_any (λ z. place_passes test held hung (place z)) lits
 
 -- flags of literals, some of which may have no place
 marked_known : (flags : List Bool) (z y : ℤ) (b : Bool) → place y < length flags → int_eq z y ≡ b →

@@ -13,9 +13,9 @@ use Rattle.pg_proof.specs.Places.{has, negations, place, is_marked, IsWithin, Ar
 use Rattle.pg_proof.specs.Reading.{reading}
 use Rattle.pg_proof.specs.State.{clause_at, AreHeldWithin}
 use Rattle.pg_proof.specs.Refutation.{are_ascending, is_last, at_reading, at_clause, walk, fault_of}
-use Rattle.pg_proof.specs.Marked.{marked, walk_marked, read_on, IsReadWithin}
+use Rattle.pg_proof.specs.Marked.{marked, walk_marked, IsReadWithin}
 use Rattle.pg_proof.proofs.WithinLemmas.{AreHeldWithin-at}
-use Rattle.pg_proof.proofs.ReadingLemmas.{read_on-reading, IsReadWithin-literal}
+use Rattle.pg_proof.proofs.ReadingLemmas.{read_on, read_on-reading, IsReadWithin-literal}
 
 pub place-same : (a b : ℤ) → place a ≡ place b → a ≡ b
 place-same (pos a) (pos b) e = ap pos (omega arith)

@@ -6,7 +6,12 @@ use Rattle.pg_proof.proofs.WithinLemmas.{AreWithin-drop}
 use Rattle.pg_proof.specs.declared.propagation.Reading.{Reading}
 use Rattle.pg_proof.specs.declared.propagation.Reading.TheVariants.{Falsified, Unit, Neither}
 use Rattle.pg_proof.specs.Reading.{open_of, reading_of, reading}
-use Rattle.pg_proof.specs.Marked.{with_open, with_literal, read_on, IsReadWithin}
+use Rattle.pg_proof.specs.Marked.{with_open, with_literal, IsReadWithin}
+
+-- the reading of a clause's rest, after a part that was read
+abbrev pub read_on : (ℤ → Bool) → Reading → List ℤ → Reading
+read_on is_true r [] = r
+read_on is_true r (z ∷ zs) = read_on is_true (with_literal is_true r z) zs
 
 module _ (t : ℤ → Bool) where
   one_neither : (f s : Bool) (zs : List ℤ) → read_on t Neither zs ≡ Neither → read_on t (if f then Neither else (if s then Neither else Neither)) zs ≡ Neither

@@ -3,9 +3,15 @@ use Rattle.std.proofs.Common.{◌≡◌, ℕ, zero, suc, ◌+◌, ◌-◌, ◌<�
 use Rattle.std.specs.Option.{option_and_then}
 use Rattle.std.proofs.lemmas.List.{drop_more, drop_all, length-set, length-replicate}
 use Rattle.pg_proof.specs.State.{State, clause_at, AreHeldWithin}
-use Rattle.pg_proof.specs.Removal.{without, unflagged}
+use Rattle.pg_proof.specs.Removal.{without}
 use Rattle.pg_proof.specs.Sound.{held_true, all_held_true, IsSound}
 use Rattle.pg_proof.proofs.WithinLemmas.{both}
+
+-- what is held without the clauses whose flags are up
+abbrev pub unflagged : List (Option (List ℤ)) → List Bool → List (Option (List ℤ))
+unflagged [] flags = []
+unflagged (c ∷ held) [] = c ∷ held
+unflagged (c ∷ held) (b ∷ flags) = (if b then None else c) ∷ unflagged held flags
 
 -- no flag up, or one more
 pub unflagged-none : (held : List (Option (List ℤ))) (n : ℕ) → unflagged held (replicate n false) ≡ held

@@ -1,5 +1,6 @@
 -- Tight steps by flags: a literal that is set can stand negated in no earlier clause.
 use Rattle.std.proofs.Common.{◌≡◌, ℕ, zero, suc, ◌+◌, ◌*◌, ◌<◌, Bool, true, false, not, cond, ◌||◌, ◌&&◌, List, [], ◌∷◌, ◌++◌, length, set, replicate, Option, Some, None, is_none, unwrap_or, refl, sym, ap, subst, ◌∙◌, arith, ℤ, pos, negsuc, neg_ℤ, nat_abs, if◌then◌else◌, append_assoc}
+use Rattle.std.specs.Prelude.{⊤}
 use Rattle.std.specs.List.{list_all}
 use Rattle.std.specs.Ordering.{int_eq}
 use Rattle.std.proofs.lemmas.List.{length-set, length-replicate}
@@ -13,7 +14,7 @@ use Rattle.pg_proof.specs.Reading.{open_of, reading_of, reading}
 use Rattle.pg_proof.specs.State.{clause_at, AreHeldWithin}
 use Rattle.pg_proof.specs.Refutation.{fault_of}
 use Rattle.pg_proof.specs.Tight.{literals_at, hint_clauses, stands_in, at_set, sets_used, is_tight}
-use Rattle.pg_proof.specs.Marked.{marked, marked_all, sets_marked, AreAllWithin, IsReadWithin}
+use Rattle.pg_proof.specs.Marked.{marked, marked_all, sets_marked, IsReadWithin}
 use Rattle.pg_proof.proofs.MarkedLemmas.{is_marked-marked, length-marked, none_up, or_false, swapped, shown, shows-marked, place-below, AreWithin-negations, AreHeldWithin-clause, IsReadWithin-reading}
 use Rattle.pg_proof.proofs.SoundLemmas.{reading_of-unit, valid_within}
 
@@ -24,6 +25,10 @@ within_at n (Some c) h = h c refl
 
 pub AreWithin-literals : (n : ℕ) (held : List (Option (List ℤ))) (h : ℕ) → AreHeldWithin n held → AreWithin n (literals_at held h)
 AreWithin-literals n held h w = within_at n (clause_at held h) (λ c e. AreHeldWithin-clause n held h c e w)
+
+abbrev pub AreAllWithin : ℕ → List (List ℤ) → Type 0
+AreAllWithin places [] = ⊤
+AreAllWithin places (c ∷ cs) = AreWithin places c × AreAllWithin places cs
 
 pub AreAllWithin-hints : (n : ℕ) (held : List (Option (List ℤ))) (hs : List ℕ) → AreHeldWithin n held → AreAllWithin n (hint_clauses held hs)
 AreAllWithin-hints n held [] w = tt

@@ -1,5 +1,5 @@
 -- Clauses that are part of others: what is covered says no more than a clause that is held.
-use Rattle.std.specs.Prelude.{◌≡◌, ℕ, ◌+◌, Bool, true, false, ◌||◌, nat_eq, ℤ, List, [], ◌∷◌, Option, None, Some, slice_get, slice_index_or, slice_set, ◌++◌}
+use Rattle.std.specs.Prelude.{◌≡◌, ℕ, ◌+◌, Bool, true, false, nat_eq, ℤ, List, [], ◌∷◌, Option, None, Some, slice_get, slice_index_or, slice_set, ◌++◌}
 use Rattle.std.specs.List.{list_any, list_all}
 use Rattle.pg_proof.specs.Places.{has, place}
 use Rattle.pg_proof.specs.State.{clause_at}
@@ -33,9 +33,6 @@ AreHung hung held = (k : ℕ) (c : List ℤ) → slice_get held k ≡ Some (Some
 abbrev pub list_passes : (ℤ → Bool) → List (Option (List ℤ)) → List ℕ → Bool
 list_passes test held numbers = list_any (λ n. passes test (clause_at held n)) numbers
 
--- the same in the list at a place, and in those of the places of some literals
+-- the same in the list at a place
 abbrev pub place_passes : (ℤ → Bool) → List (Option (List ℤ)) → List (List ℕ) → ℕ → Bool
 place_passes test held hung p = list_passes test held (slice_index_or hung p [])
-
-abbrev pub homes_pass : (ℤ → Bool) → List (Option (List ℤ)) → List (List ℕ) → List ℤ → Bool
-homes_pass test held hung lits = place_passes test held hung 0 || list_any (λ z. place_passes test held hung (place z)) lits

@@ -4,7 +4,7 @@ use Rattle.pg_proof.specs.declared.propagation.Reading.{Reading}
 use Rattle.pg_proof.specs.declared.propagation.Reading.TheVariants.{Falsified, Unit, Neither}
 use Rattle.pg_proof.specs.declared.step.ProofFault.{ProofFault}
 use Rattle.pg_proof.specs.declared.step.ProofFault.TheVariants.{NoConflict}
-use Rattle.pg_proof.specs.Places.{place, is_marked, IsWithin, AreWithin}
+use Rattle.pg_proof.specs.Places.{place, is_marked, IsWithin}
 use Rattle.pg_proof.specs.Reading.{reading}
 use Rattle.pg_proof.specs.State.{clause_at}
 use Rattle.pg_proof.specs.Tight.{at_set}
@@ -18,11 +18,6 @@ with_open Neither z = Neither
 
 abbrev pub with_literal : (ℤ → Bool) → Reading → ℤ → Reading
 with_literal is_true r z = (if is_true (neg_ℤ z) then r else (if is_true z then Neither else with_open r z))
-
--- the reading of a clause's rest, after a part that was read
-abbrev pub read_on : (ℤ → Bool) → Reading → List ℤ → Reading
-read_on is_true r [] = r
-read_on is_true r (z ∷ zs) = read_on is_true (with_literal is_true r z) zs
 
 -- a literal that a reading sets is one whose places are among so many
 abbrev pub IsReadWithin : ℕ → Reading → Type 0
@@ -51,7 +46,3 @@ abbrev pub sets_marked : List Bool → List Bool → List (List ℤ) → Bool
 sets_marked standing flags [] = true
 sets_marked standing flags (c ∷ cs) =
     at_set (reading (is_marked flags) c) (λ z. is_marked standing (neg_ℤ z) && sets_marked standing (slice_set flags (place z) true) cs)
-
-abbrev pub AreAllWithin : ℕ → List (List ℤ) → Type 0
-AreAllWithin places [] = ⊤
-AreAllWithin places (c ∷ cs) = AreWithin places c × AreAllWithin places cs

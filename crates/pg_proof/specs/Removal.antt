@@ -1,5 +1,5 @@
 -- Clauses that are taken away.
-use Rattle.std.specs.Prelude.{ℕ, ◌-◌, Bool, if◌then◌else◌, ℤ, List, [], ◌∷◌, Option, None, Some, is_some, slice_set}
+use Rattle.std.specs.Prelude.{ℕ, ◌-◌, if◌then◌else◌, ℤ, List, [], ◌∷◌, Option, None, Some, is_some, slice_set}
 use Rattle.std.specs.Option.{option_map}
 use Rattle.pg_proof.specs.State.{State, clause_at}
 
@@ -11,9 +11,3 @@ without held (n ∷ ns) = (if is_some (clause_at held n) then without (slice_set
 -- the state without them: variables, and whether it is closed, stay
 abbrev pub after_removal : State → List ℕ → Option State
 after_removal state numbers = option_map (λ held. record state { held = held }) (without state.held numbers)
-
--- what is held without the clauses whose flags are up
-abbrev pub unflagged : List (Option (List ℤ)) → List Bool → List (Option (List ℤ))
-unflagged [] flags = []
-unflagged (c ∷ held) [] = c ∷ held
-unflagged (c ∷ held) (b ∷ flags) = (if b then None else c) ∷ unflagged held flags
