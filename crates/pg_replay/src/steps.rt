@@ -12,7 +12,7 @@ use crate::stored::{after_stores, stored};
 use crate::window::window_of;
 use pg_interp::{Effect, Outcome, execute};
 use pg_machine::Machine;
-use pg_word::{Cause, Sparse, pack_trap, unpack};
+use pg_word::{Cause, NEW_PSW_CELL, OLD_PSW_CELL, Sparse, pack_trap, unpack};
 use std::alloc::{AllocError, Global};
 
 /// One step of a machine: why it trapped, none where it was done, and the state that follows. The error is want of memory.
@@ -42,8 +42,8 @@ fn trap(
 {
     let shape = m.shape();
     let word = pack_trap(shape, s.psw, cause.number());
-    let mut state = stored(alloc, s, 0, word)?;
-    state.psw = unpack(shape, s.cell(1));
+    let mut state = stored(alloc, s, OLD_PSW_CELL, word)?;
+    state.psw = unpack(shape, s.cell(NEW_PSW_CELL));
     Ok((Some(cause), state))
 }
 
