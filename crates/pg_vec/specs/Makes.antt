@@ -9,7 +9,8 @@ use Rattle.pg_vec.specs.AddsNodes.{AddsNodes}
 use Rattle.pg_vec.specs.There.{AreThere, AreValues}
 
 -- At most so many nodes are added, and a gate is there which is worth this, from the values of all nodes, in every circuit
--- that begins with the nodes that there are then.
+-- that begins with the nodes that there are then. It serves the laws of single gates, here and in crates above; no contract
+-- cites it.
 pub record MakesGate (nodes : List Node) (made : Gate × List Node) (most : ℕ) (worth : List Bool → Bool) : Type 0 where
   pub circuit : IsCircuit made.1
   pub adds : AddsNodes nodes made.1 most
