@@ -8,6 +8,7 @@ pub mod Verdicts
 pub mod Typed
 pub mod Counted
 pub mod Fares
+pub mod Sized
 pub use Rattle.pg_meaning.specs.Patterns
 pub use Rattle.pg_meaning.specs.Fields
 pub use Rattle.pg_meaning.specs.Decoders
