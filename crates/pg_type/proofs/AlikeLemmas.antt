@@ -1,6 +1,6 @@
 -- An instruction that is not sensitive is done alike at all states that have the same window and the same P:
 -- from one state to another lead pairs that differ in the bound alone, in the place alone, in the bound again, and in the
--- mode.
+-- mode. All but the last are pairs of user states, so that between user states it is enough not to be user sensitive.
 use Rattle.std.proofs.Common.{◌≡◌, ◌≢◌, ◌⊎◌, ℕ, ◌+◌, ◌-◌, ◌^◌, ◌<◌, ◌≤◌, Bool, true, false, ◌==◌, List, ◌++◌, length, take, replicate, slice_get, Option, None, Some, refl, sym, ◌∙◌, ap, subst, arith, inl, inr, length-append}
 use Rattle.std.specs.Prelude.{IsSomeAnd, IsTrue, bytes_eq}
 use Rattle.std.proofs.lemmas.Bool.Decides.{eqb_tells, not_from_Decides}
@@ -19,10 +19,11 @@ use Rattle.pg_meaning.specs.Patterns.{matches}
 use Rattle.pg_meaning.specs.Bodies.{Course, MemTrapped, Trapped, Going, After, body}
 use Rattle.pg_valid.specs.Typed.{AreWords}
 use Rattle.pg_meaning.specs.States.{State, IsState, window_length, window, in_user}
-use Rattle.pg_type.specs.Kinds.{IsAt, fetched_word, course_at, Observation, SeenMemTrap, SeenTrap, SeenDone, observed, observation, IsDone, ChangesControl}
-use Rattle.pg_type.specs.Accepting.{IsPrivileged, IsInnocuous}
+use Rattle.pg_type.specs.Kinds.{IsAt, fetched_word, course_at, Observation, SeenMemTrap, SeenTrap, SeenDone, observed, observation, IsDone, ChangesControl, ShowsLocation, ShowsBound}
+use Rattle.pg_type.specs.Accepting.{IsPrivileged, IsInnocuous, IsUserInnocuous}
 use Rattle.pg_type.specs.Alike.{LookAlike, DoneAlike, Places}
 use Rattle.pg_valid.proofs.StepSound.{window-length, window-words}
+use Rattle.pg_type.proofs.KindLaws.{innocuous-user}
 
 -- what is not different is the same: lists, modes, observations
 list_same : (xs ys : List ℕ) → ¬ (xs ≢ ys) → xs ≡ ys
@@ -131,57 +132,49 @@ placed-state d cells psw h least words fields =
       fields = fields;
     }
 
--- a window under another bound, at the same place
-bound_alike : (d : Desc) (i : Instr) (s t : State) → IsInnocuous d i → IsState d s → IsState d t → LookAlike s t → IsAt i s →
+-- a window under another bound, at the same place: no such pair shows that the bound counts
+bound_alike : (d : Desc) (i : Instr) (s t : State) → (¬ ShowsBound d i s t) → IsState d s → IsState d t → LookAlike s t → IsAt i s →
     s.psw.mode ≡ t.psw.mode → s.psw.l ≡ t.psw.l → IsDone (course_at d i s) → observation d i s ≡ observation d i t
-bound_alike d i s t harmless first second same at mode l done = by_bound (equal_or_not s.psw.b t.psw.b)
+bound_alike d i s t unshown first second same at mode l done = by_bound (equal_or_not s.psw.b t.psw.b)
   where
     by_bound : (s.psw.b ≡ t.psw.b) ⊎ (s.psw.b ≢ t.psw.b) → observation d i s ≡ observation d i t
     by_bound (inl e) = ap observed (course_same d i s t same.same_window (psw_same s.psw t.psw mode same.same_p l e))
-    by_bound (inr e) = observation_same (observation d i s) (observation d i t) (λ other. harmless.bound (
-      s,
-      t,
-      record {
-        first = first;
-        second = second;
-        at_first = at;
-        at_second = at_alike i s t same at;
-        same_l = l;
-        same_mode = mode;
-        same_p = same.same_p;
-        same_window = same.same_window;
-        other_bound = e;
-        done = inl done;
-        differ = other;
-      },
-    ))
+    by_bound (inr e) = observation_same (observation d i s) (observation d i t) (λ other. unshown (record {
+      first = first;
+      second = second;
+      at_first = at;
+      at_second = at_alike i s t same at;
+      same_l = l;
+      same_mode = mode;
+      same_p = same.same_p;
+      same_window = same.same_window;
+      other_bound = e;
+      done = inl done;
+      differ = other;
+    }))
 
--- a window at another place, in a storage of the same size
-pub place_alike : (d : Desc) (i : Instr) (s t : State) → IsInnocuous d i → IsState d s → IsState d t → LookAlike s t → IsAt i s →
+-- a window at another place, in a storage of the same size: no such pair shows that the place counts
+pub place_alike : (d : Desc) (i : Instr) (s t : State) → (¬ ShowsLocation d i s t) → IsState d s → IsState d t → LookAlike s t → IsAt i s →
     length s.cells ≡ length t.cells → s.psw.mode ≡ t.psw.mode → s.psw.b ≡ t.psw.b → IsDone (course_at d i s) →
     observation d i s ≡ observation d i t
-place_alike d i s t harmless first second same at size mode b done = by_place (equal_or_not s.psw.l t.psw.l)
+place_alike d i s t unshown first second same at size mode b done = by_place (equal_or_not s.psw.l t.psw.l)
   where
     by_place : (s.psw.l ≡ t.psw.l) ⊎ (s.psw.l ≢ t.psw.l) → observation d i s ≡ observation d i t
     by_place (inl e) = ap observed (course_same d i s t same.same_window (psw_same s.psw t.psw mode same.same_p e b))
-    by_place (inr e) = observation_same (observation d i s) (observation d i t) (λ other. harmless.mode_and_location (inr (
-      s,
-      t,
-      record {
-        first = first;
-        second = second;
-        at_first = at;
-        at_second = at_alike i s t same at;
-        same_size = size;
-        same_bound = b;
-        same_mode = mode;
-        same_p = same.same_p;
-        same_window = same.same_window;
-        moved = e;
-        done = inl done;
-        differ = other;
-      },
-    )))
+    by_place (inr e) = observation_same (observation d i s) (observation d i t) (λ other. unshown (record {
+      first = first;
+      second = second;
+      at_first = at;
+      at_second = at_alike i s t same at;
+      same_size = size;
+      same_bound = b;
+      same_mode = mode;
+      same_p = same.same_p;
+      same_window = same.same_window;
+      moved = e;
+      done = inl done;
+      differ = other;
+    }))
 
 -- a state of either mode, against the same in user mode
 pub mode_alike : (d : Desc) (i : Instr) (t : State) → IsInnocuous d i → IsState d t → IsAt i t → IsDone (course_at d i (in_user t)) →
@@ -218,10 +211,11 @@ narrowed-places d s at p h long some = record { bound = refl; room = omega (arit
 narrowed-fields : (d : Desc) (s at : State) → IsState d s → IsState d at → IsPsw d.address (narrowed s s.psw.p at)
 narrowed-fields d s at first second = record { p = first.fields.p; l = second.fields.l; b = omega (arith, window-length s, first.fields.b) }
 
--- an instruction that is not sensitive, done in user mode: the same is observed of it at every state that looks alike
-innocuous_alike : (d : Desc) (i : Instr) (s t : State) → IsInnocuous d i → IsState d s → IsState d t → LookAlike s t → s.psw.mode ≡ U →
-    IsAt i s → IsDone (course_at d i s) → observation d i s ≡ observation d i t
-innocuous_alike d i s t harmless first second same user at done =
+-- an instruction that is not user sensitive, done in user mode: the same is observed of it at every user state that looks
+-- alike
+user_alike : (d : Desc) (i : Instr) (s t : State) → IsUserInnocuous d i → IsState d s → IsState d t → LookAlike s t → s.psw.mode ≡ U →
+    t.psw.mode ≡ U → IsAt i s → IsDone (course_at d i s) → observation d i s ≡ observation d i t
+user_alike d i s t harmless first second same user user' at done =
     let least : 2 ≤ d.size = omega (arith, first.size_least, first.size_most) in
     let long : length (window s) ≡ length (window t) = ap length same.same_window in
     let some : 0 < window_length s = at_within i s at in
@@ -238,20 +232,32 @@ innocuous_alike d i s t harmless first second same user at done =
     let size = placed-length d (window s) (narrowed s s.psw.p s) here_places ∙ sym (placed-length d (window s) (narrowed s s.psw.p t) there_places) in
     let to_here : LookAlike s here = record { same_window = sym here_window; same_p = refl } in
     let across : LookAlike here there = record { same_window = here_window ∙ sym there_window; same_p = refl } in
-    let from_there : LookAlike there (in_user t) = record { same_window = there_window ∙ same.same_window; same_p = same.same_p } in
+    let from_there : LookAlike there t = record { same_window = there_window ∙ same.same_window; same_p = same.same_p } in
     let at_here = at_alike i s here to_here at in
     let at_there = at_alike i here there across at_here in
-    let narrow = bound_alike d i s here harmless first here_state to_here at user refl done in
+    let narrow = bound_alike d i s here (λ shown. harmless.bound (s, here, shown, user)) first here_state to_here at user refl done in
     let done_here = done_same (course_at d i s) (course_at d i here) narrow done in
-    let move = place_alike d i here there harmless here_state there_state across at_here size refl refl done_here in
+    let move = place_alike d i here there (λ shown. harmless.location (here, there, shown, refl)) here_state there_state across at_here size refl refl done_here in
     let done_there = done_same (course_at d i here) (course_at d i there) move done_here in
-    let widen = bound_alike d i there (in_user t) harmless there_state (in_user-state d t second) from_there at_there refl refl done_there in
-    let done_user = done_same (course_at d i there) (course_at d i (in_user t)) widen done_there in
-    narrow ∙ move ∙ widen ∙ mode_alike d i t harmless second (at_alike i s t same at) done_user
+    let widen = bound_alike d i there t (λ shown. harmless.bound (there, t, shown, refl)) there_state second from_there at_there (sym user') refl done_there in
+    narrow ∙ move ∙ widen
+
+-- one that is not sensitive, done in user mode: the same is observed of it at every state that looks alike, first of the
+-- same in user mode, and then of the state itself
+innocuous_alike : (d : Desc) (i : Instr) (s t : State) → IsInnocuous d i → IsState d s → IsState d t → LookAlike s t → s.psw.mode ≡ U →
+    IsAt i s → IsDone (course_at d i s) → observation d i s ≡ observation d i t
+innocuous_alike d i s t harmless first second same user at done =
+    let to_user : LookAlike s (in_user t) = record { same_window = same.same_window; same_p = same.same_p } in
+    let across = user_alike d i s (in_user t) (innocuous-user d i harmless) first (in_user-state d t second) to_user user refl at done in
+    across ∙ mode_alike d i t harmless second (at_alike i s t same at) (done_same (course_at d i s) (course_at d i (in_user t)) across done)
 
 -- an instruction that is not sensitive changes neither mode nor R
 innocuous_keeps : (d : Desc) (i : Instr) (s : State) → IsInnocuous d i → IsState d s → IsAt i s → ¬ ChangesControl s.psw (course_at d i s)
 innocuous_keeps d i s harmless state at = λ changes. harmless.control (s, s, record { state = state; same = refl; at = at; changes = changes })
+
+-- nor does one that is not user sensitive in user mode
+user_keeps : (d : Desc) (i : Instr) (s : State) → IsUserInnocuous d i → IsState d s → s.psw.mode ≡ U → IsAt i s → ¬ ChangesControl s.psw (course_at d i s)
+user_keeps d i s harmless state user at = λ changes. harmless.control (s, s, record { state = state; same = refl; at = at; changes = changes }, user)
 
 -- a privileged instruction is not done in user mode
 privileged_traps : (d : Desc) (i : Instr) (s : State) → IsPrivileged d i → IsState d s → s.psw.mode ≡ U → IsAt i s → ¬ IsDone (course_at d i s)
@@ -274,4 +280,14 @@ done_alike d i s t (inr harmless) first second same user at done = record {
   same_observed = sym (innocuous_alike d i s t harmless first second same user at done);
   kept_at_first = innocuous_keeps d i s harmless first at;
   kept_at_second = innocuous_keeps d i t harmless second (at_alike i s t same at);
+}
+
+-- one that is privileged or not user sensitive, done in user mode, is done alike at every user state that looks alike
+pub user_done_alike : (d : Desc) (i : Instr) (s t : State) → IsPrivileged d i ⊎ IsUserInnocuous d i → IsState d s → IsState d t → LookAlike s t →
+    s.psw.mode ≡ U → t.psw.mode ≡ U → IsAt i s → IsDone (course_at d i s) → DoneAlike d i s t
+user_done_alike d i s t (inl privileged) first second same user user' at done = absurd (privileged_traps d i s privileged first user at done)
+user_done_alike d i s t (inr harmless) first second same user user' at done = record {
+  same_observed = sym (user_alike d i s t harmless first second same user user' at done);
+  kept_at_first = user_keeps d i s harmless first user at;
+  kept_at_second = user_keeps d i t harmless second user' (at_alike i s t same at);
 }

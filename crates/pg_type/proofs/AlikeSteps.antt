@@ -1,7 +1,8 @@
--- Steps of an accepted description's machine, from states that look alike.
+-- Steps from states that look alike: of an accepted description's machine, the first state in user mode, and of one that a
+-- hybrid monitor may run, both states in user mode.
 use Rattle.std.proofs.Common.{◌≡◌, ◌⊎◌, ℕ, Bool, true, false, if◌then◌else◌, ◌+◌, ◌^◌, ◌<◌, ◌≤◌, List, [], ◌∷◌, ◌++◌, length, take, drop, slice_get, Option, None, Some, refl, sym, ◌∙◌, ap, subst, arith, inl, inr, append_assoc}
 use Rattle.std.specs.Prelude.{All, Contains, IsSomeAnd, IsTrue}
-use Rattle.std.proofs.Math.Logic.{∥∥₁_elim}
+use Rattle.std.proofs.Math.Logic.{∥∥₁_elim, ∥∥₁_map}
 use Rattle.std.proofs.lemmas.Bool.{cases_lt}
 use Rattle.std.proofs.lemmas.List.{length-take, drop_at, take_at, nil_from_length}
 use Rattle.std.proofs.lemmas.List.Elements.{All-head, All-tail, All-contains, All-contains_itself}
@@ -16,26 +17,43 @@ use Rattle.pg_meaning.specs.States.{State, IsState, window_length, window, put_b
 use Rattle.pg_valid.specs.Valid.{IsValid}
 use Rattle.pg_meaning.specs.Steps.{Ending, ByMemTrap, ByTrap, ByNoPattern, Done, ending_of, executed, fetched, ending, left_by, step, ends_in_trap}
 use Rattle.pg_type.specs.Kinds.{IsAt, fetched_word, course_at, SeenDone, observed, observation, IsDone, ChangesControl}
-use Rattle.pg_type.specs.Accepting.{IsPrivileged, IsInnocuous, IsAccepted}
+use Rattle.pg_type.specs.Accepting.{IsPrivileged, IsInnocuous, IsUserInnocuous, IsAccepted, IsHybridAccepted}
 use Rattle.pg_type.specs.Alike.{LookAlike, DoneAlike, StepsAlike, Places}
 use Rattle.pg_valid.proofs.StepSound.{AfterFits, OnDone, ending-sound, window-length, window-words, put_back-length}
-use Rattle.pg_type.proofs.AlikeLemmas.{placed, placed-window, placed-state, nat_same, mode_same, observation_same, psw_same, done_same, done_alike}
+use Rattle.pg_type.proofs.KindLaws.{accepted-hybrid}
+use Rattle.pg_type.proofs.AlikeLemmas.{placed, placed-window, placed-state, nat_same, mode_same, observation_same, psw_same, done_same, done_alike, user_done_alike}
 
 -- looking alike, the other way round
 turned : (s t : State) → LookAlike s t → LookAlike t s
 turned s t same = record { same_window = sym same.same_window; same_p = sym same.same_p }
 
--- the same of an instruction of a description that is known to be accepted
+-- what is done alike by a fact is done alike where the fact is only known to hold
+known_alike : (P : Type 0) (d : Desc) (i : Instr) (s t : State) → ∥ P ∥₁ → (P → DoneAlike d i s t) → DoneAlike d i s t
+known_alike P d i s t known by = record {
+  same_observed = observation_same (observation d i t) (observation d i s) (λ other. ∥∥₁_elim {P = ⊥} known (hlevel) (λ h. other (by h).same_observed));
+  kept_at_first = λ changes. ∥∥₁_elim {P = ⊥} known (hlevel) (λ h. (by h).kept_at_first changes);
+  kept_at_second = λ changes. ∥∥₁_elim {P = ⊥} known (hlevel) (λ h. (by h).kept_at_second changes);
+}
+
+-- an instruction of a description that is known to be accepted, at any state that looks alike
 pub accepted_alike : (d : Desc) (i : Instr) (s t : State) → ∥ IsAccepted d ∥₁ → Contains d.instrs i → IsState d s → IsState d t → LookAlike s t →
     s.psw.mode ≡ U → IsAt i s → IsDone (course_at d i s) → DoneAlike d i s t
-accepted_alike d i s t accepted among first second same user at done = record {
-  same_observed = observation_same (observation d i t) (observation d i s) (λ other. ∥∥₁_elim {P = ⊥} accepted (hlevel) (λ a. other (of a).same_observed));
-  kept_at_first = λ changes. ∥∥₁_elim {P = ⊥} accepted (hlevel) (λ a. (of a).kept_at_first changes);
-  kept_at_second = λ changes. ∥∥₁_elim {P = ⊥} accepted (hlevel) (λ a. (of a).kept_at_second changes);
-}
-  where
-    of : IsAccepted d → DoneAlike d i s t
-    of a = done_alike d i s t (All-contains (λ j. IsPrivileged d j ⊎ IsInnocuous d j) d.instrs i a among) first second same user at done
+accepted_alike d i s t accepted among first second same user at done = known_alike (IsAccepted d) d i s t accepted
+    (λ a. done_alike d i s t (All-contains (λ j. IsPrivileged d j ⊎ IsInnocuous d j) d.instrs i a among) first second same user at done)
+
+-- one of a description that a hybrid monitor may run, at any user state that looks alike
+pub hybrid_alike : (d : Desc) (i : Instr) (s t : State) → ∥ IsHybridAccepted d ∥₁ → Contains d.instrs i → IsState d s → IsState d t → LookAlike s t →
+    s.psw.mode ≡ U → t.psw.mode ≡ U → IsAt i s → IsDone (course_at d i s) → DoneAlike d i s t
+hybrid_alike d i s t accepted among first second same user user' at done = known_alike (IsHybridAccepted d) d i s t accepted
+    (λ a. user_done_alike d i s t (All-contains (λ j. IsPrivileged d j ⊎ IsUserInnocuous d j) d.instrs i a among) first second same user user' at done)
+
+-- what is accepted a hybrid monitor may run
+hybrid_known : (d : Desc) → ∥ IsAccepted d ∥₁ → ∥ IsHybridAccepted d ∥₁
+hybrid_known d accepted = ∥∥₁_map accepted (accepted-hybrid d)
+
+-- each instruction of a description that is done at a state is done alike at another
+abbrev EachAlike : Desc → State → State → Type 0
+EachAlike d s t = (i : Instr) → Contains d.instrs i → IsAt i s → IsDone (course_at d i s) → DoneAlike d i s t
 
 -- the instruction that a word matches is one of the list, and the word matches it
 matched_among : (P : Instr → Type 0) (is : List Instr) (word : ℕ) (i : Instr) → All P is → matching is word ≡ Some i → P i × IsTrue (matches i.pattern.bytes word)
@@ -120,10 +138,9 @@ done_course MemTrapped after e = absurd (let wrong : ⊥ = cc in wrong)
 done_course Trapped after e = absurd (let wrong : ⊥ = cc in wrong)
 done_course (Going x) after e = let same : x ≡ after = cc in ap Going same
 
--- from a user state a step that is done does the same at every state that looks alike
-pub steps_alike : (d : Desc) (s t : State) (after : After) → ∥ IsAccepted d ∥₁ → IsState d s → IsState d t → LookAlike s t → s.psw.mode ≡ U →
-    ending d (window s) s.psw ≡ Done after → StepsAlike d s t after
-steps_alike d s t after accepted first second same user ends = by_fetch (fetch d s)
+-- a step that is done does the same at a state that looks alike, where each instruction does
+each_steps_alike : (d : Desc) (s t : State) (after : After) → EachAlike d s t → LookAlike s t → ending d (window s) s.psw ≡ Done after → StepsAlike d s t after
+each_steps_alike d s t after each same ends = by_fetch (fetch d s)
   where
     by_fetch : Fetch d s → StepsAlike d s t after
     by_fetch (NoWord none) = let e = ending_no_word d s none in absurd (let wrong : ⊥ = cc in wrong)
@@ -131,7 +148,7 @@ steps_alike d s t after accepted first second same user ends = by_fetch (fetch d
     by_fetch (AnInstr word i found) =
         let there = found_alike d i word s t same found in
         let going : course_at d i s ≡ Going after = done_course (course_at d i s) after (sym (ending_found d i word s found) ∙ ends) in
-        let alike : DoneAlike d i s t = accepted_alike d i s t accepted (found_among d i word s found) first second same user (found_at d i word s found) (subst IsDone (sym going) tt) in
+        let alike : DoneAlike d i s t = each i (found_among d i word s found) (found_at d i word s found) (subst IsDone (sym going) tt) in
         let here : course_at d i s ≡ Going (record { window = after.window; psw = record s.psw { p = after.psw.p } }) =
         course_kept (course_at d i s) s.psw after.window after.psw.p (ap observed going) alike.kept_at_first in
         let over : course_at d i t ≡ Going (record { window = after.window; psw = record t.psw { p = after.psw.p } }) =
@@ -141,6 +158,18 @@ steps_alike d s t after accepted first second same user ends = by_fetch (fetch d
           kept = cc;
           same_done = ending_found d i word t there ∙ ap ending_of over;
         }
+
+-- from a user state a step that is done does the same at every state that looks alike
+pub steps_alike : (d : Desc) (s t : State) (after : After) → ∥ IsAccepted d ∥₁ → IsState d s → IsState d t → LookAlike s t → s.psw.mode ≡ U →
+    ending d (window s) s.psw ≡ Done after → StepsAlike d s t after
+steps_alike d s t after accepted first second same user ends =
+    each_steps_alike d s t after (λ i among at done. accepted_alike d i s t accepted among first second same user at done) same ends
+
+-- where a hybrid monitor may run the description, at every user state that looks alike
+pub user_steps_alike : (d : Desc) (s t : State) (after : After) → ∥ IsHybridAccepted d ∥₁ → IsState d s → IsState d t → LookAlike s t → s.psw.mode ≡ U →
+    t.psw.mode ≡ U → ending d (window s) s.psw ≡ Done after → StepsAlike d s t after
+user_steps_alike d s t after accepted first second same user user' ends =
+    each_steps_alike d s t after (λ i among at done. hybrid_alike d i s t accepted among first second same user user' at done) same ends
 
 traps_both : (c e : Course After) → (IsDone c → IsDone e) → (IsDone e → IsDone c) → ends_in_trap (ending_of c) ≡ ends_in_trap (ending_of e)
 traps_both MemTrapped MemTrapped f g = refl
@@ -154,9 +183,9 @@ traps_both (Going c) Trapped f g = absurd (f tt)
 traps_both (Going c) (Going e) f g = refl
 
 -- of two user states that look alike, the steps from both trap or neither does
-pub traps_alike : (d : Desc) (s t : State) → ∥ IsAccepted d ∥₁ → IsState d s → IsState d t → LookAlike s t → s.psw.mode ≡ U → t.psw.mode ≡ U →
+pub user_traps_alike : (d : Desc) (s t : State) → ∥ IsHybridAccepted d ∥₁ → IsState d s → IsState d t → LookAlike s t → s.psw.mode ≡ U → t.psw.mode ≡ U →
     ends_in_trap (ending d (window s) s.psw) ≡ ends_in_trap (ending d (window t) t.psw)
-traps_alike d s t accepted first second same user user' = by_fetch (fetch d s)
+user_traps_alike d s t accepted first second same user user' = by_fetch (fetch d s)
   where
     by_fetch : Fetch d s → ends_in_trap (ending d (window s) s.psw) ≡ ends_in_trap (ending d (window t) t.psw)
     by_fetch (NoWord none) = ap ends_in_trap (ending_no_word d s none ∙ sym (ending_no_word d t (same_cell s t same ∙ none)))
@@ -168,13 +197,17 @@ traps_alike d s t accepted first second same user user' = by_fetch (fetch d s)
         ap ends_in_trap (ending_found d i word s found)
         ∙ traps_both (course_at d i s) (course_at d i t)
         (λ done. done_same (course_at d i s) (course_at d i t)
-        (sym (accepted_alike d i s t accepted among first second same user (found_at d i word s found) done).same_observed) done)
+        (sym (hybrid_alike d i s t accepted among first second same user user' (found_at d i word s found) done).same_observed) done)
         (λ done. done_same (course_at d i t) (course_at d i s)
-        (sym (accepted_alike d i t s accepted among second first (turned s t same) user' (found_at d i word t there) done).same_observed) done)
+        (sym (hybrid_alike d i t s accepted among second first (turned s t same) user' user (found_at d i word t there) done).same_observed) done)
         ∙ ap ends_in_trap (sym (ending_found d i word t there))
 
+pub traps_alike : (d : Desc) (s t : State) → ∥ IsAccepted d ∥₁ → IsState d s → IsState d t → LookAlike s t → s.psw.mode ≡ U → t.psw.mode ≡ U →
+    ends_in_trap (ending d (window s) s.psw) ≡ ends_in_trap (ending d (window t) t.psw)
+traps_alike d s t accepted = user_traps_alike d s t (hybrid_known d accepted)
+
 -- a step from a user state that does not trap leaves mode and R as they were
-pub user_kept : (d : Desc) (s : State) → ∥ IsAccepted d ∥₁ → IsState d s → s.psw.mode ≡ U → ends_in_trap (ending d (window s) s.psw) ≡ false →
+pub user_kept : (d : Desc) (s : State) → ∥ IsHybridAccepted d ∥₁ → IsState d s → s.psw.mode ≡ U → ends_in_trap (ending d (window s) s.psw) ≡ false →
     (step d s).psw ≡ record s.psw { p = (step d s).psw.p }
 unfolding step
 user_kept d s accepted state user calm = by_ending (ending d (window s) s.psw) refl calm
@@ -185,8 +218,12 @@ user_kept d s accepted state user calm = by_ending (ending d (window s) s.psw) r
     by_ending ByTrap e traps = absurd (let wrong : ⊥ = cc in wrong)
     by_ending ByNoPattern e traps = absurd (let wrong : ⊥ = cc in wrong)
     by_ending (Done after) e traps =
-        let alike = steps_alike d s s after accepted state state (record { same_window = refl; same_p = refl }) user e in
+        let alike = user_steps_alike d s s after accepted state state (record { same_window = refl; same_p = refl }) user user e in
         subst (λ x. (left_by d s x).psw ≡ record s.psw { p = (left_by d s x).psw.p }) (sym e) alike.kept
+
+pub control_kept : (d : Desc) (s : State) → ∥ IsAccepted d ∥₁ → IsState d s → s.psw.mode ≡ U → ends_in_trap (ending d (window s) s.psw) ≡ false →
+    (step d s).psw ≡ record s.psw { p = (step d s).psw.p }
+control_kept d s accepted = user_kept d s (hybrid_known d accepted)
 
 -- a window put back is the window, under a PSW of the same R
 window-put_back : (s : State) (cells : List ℕ) (psw : Psw) → length cells ≡ window_length s → psw.l ≡ s.psw.l → psw.b ≡ s.psw.b →
@@ -211,11 +248,11 @@ window-put_back s cells psw long l b = by_place (cases_lt s.psw.l (length s.cell
     by_place (inr past) =
         nil_from_length (window after) (omega (arith, past, long, as_long, window-length after)) ∙ sym (nil_from_length cells (omega (arith, past, long)))
 
--- states that look alike still do after a step that is done
-pub still_alike : (d : Desc) (s t : State) → IsValid d → ∥ IsAccepted d ∥₁ → IsState d s → IsState d t → LookAlike s t → s.psw.mode ≡ U →
+-- states that look alike still do after a step that is done, where each instruction is done alike
+each_still_alike : (d : Desc) (s t : State) → IsValid d → EachAlike d s t → IsState d s → LookAlike s t →
     ends_in_trap (ending d (window s) s.psw) ≡ false → LookAlike (step d s) (step d t)
 unfolding step
-still_alike d s t valid accepted first second same user calm = by_ending (ending d (window s) s.psw) refl calm
+each_still_alike d s t valid each first same calm = by_ending (ending d (window s) s.psw) refl calm
   where
     by_ending : (e : Ending) → ending d (window s) s.psw ≡ e → ends_in_trap e ≡ false →
         LookAlike (left_by d s (ending d (window s) s.psw)) (left_by d t (ending d (window t) t.psw))
@@ -223,7 +260,7 @@ still_alike d s t valid accepted first second same user calm = by_ending (ending
     by_ending ByTrap e traps = absurd (let wrong : ⊥ = cc in wrong)
     by_ending ByNoPattern e traps = absurd (let wrong : ⊥ = cc in wrong)
     by_ending (Done after) e traps =
-        let alike = steps_alike d s t after accepted first second same user e in
+        let alike = each_steps_alike d s t after each same e in
         let fits : OnDone (Done after) (AfterFits d (length (window s))) =
         subst (λ x. OnDone x (AfterFits d (length (window s)))) e (ending-sound d (window s) s.psw valid (window-words d s first) first.fields) in
         let there : Psw = record t.psw { p = after.psw.p } in
@@ -235,14 +272,31 @@ still_alike d s t valid accepted first second same user calm = by_ending (ending
           same_p = refl;
         }))
 
+-- from a user state, to every state that looks alike
+pub still_alike : (d : Desc) (s t : State) → IsValid d → ∥ IsAccepted d ∥₁ → IsState d s → IsState d t → LookAlike s t → s.psw.mode ≡ U →
+    ends_in_trap (ending d (window s) s.psw) ≡ false → LookAlike (step d s) (step d t)
+still_alike d s t valid accepted first second same user calm =
+    each_still_alike d s t valid (λ i among at done. accepted_alike d i s t accepted among first second same user at done) first same calm
+
+-- and where a hybrid monitor may run the description, to every user state
+pub user_still_alike : (d : Desc) (s t : State) → IsValid d → ∥ IsHybridAccepted d ∥₁ → IsState d s → IsState d t → LookAlike s t → s.psw.mode ≡ U →
+    t.psw.mode ≡ U → ends_in_trap (ending d (window s) s.psw) ≡ false → LookAlike (step d s) (step d t)
+user_still_alike d s t valid accepted first second same user user' calm =
+    each_still_alike d s t valid (λ i among at done. hybrid_alike d i s t accepted among first second same user user' at done) first same calm
+
 -- a window traps alike at every place
-pub traps_anywhere : (d : Desc) (cells : List ℕ) (x y : Psw) → ∥ IsAccepted d ∥₁ → 2 ≤ d.size → All (λ cell. cell < 2 ^ d.word) cells →
+pub user_traps_anywhere : (d : Desc) (cells : List ℕ) (x y : Psw) → ∥ IsHybridAccepted d ∥₁ → 2 ≤ d.size → All (λ cell. cell < 2 ^ d.word) cells →
     IsPsw d.address x → IsPsw d.address y → Places d cells x → Places d cells y → x.p ≡ y.p → x.mode ≡ U → y.mode ≡ U →
     ends_in_trap (ending d cells x) ≡ ends_in_trap (ending d cells y)
-traps_anywhere d cells x y accepted least words first second here there p user user' =
+user_traps_anywhere d cells x y accepted least words first second here there p user user' =
     let here_window = placed-window d cells x here in
     let there_window = placed-window d cells y there in
     ap (λ w. ends_in_trap (ending d w x)) (sym here_window)
-    ∙ traps_alike d (placed d cells x) (placed d cells y) accepted (placed-state d cells x here least words first) (placed-state d cells y there least words second)
+    ∙ user_traps_alike d (placed d cells x) (placed d cells y) accepted (placed-state d cells x here least words first) (placed-state d cells y there least words second)
     (record { same_window = here_window ∙ sym there_window; same_p = p }) user user'
     ∙ ap (λ w. ends_in_trap (ending d w y)) there_window
+
+pub traps_anywhere : (d : Desc) (cells : List ℕ) (x y : Psw) → ∥ IsAccepted d ∥₁ → 2 ≤ d.size → All (λ cell. cell < 2 ^ d.word) cells →
+    IsPsw d.address x → IsPsw d.address y → Places d cells x → Places d cells y → x.p ≡ y.p → x.mode ≡ U → y.mode ≡ U →
+    ends_in_trap (ending d cells x) ≡ ends_in_trap (ending d cells y)
+traps_anywhere d cells x y accepted = user_traps_anywhere d cells x y (hybrid_known d accepted)

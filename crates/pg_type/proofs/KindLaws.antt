@@ -55,7 +55,7 @@ pub privileged-exactly : (d : Desc) (i : Instr) → (IsPrivileged d i → IsNeve
 privileged-exactly d i = (privileged-unbroken d i, unbroken-privileged d i)
 
 -- innocuous in either mode, and so in user mode
-innocuous-user : (d : Desc) (i : Instr) → IsInnocuous d i → IsUserInnocuous d i
+pub innocuous-user : (d : Desc) (i : Instr) → IsInnocuous d i → IsUserInnocuous d i
 innocuous-user d i h = record {
   control = λ x. h.control (x.0, x.1, x.2);
   location = λ x. h.mode_and_location (inr (x.0, x.1, x.2));

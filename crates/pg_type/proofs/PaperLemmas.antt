@@ -6,7 +6,7 @@ use Rattle.pg_ast.specs.declared.tree.Instr.{Instr}
 use Rattle.pg_ast.specs.declared.tree.Desc.{Desc}
 use Rattle.pg_meaning.specs.Bodies.{Course, MemTrapped, Trapped, Going, After}
 use Rattle.pg_meaning.specs.States.{State, in_user}
-use Rattle.pg_type.specs.Kinds.{course_at, observation, IsDone, IsTrap, IsNoMemTrap}
+use Rattle.pg_type.specs.Kinds.{course_at, observation, IsDone, IsTrap, IsNoMemTrap, ShowsLocation}
 use Rattle.pg_type.specs.Accepting.{IsPrivileged, IsInnocuous, IsAccepted}
 use Rattle.pg_type.specs.PaperWords.{IsPaperPrivileged, DiffersElsewhere, IsPaperSensitive, HoldPaperWords}
 use Rattle.pg_type.specs.Alike.{LookAlike}
@@ -24,13 +24,17 @@ privileged-paper d i h = record {
   supervisor_does_not = h.supervisor_done;
 }
 
+-- no pair of states shows an instruction that is not sensitive to depend on the place
+unshown : (d : Desc) (i : Instr) (s t : State) → IsInnocuous d i → ¬ ShowsLocation d i s t
+unshown d i s t harmless = λ shown. harmless.mode_and_location (inr (s, t, shown))
+
 -- an instruction that is not sensitive, done at a user state: the same is observed at a state of any mode that has the
 -- window elsewhere, first of the same in user mode, and then of the state itself
 elsewhere_from_user : (d : Desc) (i : Instr) (s t : State) → IsInnocuous d i → DiffersElsewhere d i s t → s.psw.mode ≡ U → observation d i s ≡ observation d i t
 elsewhere_from_user d i s t harmless h user =
     let same : LookAlike s t = record { same_window = h.same_window; same_p = h.same_p } in
     let same_user : LookAlike s (in_user t) = record { same_window = h.same_window; same_p = h.same_p } in
-    let move = place_alike d i s (in_user t) harmless h.first (in_user-state d t h.second) same_user h.at_first h.same_size user h.same_bound h.first_done in
+    let move = place_alike d i s (in_user t) (unshown d i s (in_user t) harmless) h.first (in_user-state d t h.second) same_user h.at_first h.same_size user h.same_bound h.first_done in
     move ∙ mode_alike d i t harmless h.second (at_alike i s t same h.at_first) (done_same (course_at d i s) (course_at d i (in_user t)) move h.first_done)
 
 -- two states turned about
@@ -58,7 +62,7 @@ never_elsewhere d i s t harmless h = by s.psw.mode t.psw.mode refl refl
     by S U e f = h.differ (sym (elsewhere_from_user d i t s harmless (turned d i s t h) f))
     by S S e f =
         let same : LookAlike s t = record { same_window = h.same_window; same_p = h.same_p } in
-        h.differ (place_alike d i s t harmless h.first h.second same h.at_first h.same_size (e ∙ sym f) h.same_bound h.first_done)
+        h.differ (place_alike d i s t (unshown d i s t harmless) h.first h.second same h.at_first h.same_size (e ∙ sym f) h.same_bound h.first_done)
 
 innocuous-paper : (d : Desc) (i : Instr) → IsInnocuous d i → ¬ IsPaperSensitive d i
 innocuous-paper d i harmless (inl x) =

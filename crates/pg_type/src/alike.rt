@@ -7,6 +7,9 @@
 //! leads from one state to the other are four pairs, of which each differs in one thing alone: the bound down to the length
 //! of the window, the place, the bound up again, and the mode. Of a trap the laws say whether it comes, and not which it is:
 //! no sensitive kind is shown by two states that both trap. This is the heart of Theorem 1 of the 1974 paper (section 5).
+//!
+//! The first three pairs are of user states. So where each instruction is privileged or only not user sensitive, which is what a
+//! hybrid monitor asks for, the same holds from one user state to another (`done_alike_in_user_mode` and the three laws behind it).
 
 ghost use Rattle.std.specs.Prelude.{◌≡◌, ◌⊎◌, ℕ, ◌<◌, ◌≤◌, ◌^◌, false, List, All, Contains};
 ghost use Rattle.pg_word.specs.declared.psw.Psw.{Psw};
@@ -18,7 +21,7 @@ ghost use Rattle.pg_meaning.specs.Bodies.{After};
 ghost use Rattle.pg_meaning.specs.States.{State, IsState, window};
 ghost use Rattle.pg_meaning.specs.Steps.{Done, ending, step, ends_in_trap};
 ghost use Rattle.pg_type.specs.Kinds.{IsAt, IsDone, course_at};
-ghost use Rattle.pg_type.specs.Accepting.{IsAccepted, IsInnocuous, IsPrivileged};
+ghost use Rattle.pg_type.specs.Accepting.{IsAccepted, IsHybridAccepted, IsInnocuous, IsPrivileged, IsUserInnocuous};
 ghost use Rattle.pg_type.specs.Alike.{LookAlike, DoneAlike, Places, StepsAlike};
 ghost use Rattle.pg_valid.specs.Valid.{IsValid};
 
@@ -52,4 +55,26 @@ pub fn control_is_kept()
 /// States that look alike, the first in user mode, still do after a step that does not trap there.
 pub fn still_alike()
     ensures { (d : Desc) (s t : State) → IsValid d → ∥ IsAccepted d ∥₁ → IsState d s → IsState d t → LookAlike s t → s.psw.mode ≡ U → ends_in_trap (ending d (window s) s.psw) ≡ false → LookAlike (step d s) (step d t) }
+{}
+
+/// An instruction that is done at a user state is done alike at every user state that looks alike: one that is privileged or
+/// not user sensitive, and so each of a description that a hybrid monitor may run.
+pub fn done_alike_in_user_mode()
+    ensures one { (d : Desc) (i : Instr) (s t : State) → IsPrivileged d i ⊎ IsUserInnocuous d i → IsState d s → IsState d t → LookAlike s t → s.psw.mode ≡ U → t.psw.mode ≡ U → IsAt i s → IsDone (course_at d i s) → DoneAlike d i s t }
+    ensures each { (d : Desc) (i : Instr) (s t : State) → ∥ IsHybridAccepted d ∥₁ → Contains d.instrs i → IsState d s → IsState d t → LookAlike s t → s.psw.mode ≡ U → t.psw.mode ≡ U → IsAt i s → IsDone (course_at d i s) → DoneAlike d i s t }
+{}
+
+/// There too, of two user states that look alike, the steps from both trap or neither does.
+pub fn traps_alike_in_user_mode()
+    ensures { (d : Desc) (s t : State) → ∥ IsHybridAccepted d ∥₁ → IsState d s → IsState d t → LookAlike s t → s.psw.mode ≡ U → t.psw.mode ≡ U → ends_in_trap (ending d (window s) s.psw) ≡ ends_in_trap (ending d (window t) t.psw) }
+{}
+
+/// And a step that is done at a user state is done alike from every user state that looks alike.
+pub fn step_alike_in_user_mode()
+    ensures { (d : Desc) (s t : State) (after : After) → ∥ IsHybridAccepted d ∥₁ → IsState d s → IsState d t → LookAlike s t → s.psw.mode ≡ U → t.psw.mode ≡ U → ending d (window s) s.psw ≡ Done after → StepsAlike d s t after }
+{}
+
+/// So a step from a user state that does not trap moves P alone there too.
+pub fn control_is_kept_in_user_mode()
+    ensures { (d : Desc) (s : State) → ∥ IsHybridAccepted d ∥₁ → IsState d s → s.psw.mode ≡ U → ends_in_trap (ending d (window s) s.psw) ≡ false → (step d s).psw ≡ record s.psw { p = (step d s).psw.p } }
 {}
