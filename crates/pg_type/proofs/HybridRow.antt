@@ -45,7 +45,7 @@ rtu_keeps s user h =
     let changes = rw (rtu_leaves (window s) s.psw (fetched_word (slice_get (window s) s.psw.p))) at h in
     same_control s.psw 0 user changes
 
-rtu_user_innocuous : IsUserInnocuous (alone rtu) rtu
+pub rtu_user_innocuous : IsUserInnocuous (alone rtu) rtu
 rtu_user_innocuous = record {
   control = λ h. rtu_keeps h.0 h.3 h.2.changes;
   location = λ h. h.2.differ (rtu_seen h.0 h.1 h.2.same_window h.2.same_p);

@@ -5,3 +5,6 @@ pub mod HybridRow
 pub mod AlikeLemmas
 pub mod AlikeSteps
 pub mod PaperLemmas
+pub mod AgreeLemmas
+pub mod AgreeRows
+pub mod UserRows

@@ -3,9 +3,12 @@ pub mod Accepting
 pub mod PaperWords
 pub mod Listed
 pub mod Alike
+pub mod Agreeing
 pub mod Examples
 pub mod WorkedRuns
 pub mod WorkedKinds
+pub mod WorkedUserMode
+pub mod WorkedAgreeing
 pub use Rattle.pg_meaning.specs.Patterns
 pub use Rattle.pg_meaning.specs.Fields
 pub use Rattle.pg_meaning.specs.Decoders
@@ -23,3 +26,4 @@ pub use Rattle.pg_valid.specs.Verdicts
 pub use Rattle.pg_valid.specs.Typed
 pub use Rattle.pg_valid.specs.Counted
 pub use Rattle.pg_valid.specs.Fares
+pub use Rattle.pg_valid.specs.Sized

@@ -4,8 +4,9 @@
 //! tested when one is made, since both speak of every state: it is made where the condition is known, as where a verified
 //! certificate says so. It is a machine on loan, and is copied freely.
 
-ghost use Rattle.std.specs.Prelude.{◌≡◌};
+ghost use Rattle.std.specs.Prelude.{◌≡◌, ◌≤◌};
 ghost use Rattle.pg_type.specs.Accepting.{IsAccepted, IsHybridAccepted};
+ghost use Rattle.pg_type.specs.Agreeing.{Agree};
 ghost use Rattle.pg_type.specs.PaperWords.{HoldPaperWords};
 
 use pg_machine::Machine;
@@ -25,6 +26,17 @@ impl<'m> Accepted<'m> {
         ensures same { result.machine.now ≡ machine.now }
         ensures paper_words { HoldPaperWords result.machine.now.desc }
     {
+        Accepted { machine }
+    }
+
+    /// A machine that agrees with this one, and is not wider: it has the same instructions, and storages of at most as many
+    /// cells, so that it is accepted too. Takes no memory.
+    pub fn narrow<'n>(&self, machine: &'n Machine) -> Accepted<'n>
+        requires agrees { Agree self.now.machine.now.desc machine.now.desc }
+        requires narrower { machine.now.desc.size ≤ self.now.machine.now.desc.size }
+        ensures { result.machine.now ≡ machine.now }
+    {
+        // its states are states of the wider machine, of which each instruction is privileged or not sensitive
         Accepted { machine }
     }
 

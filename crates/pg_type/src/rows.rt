@@ -2,10 +2,14 @@
 //!
 //! A definition can be wrong and every proof on it right. So here are runs and pairs whose outcome was worked out by
 //! hand: `specs/WorkedRuns.antt` and `specs/WorkedKinds.antt` state them, over the machines of `specs/Examples.antt`,
-//! and the proof computes them. None of the functions does anything when it runs.
+//! and the proof computes them. `specs/WorkedUserMode.antt` and `specs/WorkedAgreeing.antt` have instances of the laws in user
+//! mode and of those of machines that agree, each with what is near and not so. None of the functions does anything when it
+//! runs.
 
 ghost use Rattle.pg_type.specs.WorkedRuns.{NoPattern, NoWindow, PastStorage, LastUsable, FirstPastBound, FirstPastSize, RunsPastWindow, DoublesInALoop, WindowOfOneCell, NoPatternCause, MemoryTrapCause, TrapCause, TrapsForEver, WidensAndShifts};
 ghost use Rattle.pg_type.specs.WorkedKinds.{RtuShowsControl, RtuInUserModeDoesNot, RtuBreaksPrivilege, LrBreaksNoPrivilege, StoreModeShowsMode, StoreModeOutsideDoesNot, SupervisorLoadShowsMode, UserJumpShowsMode, UserJumpBreaksPrivilege, StoreRelShowsLocation, StoreRelUserShowsLocation, StoreRelOutsideDoesNot, StoreBoundShowsBound, StoreBoundUserShowsBound, StoreBoundOutsideDoesNot, OpenLrShowsControl, OpenLrOfTheSameDoesNot, StoreRelIsNoUserPair, StoreBoundIsNoUserPair, StoreBoundOfTwoSizesShowsBound, StoreRelOfTwoSizesDoesNot, StoreRelOfTwoBoundsDoesNot, LrDoneInSupervisorModeDoesNot, SvcBreaksPrivilege, M1ServesHybridAlone};
+ghost use Rattle.pg_type.specs.WorkedUserMode.{RtuDoneAlike, RtuTrapsAlike, RtuStepsAlike, RtuKeepsControl, RtuInSupervisorModeIsNotAlike};
+ghost use Rattle.pg_type.specs.WorkedAgreeing.{NarrowLoop, CausesDoNotAgree, SixteenCellsFitBoth, TwentyCellsFitOneAlone, NarrowM1ServesHybrid};
 
 /// Runs of bare machines, each with the state that it ends in.
 pub fn worked_runs()
@@ -57,4 +61,24 @@ pub fn worked_kinds()
 /// mode does what any jump does.
 pub fn hybrid_alone()
     ensures { M1ServesHybridAlone }
+{}
+
+/// On M1 what rtu does in user mode is done alike at another place and under another bound, and is not where the second state
+/// is in supervisor mode.
+pub fn worked_user_mode()
+    ensures done_alike { RtuDoneAlike }
+    ensures traps_alike { RtuTrapsAlike }
+    ensures steps_alike { RtuStepsAlike }
+    ensures keeps_control { RtuKeepsControl }
+    ensures in_supervisor_mode_is_not_alike { RtuInSupervisorModeIsNotAlike }
+{}
+
+/// Machines that agree: they run alike, and the narrower one has fewer states; and two that differ in more than the greatest
+/// size.
+pub fn worked_agreement()
+    ensures narrow_loop { NarrowLoop }
+    ensures causes_do_not_agree { CausesDoNotAgree }
+    ensures sixteen_cells_fit_both { SixteenCellsFitBoth }
+    ensures twenty_cells_fit_one_alone { TwentyCellsFitOneAlone }
+    ensures narrow_m1_serves_hybrid { NarrowM1ServesHybrid }
 {}
