@@ -7,6 +7,7 @@ pub mod ExprExact
 pub mod ExprFronts
 pub mod ExprReads
 pub mod Found
+pub mod Same
 pub mod StmtEquations
 pub mod StmtExact
 pub mod StmtFronts

@@ -8,12 +8,14 @@
 //!
 //! - `name`: names and patterns.
 //! - `tree`: expressions, statements, instructions, descriptions.
+//! - `copying`: a description once more.
 //! - `limits`: whether a tree goes down too many levels, asked without measuring it.
 //! - `laws`: the law of tokens. Each description has one list of tokens (`specs/Tokens.antt`), and
 //!   no two have the same. It rests on a reader of such lists (`specs/Reading.antt`), which takes
 //!   just the lists that a description has, and is also what a parser is to agree with.
 #![tactic(auto)]
 
+mod copying;
 mod laws;
 mod limits;
 mod name;
