@@ -9,6 +9,7 @@ pub mod WidthEquations
 pub mod FareEquations
 pub mod FaultLemmas
 pub mod ShapeLemmas
+pub mod SizedLemmas
 pub mod ValueSound
 pub mod DeedSound
 pub mod ValidFacts

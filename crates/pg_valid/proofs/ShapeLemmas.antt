@@ -28,7 +28,7 @@ has_shape-true w a q causes e =
       size_most = ltb-true _ _ h7.1;
     }
 
-none_where : (b : Bool) (d : Desc) → has_shape d.word d.address d.size d.causes ≡ b → shape_fault d ≡ None → b ≡ true
+pub none_where : (b : Bool) (d : Desc) → has_shape d.word d.address d.size d.causes ≡ b → shape_fault d ≡ None → b ≡ true
 none_where true d e none = refl
 none_where false d e none =
     let faulty : (if false then None else Some Shape) ≡ None = sym (ap (λ x. if x then None else Some Shape) e) ∙ none in cc
