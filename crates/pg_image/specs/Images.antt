@@ -1,6 +1,6 @@
 -- What the bytes of an image mean.
 use Rattle.std.specs.Prelude.{◌≡◌, ℕ, zero, suc, ◌+◌, ◌-◌, ◌/◌, Bool, false, not, ◌&&◌, ◌||◌, ◌==◌, nat_le, nat_lt, if◌then◌else◌, List, [], ◌∷◌, ◌++◌, length, take, drop, map, filter, replicate, fold, position, slice_index, Option, None, Some, Result, Ok, Err}
-use Rattle.std.specs.List.{list_all, list_any, before_first, slice_split}
+use Rattle.std.specs.List.{list_all, list_any, before_first, prefix_len, slice_split}
 use Rattle.std.specs.Char.{is_ascii_digit, is_ascii_hexdigit}
 use Rattle.std.specs.Str.Parse.{digits_value}
 use Rattle.pg_image.specs.declared.fault.ImageFault.{ImageFault}
@@ -48,6 +48,10 @@ pub record Row : Type 0 where
 -- the parts of a line: what stands between separators, where that is not empty
 unfoldable pub parts_of : List ℕ → List (List ℕ)
 parts_of line = filter (λ part. nat_lt 0 (length part)) (slice_split is_gap line)
+
+-- a line behind what separates its first part from the line's begin
+abbrev pub behind_gaps : List ℕ → List ℕ
+behind_gaps line = drop (prefix_len is_gap line) line
 
 -- the digits of an address: all but its last byte
 abbrev pub address_digits : List ℕ → List ℕ

@@ -1,6 +1,7 @@
 //! Images: the words that a storage begins with, read from text; and the lines of a state text.
 //!
 //! `read_image` reads the bytes of an image. `size_line`, `psw_line` and `cell_line` write the lines that show a state.
+//! `split_line`, `content` and `split_part` cut a text into lines and parts, with comments, as an image is cut.
 //!
 //! # What the bytes of an image mean
 //!
@@ -36,6 +37,7 @@ mod row;
 pub mod rows;
 mod scan;
 
+pub use cutting::{content, is_gap, split_line, split_part};
 pub use fault::ImageFault;
 pub use image::{IMAGE_BYTES, Image, read_image};
 pub use lines::{LINE_BYTES, LINE_CELLS, Line, cell_line, psw_line, push, size_line};
