@@ -3,6 +3,7 @@
 use Rattle.std.specs.Prelude.{◌≡◌, ℕ, Bool, false, not, ◌&&◌, ◌||◌, ◌==◌, nat_le, if◌then◌else◌, ⊤, List, [], ◌∷◌, length, codes, bytes_eq, Option, None, Some, Result, Ok, Err}
 use Rattle.std.specs.List.{list_any, list_all, slice_split}
 use Rattle.pg_word.specs.declared.shape.Shape.{Shape}
+use Rattle.pg_token.specs.Words.{is_digit}
 use Rattle.pg_cert.specs.declared.cert.Family.{Family}
 use Rattle.pg_cert.specs.declared.cert.Family.TheVariants.{Plain, Hybrid}
 use Rattle.pg_cert.specs.declared.line.Line.{Line}
@@ -29,9 +30,6 @@ before_end bytes = (if last_byte bytes == 10 then but_last bytes else bytes)
 
 abbrev pub parts_of : List ℕ → List (List ℕ)
 parts_of bytes = slice_split (λ c. c == 32) (but_last bytes)
-
-abbrev pub is_digit : ℕ → Bool
-is_digit c = nat_le 48 c && nat_le c 57
 
 -- digits of a number of any size, with no 0 before others
 abbrev pub is_decimal : List ℕ → Bool

@@ -1,11 +1,11 @@
 //! A line of a certificate, read from its bytes.
 
 ghost use Rattle.std.specs.Prelude.{◌≡◌, ◌&&◌, ◌==◌, bytes_eq, IfOk};
-ghost use Rattle.std.specs.List.{list_any, list_all};
+ghost use Rattle.std.specs.List.{list_any};
 ghost use Rattle.pg_word.specs.Shape.{IsShape};
 ghost use Rattle.pg_cert.specs.Lines.{is_line, line_text};
 ghost use Rattle.pg_cert.specs.Reading.{last_byte};
-ghost use Rattle.pg_cert.specs.Parsing.{is_foreign, before_end, parts_of, is_digit, is_decimal, family_word, is_first, said_of_no_line, said, IsAnswer};
+ghost use Rattle.pg_cert.specs.Parsing.{is_foreign, before_end, parts_of, is_decimal, family_word, is_first, said_of_no_line, said, IsAnswer};
 ghost use Rattle.pg_cert.specs.declared.parse.LineFault.TheVariants.{Memory};
 
 use crate::cert::Family;
@@ -14,6 +14,7 @@ use crate::parts::Parts;
 use crate::put::put_line;
 use crate::ranges::is_line;
 use crate::reading::{but_last, is_same, line_of};
+use pg_text::are_digits;
 use pg_word::Shape;
 use std::alloc::{AllocError, Global};
 use thiserror::Error;
@@ -75,20 +76,6 @@ fn has_foreign(bytes: &[u8]) -> bool
     ensures { result ≡ list_any is_foreign bytes.now }
 {
     bytes.iter().any(|byte| is_foreign(*byte))
-}
-
-/// Whether a byte is a decimal digit.
-fn is_digit(byte: u8) -> bool
-    ensures { result ≡ is_digit byte }
-{
-    b'0' <= byte && byte <= b'9'
-}
-
-/// Whether all of these are decimal digits.
-fn are_digits(bytes: &[u8]) -> bool
-    ensures { result ≡ list_all is_digit bytes.now }
-{
-    bytes.iter().all(|byte| is_digit(*byte))
 }
 
 /// Whether these are the digits of a number, with no 0 before others.

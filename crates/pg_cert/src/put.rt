@@ -1,7 +1,8 @@
 //! Lines as text, put at the end of bytes.
 //!
 //! Each function takes the parts of one line by reference, so that nothing is copied to be written. The only memory is that
-//! of the bytes, and each error is want of it, after which nothing is said of what was put.
+//! of the bytes, and each error is want of it. What was put by then may be any part of the line: no clause speaks of it, and
+//! nothing rests on it, since whoever puts lines gives the bytes up where one was refused.
 
 ghost use Rattle.std.specs.Prelude.{◌≡◌, ◌+◌, ◌/◌, ◌%◌, ◌^◌, ◌<◌, ◌≤◌, ◌++◌, ◌∷◌, [], All, map, pos, OnOk};
 ghost use Rattle.std.specs.Fmt.{decimal, signed_decimal};

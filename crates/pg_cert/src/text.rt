@@ -1,4 +1,7 @@
 //! The text of a certificate.
+//!
+//! Where memory is refused nothing is said of what was put by then, and nothing rests on it: whoever puts lines gives the bytes
+//! up.
 
 ghost use Rattle.std.specs.Prelude.{◌≡◌, ◌+◌, ◌*◌, ◌/◌, ◌%◌, ◌^◌, ◌<◌, ◌≤◌, ◌++◌, length, map, OnOk, IfOk};
 ghost use Rattle.std.specs.List.{All};
