@@ -98,7 +98,8 @@ impl Touched {
 
     /// The word at an address of `a` bits, after the writes that stand. Where no cell has the address, gate for gate, a new
     /// one is named, with `w` new inputs as its word. The error is want of memory: cells and writes stay, and the circuit
-    /// may hold further gates. The search is linear in the cells, what is built in the writes.
+    /// may hold further gates. The search is linear in the cells, what is built in the writes: while at most 72 stand, as many as
+    /// 64 and what an instruction may write, at most 2^15 nodes are added (`few`).
     pub fn touch(&mut self, circuit: &mut Circuit, address: &Bits) -> Result<Bits, AllocError>
         requires over { IsOver circuit.old.nodes self.old }
         requires there { AreThere (length circuit.old.nodes) address.now }
@@ -111,7 +112,7 @@ impl Touched {
         ensures width { IfOk result (λ word. length word ≡ self.old.w) }
         ensures over { IsOver circuit.new.nodes self.new }
         ensures grows { GrowsBy circuit.old.nodes circuit.new.nodes (touch_most self.old) self.old.w }
-        ensures few { length self.old.writes ≤ 64 → length circuit.new.nodes ≤ length circuit.old.nodes + 2 ^ 15 }
+        ensures few { length self.old.writes ≤ 72 → length circuit.new.nodes ≤ length circuit.old.nodes + 2 ^ 15 }
         ensures err { OnErr result (self.new ≡ self.old) }
     {
         match find(self.cells.as_slice(), address.as_slice()) {

@@ -154,7 +154,7 @@ way_writes at ss left s rest n0 n m t0 t v r0 r q e h done =
 
 -- the nodes after one statement more, whether or not memory ran out in it
 pub way_few : (at : SymEntry) (ss left : List Stmt) (s : Stmt) (rest : List Stmt) (n0 n m : List Node) (t0 t : View) (r0 r : Run) → left ≡ s ∷ rest → OnTheWay at ss left n0 t0 r0 n t r →
-    AddsFew t.writes (stmt_tally s).accesses n m (stmts_cost (stmt_tally s)) → length t0.writes + (all_of (map stmt_tally ss)).accesses ≤ 64 →
+    AddsFew t.writes (stmt_tally s).accesses n m (stmts_cost (stmt_tally s)) → length t0.writes + (all_of (map stmt_tally ss)).accesses ≤ 72 →
     length m + stmts_cost (all_of (map stmt_tally rest)) ≤ length n0 + stmts_cost (all_of (map stmt_tally ss))
 unfolding both
 way_few at ss left s rest n0 n m t0 t r0 r e h few w =

@@ -53,7 +53,7 @@ adds_more ws a b m k l h = record { front = h.front; few = λ w. let f = h.few w
 pub adds_then : (ws vs : List Write) (a b c : List Node) (m n k : ℕ) → vs ≡ ws → m + n ≤ k → Adds ws a b m → Adds vs b c n → Adds ws a c k
 adds_then ws vs a b c m n k e l h i = record {
   front = front_then a b c h.front i.front;
-  few = λ w. let f = h.few w in let g = i.few (subst (λ (x : List Write). length x ≤ 64) (sym e) w) in omega arith;
+  few = λ w. let f = h.few w in let g = i.few (subst (λ (x : List Write). length x ≤ 72) (sym e) w) in omega arith;
 }
 
 -- ---- what forms cost
@@ -336,7 +336,7 @@ load_second ws a b d x u e h k =
     let same : expr_cost u ≡ expr_cost x = ap expr_cost e in
     adds_then ws ws a b d (expr_cost u) (2 ^ 15 + 3) (expr_cost (Load x)) refl (omega (arith, same, cost-load x)) h (adds_nodes ws b d (2 ^ 15 + 3) (2 ^ 15 + 3) (omega arith) k)
 
-pub load_last : (ws vs : List Write) (a b d n : List Node) (x u : Expr) → u ≡ x → vs ≡ ws → Adds ws a b (expr_cost u) → AddsNodes b d (2 ^ 15 + 3) → GrowsTo d n → (length vs ≤ 64 → length n ≤ length d + 2 ^ 15) → Adds ws a n (expr_cost (Load x))
+pub load_last : (ws vs : List Write) (a b d n : List Node) (x u : Expr) → u ≡ x → vs ≡ ws → Adds ws a b (expr_cost u) → AddsNodes b d (2 ^ 15 + 3) → GrowsTo d n → (length vs ≤ 72 → length n ≤ length d + 2 ^ 15) → Adds ws a n (expr_cost (Load x))
 load_last ws vs a b d n x u e s h k g f =
     let same : expr_cost u ≡ expr_cost x = ap expr_cost e in
     adds_then ws vs a d n (expr_cost u + (2 ^ 15 + 3)) (2 ^ 15) (expr_cost (Load x)) s (omega (arith, same, cost-load x))

@@ -164,7 +164,7 @@ bounded t h =
     record { accesses = not_below most_accesses t.accesses a.0; statements = not_below most_statements t.statements s.0; expressions = not_below most_expressions t.expressions e.0 }
 
 pub few_of_valid : (d : Desc) (k : ℕ) (i : Instr) (ws : List Write) (a b : List Node) → IsValid d → slice_get d.instrs k ≡ Some i → AddsFew ws (instr_tally i).accesses a b (2 ^ 16 + stmts_cost (instr_tally i)) →
-    length ws ≤ 56 → length b ≤ length a + 2 ^ 27
+    length ws ≤ 64 → length b ≤ length a + 2 ^ 27
 few_of_valid d k i ws a b valid found h l =
     let t = bounded (instr_tally i) (limits_at 0 d.instrs k i (as_limit_none (limit_broken 0 d.instrs) valid.limits) found) in
     let x = t.accesses in

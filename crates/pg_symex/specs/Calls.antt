@@ -40,11 +40,11 @@ pub record IsValue (at : SymEntry) (lets : SymLets) (e : Expr) (old : List Node)
   pub are_bits : AreBits (length nodes) (length bits) bits
   pub width : width_of (sym_setting at) e (widths_of lets) ≡ Some (length bits)
 
--- what a call adds in any case, also where memory runs out: the nodes stay, and while at most 64 writes stand, at most so many
--- nodes are added
+-- what a call adds in any case, also where memory runs out: the nodes stay, and while at most 72 writes stand, as many as 64 and
+-- those of an instruction, at most so many nodes are added
 pub record Adds (writes : List Write) (old new : List Node) (most : ℕ) : Type 0 where
   pub front : GrowsTo old new
-  pub few : length writes ≤ 64 → length new ≤ length old + most
+  pub few : length writes ≤ 72 → length new ≤ length old + most
 
 -- how many nodes an expression costs at most
 abbrev pub expr_cost : Expr → ℕ
@@ -55,6 +55,6 @@ abbrev pub stmts_cost : Tally → ℕ
 stmts_cost t = t.expressions * (3 * 2 ^ 15) + t.statements * 2 ^ 16
 
 -- what statements add in any case, also where memory runs out: while the writes that stand and those that may come are at
--- most 64, at most so many nodes are added
+-- most 72, at most so many nodes are added
 pub record AddsFew (writes : List Write) (accesses : ℕ) (old new : List Node) (most : ℕ) : Type 0 where
-  pub few : length writes + accesses ≤ 64 → length new ≤ length old + most
+  pub few : length writes + accesses ≤ 72 → length new ≤ length old + most

@@ -53,7 +53,7 @@ pub record OnTheWay (at : SymEntry) (stmts left : List Stmt) (old : List Node) (
   pub view : t ≡ record t0 { cells = t.cells; writes = t.writes }
   pub front : GrowsTo old nodes
   pub writes : length t.writes + (all_of (map stmt_tally left)).accesses ≤ length t0.writes + (all_of (map stmt_tally stmts)).accesses
-  pub few : length t0.writes + (all_of (map stmt_tally stmts)).accesses ≤ 64 → length nodes + stmts_cost (all_of (map stmt_tally left)) ≤ length old + stmts_cost (all_of (map stmt_tally stmts))
+  pub few : length t0.writes + (all_of (map stmt_tally stmts)).accesses ≤ 72 → length nodes + stmts_cost (all_of (map stmt_tally left)) ≤ length old + stmts_cost (all_of (map stmt_tally stmts))
 
 -- bits of an expression of a body under way, of which the guards alone may have changed
 pub record IsTaken (at : SymEntry) (e : Expr) (old : List Node) (t0 : View) (r0 : Run) (bits : List Gate) (nodes : List Node) (t : View) (r : Run) : Type 0 where

@@ -61,8 +61,8 @@ pub struct SymOutcome {
 /// Where no write stood, the outcome tells for all inputs, and every storage that agrees with the cells, what the body comes
 /// to (`runs`). The error is want of memory: the circuit may hold further gates, and the cells are only to be dropped.
 ///
-/// In any case the nodes that were there stay, and where at most 56 writes stood, at most `2^27` are added (`few`): an
-/// instruction has at most 8 accesses, so never more than 64 writes stand; each of its 1,024 expressions costs at most
+/// In any case the nodes that were there stay, and where at most 64 writes stood, at most `2^27` are added (`few`): an
+/// instruction has at most 8 accesses, so never more than 72 writes stand; each of its 1,024 expressions costs at most
 /// `3 * 2^15` nodes, each of its 200 statements `2^16` beside them, and the fetch with P + 1 `2^16`.
 pub fn run_symbolic(
     alloc: Global,
@@ -81,7 +81,7 @@ pub fn run_symbolic(
     ensures runs { (i : Instrs) → slice_get m.now.desc.instrs instr ≡ Some i → t.old.writes ≡ [] → RunsAs m.now.desc i regs.now c.old.nodes t.old.cells (run_made m.now.desc i regs.now c.old.nodes t.old.cells []) }
     ensures view { OnOk result (t.new ≡ record t.old { cells = t.new.cells; writes = t.new.writes }) }
     ensures kept { GrowsTo c.old.nodes c.new.nodes }
-    ensures few { length t.old.writes ≤ 56 → length c.new.nodes ≤ length c.old.nodes + 2 ^ 27 }
+    ensures few { length t.old.writes ≤ 64 → length c.new.nodes ≤ length c.old.nodes + 2 ^ 27 }
 {
     let instrs = m.desc.instrs.as_slice();
     run_instr(alloc, m, &instrs[instr], m.decoder(instr), c, t, regs)
