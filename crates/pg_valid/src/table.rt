@@ -5,7 +5,7 @@
 //! machine is the order of the instructions: a place in it is an instruction's number. The table owns copies of the
 //! names. Only `insert` takes memory.
 
-ghost use Rattle.std.specs.Prelude.{◌≡◌, ℕ, ◌<◌, not, if◌then◌else◌, List, [], ◌∷◌, ◌++◌, length, position, bytes_eq, slice_get, Some, IfOk};
+ghost use Rattle.std.specs.Prelude.{◌≡◌, ℕ, ◌<◌, not, if◌then◌else◌, List, [], ◌∷◌, ◌++◌, length, position, bytes_eq, slice_get, Some, IfOk, OnErr};
 ghost use Rattle.pg_valid.specs.Twice.{is_among};
 
 use indexmap::IndexSet;
@@ -63,6 +63,7 @@ impl NameTable {
     pub fn insert(&mut self, alloc: Global, name: &[u8]) -> Result<bool, AllocError>
         ensures added { IfOk result (λ added. added ≡ not (is_among self.old name.now)) }
         ensures names { IfOk result (λ added. self.new ≡ (if added then self.old ++ name.now ∷ [] else self.old)) }
+        ensures kept { OnErr result (self.new ≡ self.old) }
     {
         let key = match Vec::from_slice(alloc, name) {
             Err(error) => return Err(error),
