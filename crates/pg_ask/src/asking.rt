@@ -1,6 +1,6 @@
 //! Questions: the clauses that two states show a kind of an instruction.
 
-ghost use Rattle.std.specs.Prelude.{◌≡◌, ◌∷◌, ◌<◌, ◌^◌, List, [], length, slice_get, Some, IfOk, OnOk};
+ghost use Rattle.std.specs.Prelude.{◌≡◌, ◌∷◌, ◌<◌, ◌^◌, Bool, List, [], length, slice_get, Some, IfOk, OnOk};
 ghost use Rattle.pg_circuit.specs.declared.node.Node.{Node};
 ghost use Rattle.pg_circuit.specs.declared.node.Node.TheVariants.{Constant};
 ghost use Rattle.pg_circuit.specs.Values.{IsThere};
@@ -94,9 +94,9 @@ impl<'m> Asked<'m> {
 }
 
 /// The question of an instruction, of a number below `count()`, and a kind: clauses that can all be true exactly where two
-/// states of the machine, of sizes from 2 to q, show the kind (`Shows`, `pg_type`). It is the same at each call, and for a
-/// description with or without causes. Linear in the body, but that touched cells are compared in pairs. The error is want of
-/// memory; a circuit of 2^29 nodes is more than there is room for.
+/// states of the machine, of sizes from 2 to q, show the kind (`Shows`, `pg_type`). It is the same at each call, and that of the
+/// same description with causes or without (`causes`). Linear in the body, but that touched cells are compared in pairs. The
+/// error is want of memory; a circuit of 2^29 nodes is more than there is room for.
 pub fn ask<'m>(
     alloc: Global,
     machine: &'m Machine,
@@ -105,6 +105,7 @@ pub fn ask<'m>(
 ) -> Result<Asked<'m>, AllocError>
     requires { instr < length machine.now.desc.instrs }
     ensures question { IfOk result (λ a. (i : Instrs) → slice_get machine.now.desc.instrs instr ≡ Some i → a.cnf.clauses ≡ question machine.now.desc i kind) }
+    ensures causes { IfOk result (λ a. (i : Instrs) (causes : Bool) → slice_get machine.now.desc.instrs instr ≡ Some i → a.cnf.clauses ≡ question (record machine.now.desc { causes = causes }) i kind) }
     ensures exact { IfOk result (λ a. (i : Instrs) → slice_get machine.now.desc.instrs instr ≡ Some i → Decides machine.now.desc i kind a.cnf.clauses) }
     ensures variables { IfOk result (λ a. a.cnf.variables < 2 ^ 29) }
     ensures machine { IfOk result (λ a. a.machine.now ≡ machine.now) }

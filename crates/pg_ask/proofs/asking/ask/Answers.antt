@@ -1,4 +1,6 @@
+use Rattle.std.proofs.Common.{sym, ◌∙◌}
 use Rattle.pg_ask.proofs.AskSteps.{begun_view, decides}
+use Rattle.pg_ask.proofs.CausesLaw.{causes-keep}
 use Rattle.pg_ask.proofs.asking.ask.Goals as goal
 
 pub draw-requires-clause-instr : goal.draw-requires-clause-instr
@@ -24,6 +26,11 @@ invariant_of-result c =
 
 pub returns-clause-question : goal.returns-clause-question
 returns-clause-question c = λ i here. (c.in_ok-drawn.ensures.made i here).clauses_are
+
+pub returns-clause-causes : goal.returns-clause-causes
+returns-clause-causes c =
+    λ i causes here. (c.in_ok-drawn.ensures.made i here).clauses_are
+    ∙ sym (causes-keep c.args.machine.now.desc i c.args.kind causes)
 
 pub returns-clause-exact : goal.returns-clause-exact
 returns-clause-exact c =
