@@ -1,6 +1,6 @@
 -- A log that is replayed act by act.
 use Rattle.std.proofs.Common.{◌≡◌, ◌≢◌, ℕ, ◌+◌, ◌<◌, ◌≤◌, List, [], ◌∷◌, length, get_or, drop, Option, Some, None, Err, is_none, if◌then◌else◌, refl, sym, ap, subst, ◌∙◌, arith, ℤ, IsTrue}
-use Rattle.std.specs.Prelude.{◌↔◌, ⊤, Result, Ok, OnOk, OnErr, IsSomeAnd}
+use Rattle.std.specs.Prelude.{◌↔◌, ⊤, Result, Ok, OnOk, OnErr, IfErr, IsSomeAnd}
 use Rattle.std.specs.Option.{option_and_then, option_map}
 use Rattle.std.proofs.lemmas.List.{drop_more, drop_all, length-map, length-append}
 use Rattle.std.proofs.lemmas.Option.{same_Some}
@@ -8,12 +8,12 @@ use Rattle.pg_proof.specs.declared.step.ProofFault.{ProofFault}
 use Rattle.pg_proof.specs.declared.step.ProofFault.TheVariants.{UnknownLit, UnknownHint, NotUnit, NoConflict, UnknownClause, Memory}
 use Rattle.pg_proof.specs.declared.step.Step.{Step}
 use Rattle.pg_proof.specs.declared.step.Act.{Act}
-use Rattle.pg_proof.specs.declared.step.Act.TheVariants.{Add}
+use Rattle.pg_proof.specs.declared.step.Act.TheVariants.{Add, Remove}
 use Rattle.pg_proof.specs.State.{State, begun, with_clause}
 use Rattle.pg_proof.specs.Refutation.{fault_of, told}
 use Rattle.pg_proof.specs.Removal.{without, after_removal}
 use Rattle.pg_proof.specs.Sound.{IsSound}
-use Rattle.pg_proof.specs.Log.{after_act, after_acts_from, after_acts, IsClosedLog}
+use Rattle.pg_proof.specs.Log.{act_fault, after_act, after_acts_from, after_acts, IsClosedLog}
 use Rattle.pg_proof.proofs.SoundLemmas.{IsSound-begun}
 use Rattle.pg_proof.proofs.RemovalLemmas.{length-without}
 
@@ -38,6 +38,17 @@ IsReplayed-next question acts state after i act lt is e s few h =
       sound = s;
       few = omega (arith, few, h.few);
     }
+
+-- the fault that a removal tells
+judged_by : (A : Type 0) (r : Result A ProofFault) (o : Option State) (after : State) → OnOk r (o ≡ Some after) →
+    IfErr r (λ fault. (fault ≡ UnknownClause) × (o ≡ None)) → (if is_none o then Some UnknownClause else None) ≡ told r
+judged_by A (Ok a) o after h e = ap (λ (x : Option State). if is_none x then Some UnknownClause else None) h
+judged_by A (Err fault) o after h e =
+    ap (λ (x : Option State). if is_none x then Some UnknownClause else None) e.1 ∙ subst (λ (f : ProofFault). Some UnknownClause ≡ told {A = A} (Err f)) (sym e.0) refl
+
+pub judged_removal : (A : Type 0) (r : Result A ProofFault) (state after : State) (act : Act) (ns : List ℕ) → act ≡ Remove ns →
+    OnOk r (after_removal state ns ≡ Some after) → IfErr r (λ fault. (fault ≡ UnknownClause) × (after_removal state ns ≡ None)) → act_fault state act ≡ told r
+judged_removal A r state after act ns is h e = ap (act_fault state) is ∙ judged_by A r (after_removal state ns) after h e
 
 not_closed : (o : Option State) → o ≡ None → IsSomeAnd o (λ after. IsTrue after.closed) → ⊥
 not_closed None e h = h

@@ -1,6 +1,8 @@
 -- Logs: acts one after another, from a question on.
 use Rattle.std.specs.Prelude.{◌≡◌, ℕ, zero, suc, ⊤, true, false, if◌then◌else◌, IsTrue, ℤ, List, [], ◌∷◌, Option, None, Some, is_none, IsSomeAnd}
 use Rattle.std.specs.Option.{option_and_then}
+use Rattle.pg_proof.specs.declared.step.ProofFault.{ProofFault}
+use Rattle.pg_proof.specs.declared.step.ProofFault.TheVariants.{UnknownClause}
 use Rattle.pg_proof.specs.declared.step.Step.{Step}
 use Rattle.pg_proof.specs.declared.step.Act.{Act}
 use Rattle.pg_proof.specs.declared.step.Act.TheVariants.{Add, Remove}
@@ -14,6 +16,11 @@ use Rattle.pg_proof.specs.Removal.{after_removal}
 abbrev pub after_act : State → Act → Option State
 after_act state (Add step) = (if is_none (fault_of state.variables state.held step) then Some (with_clause state step.lits) else None)
 after_act state (Remove numbers) = after_removal state numbers
+
+-- the first fault of an act, if it has one: that of its step, or that not all clauses it names are held
+abbrev pub act_fault : State → Act → Option ProofFault
+act_fault state (Add step) = fault_of state.variables state.held step
+act_fault state (Remove numbers) = (if is_none (after_removal state numbers) then Some UnknownClause else None)
 
 -- after acts in order, from a state on
 abbrev pub after_acts_from : State → List Act → Option State

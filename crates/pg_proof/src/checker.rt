@@ -9,7 +9,7 @@ ghost use Rattle.pg_proof.specs.State.{State, begun, is_empty, with_clause};
 ghost use Rattle.pg_proof.specs.Refutation.{fault_of, told};
 ghost use Rattle.pg_proof.specs.Covered.{home, is_covered, with_hung};
 ghost use Rattle.pg_proof.specs.Tight.{is_tight};
-ghost use Rattle.pg_proof.specs.Log.{after_act};
+ghost use Rattle.pg_proof.specs.Log.{act_fault, after_act};
 ghost use Rattle.pg_proof.specs.Removal.{after_removal};
 ghost use Rattle.pg_proof.specs.Sound.{IsSound};
 
@@ -136,9 +136,11 @@ impl Checker {
         Ok(())
     }
 
-    /// Takes an act: its step is added, or its clauses are taken away, with the faults of `add` or `remove`.
+    /// Takes an act: its step is added, or its clauses are taken away. A refusal is the fault that `add` or `remove` tells of it
+    /// (`judged`); `Memory` comes where memory runs out at a valid step. After a refusal all is as it was.
     pub fn apply(&mut self, act: &Act) -> Result<(), ProofFault>
         requires { length self.old.held + 1 < 2 ^ 32 }
+        ensures judged { act_fault self.old act.now ≡ told result }
         ensures applied { OnOk result (after_act self.old act.now ≡ Some self.new) }
         ensures refused { IfErr result (λ fault. fault ≢ ProofFault.Memory → after_act self.old act.now ≡ None) }
         ensures kept { OnErr result (self.new ≡ self.old) }
