@@ -1,5 +1,7 @@
 -- A machine without instructions traps at every step.
 use Rattle.std.proofs.Common.{◌≡◌, ℕ, Bool, true, false, nat_lt, if◌then◌else◌, List, [], length, slice_set, slice_index, None, refl, sym, ◌∙◌, ap, subst, inl, inr}
+use Rattle.std.proofs.Math.Logic.{∥∥₁_elim}
+use Rattle.std.proofs.Props.{props}
 use Rattle.std.proofs.lemmas.Option.{slice_get_cases}
 use Rattle.std.proofs.lemmas.Bool.{lt-ltb, le-ltb}
 use Rattle.pg_word.specs.declared.shape.Shape.{Shape}
@@ -41,16 +43,24 @@ is_trap_test true = refl
 is_trap_test false = refl
 
 -- a step that finds no instruction traps, by its cause
-pub step-idle : (d : Desc) (s : State) → d.instrs ≡ [] → step d s ≡ trapped d s (cause_number (cause_where s.psw.p (window_length s)))
+step_none : (d : Desc) (s : State) → d.instrs ≡ [] → step d s ≡ trapped d s (cause_number (cause_where s.psw.p (window_length s)))
 unfolding step
-step-idle d s e = rw (ending-idle d (window s) s.psw e, window-length s) (left_by_test d s (nat_lt s.psw.p (window_length s)))
+step_none d s e = rw (ending-idle d (window s) s.psw e, window-length s) (left_by_test d s (nat_lt s.psw.p (window_length s)))
 
-pub traps-idle : (d : Desc) (s : State) → d.instrs ≡ [] → traps d s ≡ true
+traps_none : (d : Desc) (s : State) → d.instrs ≡ [] → traps d s ≡ true
 unfolding traps
-traps-idle d s e = rw (ending-idle d (window s) s.psw e) (is_trap_test (nat_lt s.psw.p (length (window s))))
+traps_none d s e = rw (ending-idle d (window s) s.psw e) (is_trap_test (nat_lt s.psw.p (length (window s))))
+
+-- however it is known that there is none
+pub step-idle : (d : Desc) (s : State) → ∥ d.instrs ≡ [] ∥₁ → step d s ≡ trapped d s (cause_number (cause_where s.psw.p (window_length s)))
+step-idle d s known =
+    ∥∥₁_elim {P = step d s ≡ trapped d s (cause_number (cause_where s.psw.p (window_length s)))} known (hlevel props) (step_none d s)
+
+pub traps-idle : (d : Desc) (s : State) → ∥ d.instrs ≡ [] ∥₁ → traps d s ≡ true
+traps-idle d s known = ∥∥₁_elim {P = traps d s ≡ true} known (hlevel props) (traps_none d s)
 
 -- the same step, done in parts
-pub step-idle_by : (d : Desc) (s t : State) (shape : Shape) (usable : ℕ) (cause : Cause) → d.instrs ≡ [] → shape ≡ shape_of d →
+pub step-idle_by : (d : Desc) (s t : State) (shape : Shape) (usable : ℕ) (cause : Cause) → ∥ d.instrs ≡ [] ∥₁ → shape ≡ shape_of d →
     usable ≡ window_length s → cause ≡ cause_where s.psw.p usable →
     t.cells ≡ slice_set s.cells 0 (packed_trap shape s.psw (cause_number cause)) → t.psw ≡ unpacked shape.a (slice_index s.cells 1) → t ≡ step d s
 step-idle_by d s t shape usable cause none is usable_is cause_is cells_is psw_is =

@@ -39,12 +39,11 @@ Poked-switched_on words old mid new size psw p e size_is psw_is is =
     ∙ ap (λ x. let s : State = record { cells = words; psw = x } in s) (psw_is ∙ ap power_on_psw (size_is ∙ p.size ∙ sym e))
     ∙ power_on-of words in
     let tally : new.tally ≡ after_load (after_pokes old.tally (length words)) = ap (λ (h : Machinery). h.tally) is ∙ ap after_load p.tally in
-    same new old _ _ state tally (ap (λ (h : Machinery). h.bottom) is ∙ p.bottom) (ap (λ (h : Machinery). h.room) is ∙ p.room)
+    same new old _ _ state tally (ap (λ (h : Machinery). h.bottom) is ∙ p.bottom)
   where
-    same : (new old : Machinery) (s : State) (t : Counts) → new.state ≡ s → new.tally ≡ t → new.bottom ≡ old.bottom → new.room ≡ old.room →
+    same : (new old : Machinery) (s : State) (t : Counts) → new.state ≡ s → new.tally ≡ t → new.bottom ≡ old.bottom →
         new ≡ record old { state = s; tally = t }
-    same new old s t a b c d =
-        ap (λ x. let h : Machinery = record { state = x; tally = new.tally; bottom = new.bottom; room = new.room } in h) a
-        ∙ ap (λ x. let h : Machinery = record { state = s; tally = x; bottom = new.bottom; room = new.room } in h) b
-        ∙ ap (λ (x : Bottom). let h : Machinery = record { state = s; tally = t; bottom = x; room = new.room } in h) c
-        ∙ ap (λ (x : ℕ). let h : Machinery = record { state = s; tally = t; bottom = old.bottom; room = x } in h) d
+    same new old s t a b c =
+        ap (λ x. let h : Machinery = record { state = x; tally = new.tally; bottom = new.bottom } in h) a
+        ∙ ap (λ x. let h : Machinery = record { state = s; tally = x; bottom = new.bottom } in h) b
+        ∙ ap (λ (x : Bottom). let h : Machinery = record { state = s; tally = t; bottom = x } in h) c

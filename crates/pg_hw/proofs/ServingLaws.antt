@@ -7,19 +7,13 @@ use Rattle.pg_meaning.specs.States.{State, IsState}
 use Rattle.pg_meaning.specs.Steps.{power_on}
 use Rattle.pg_valid.specs.Valid.{IsValid}
 use Rattle.pg_valid.proofs.StepSound.{power_on-state}
-use Rattle.pg_hw.specs.Serving.{SameServed, IsServedWord, IsServedPsw, blank}
+use Rattle.pg_hw.specs.Serving.{IsServed, IsServedWord, IsServedPsw, blank}
 
-pub IsServedWord-of : (serves : Desc → Type 0) (d : Desc) (word : ℕ) → serves d → word < 2 ^ d.word → IsServedWord serves word
+pub IsServedWord-of : (serves : Desc → Type 0) (d : Desc) (word : ℕ) → IsServed serves d → word < 2 ^ d.word → IsServedWord serves word
 IsServedWord-of serves d word served fits = record { machine = d; served = served; fits = fits }
 
-pub IsServedPsw-of : (serves : Desc → Type 0) (d : Desc) (psw : Psw) → serves d → IsPsw d.address psw → IsServedPsw serves psw
+pub IsServedPsw-of : (serves : Desc → Type 0) (d : Desc) (psw : Psw) → IsServed serves d → IsPsw d.address psw → IsServedPsw serves psw
 IsServedPsw-of serves d psw served fits = record { machine = d; served = served; fits = fits }
-
-pub SameServed-same : (serves : Desc → Type 0) → SameServed serves serves
-SameServed-same serves = record { kept = λ d h. h; none_more = λ d h. h }
-
-pub SameServed-then : (a b c : Desc → Type 0) → SameServed a b → SameServed b c → SameServed a c
-SameServed-then a b c x y = record { kept = λ d h. y.kept d (x.kept d h); none_more = λ d h. x.none_more d (y.none_more d h) }
 
 -- the state that a hardware begins with is the power-on state of no image
 pub blank-power_on : (n : ℕ) → blank n ≡ power_on [] n

@@ -5,21 +5,20 @@ use Rattle.pg_word.specs.Psw.{IsPsw, power_on_psw}
 use Rattle.pg_ast.specs.declared.tree.Desc.{Desc}
 use Rattle.pg_meaning.specs.States.{State}
 
--- the same machines may be run
-pub record SameServed (old new : Desc → Type 0) : Type 0 where
-  pub kept : (d : Desc) → old d → new d
-  pub none_more : (d : Desc) → new d → old d
+-- a machine may be run, however that is known
+abbrev pub IsServed : (Desc → Type 0) → Desc → Type 0
+IsServed serves d = ∥ serves d ∥₁
 
 -- a word of some machine that may be run
 pub record IsServedWord (serves : Desc → Type 0) (word : ℕ) : Type 0 where
   pub machine : Desc
-  pub served : serves machine
+  pub served : IsServed serves machine
   pub fits : word < 2 ^ machine.word
 
 -- a program status word of some machine that may be run
 pub record IsServedPsw (serves : Desc → Type 0) (psw : Psw) : Type 0 where
   pub machine : Desc
-  pub served : serves machine
+  pub served : IsServed serves machine
   pub fits : IsPsw machine.address psw
 
 -- the state of n cells that a hardware begins with: zeros, and the PSW of a machine that is switched on

@@ -2,8 +2,10 @@
 //!
 //! What a user of the trait knows of an implementation is what the clauses say of two ghost members. The one is its
 //! `Machinery`: a state, which is a storage and a program status word, and which moves by *Step* and by nothing else but the
-//! calls that name it; four counts of what was done to it, and two of the hardware at the bottom, which never fall; and a
-//! room, the greatest size that it can be given. The other is the machines that it serves, which it may run.
+//! calls that name it; and four counts of what was done to it, and two of the hardware at the bottom, which never fall. The
+//! other is what no call changes. Two things follow from it: the room, the greatest size that the hardware can be given, and
+//! the machines that it serves, which it may run. Each implementation chooses of which type it is: a hardware that holds
+//! another one keeps there which one that is, and so shows that it holds it still.
 //!
 //! Each implementation is proved against the clauses. Nothing above this crate names one.
 //!

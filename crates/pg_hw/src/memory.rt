@@ -17,6 +17,7 @@ ghost use Rattle.pg_meaning.specs.Steps.{steps};
 ghost use Rattle.pg_hw.specs.Tallies.{no_counts};
 ghost use Rattle.pg_hw.specs.Machinery.{at_psw};
 ghost use Rattle.pg_hw.specs.Bursts.{burst_length};
+ghost use Rattle.pg_hw.specs.Serving.{IsServed};
 ghost use Rattle.pg_hw.specs.Running.{after_run};
 
 use super::counts::Counts;
@@ -45,6 +46,7 @@ pub trait Works {
     ghost use Rattle.pg_meaning.specs.Steps.{steps as stepped_often};
     ghost use Rattle.pg_hw.specs.Bursts.{burst_length, untrapped_among};
     ghost use Rattle.pg_hw.specs.Machinery.{at_psw};
+    ghost use Rattle.pg_hw.specs.Serving.{IsServed};
 
     /// The machines whose steps it does.
     ghost does: { Desc → Type 0 };
@@ -55,7 +57,7 @@ pub trait Works {
     /// Steps of a machine whose storage is `cells`, until `k` were done or one trapped, which is then the last: from 1 to
     /// `k`, or 0 where `k` is 0.
     fn run(&mut self, cells: &mut [u64], psw: Psw, m: &Machine, k: u64) -> BurstEnd
-        requires known { does m.now.desc }
+        requires known { IsServed does m.now.desc }
         requires state { IsState m.now.desc (at_psw cells.old psw) }
         ensures done { result.done ≡ burst_length m.now.desc k (at_psw cells.old psw) }
         ensures state { at_psw cells.new result.psw ≡ stepped_often m.now.desc result.done (at_psw cells.old psw) }
@@ -91,7 +93,7 @@ impl<W: Works> Memory<W> {
 
     /// Steps until `k` were done or one trapped, counted once for all of them; how many they were.
     fn run(&mut self, m: &Machine, k: u64) -> u64
-        requires known { W.does m.now.desc }
+        requires known { IsServed W.does m.now.desc }
         requires state { IsState m.now.desc (at_psw self.old.cells.items self.old.psw) }
         ensures done { result ≡ burst_length m.now.desc k (at_psw self.old.cells.items self.old.psw) }
         ensures state { at_psw self.new.cells.items self.new.psw ≡ steps m.now.desc result (at_psw self.old.cells.items self.old.psw) }
@@ -110,7 +112,13 @@ impl<W: Works> Hardware for Memory<W> {
 
     ghost machinery = { λ h. on_its_own h.cells.items h.psw h.counts };
 
-    ghost serves = { λ _ d. W.does d };
+    ghost Fixed = { Unit {0} };
+
+    ghost fixed = { λ _. tt };
+
+    ghost serves = { λ _. W.does };
+
+    ghost room = { λ _. 4294967295 };
 
     fn install(&mut self, size: u32) -> Result<(), AllocError> {
         let cells = vec![in self.alloc; 0u64; size as usize]?;

@@ -8,7 +8,7 @@ ghost use Rattle.pg_word.specs.Psw.{power_on_psw};
 ghost use Rattle.pg_meaning.specs.States.{IsState};
 ghost use Rattle.pg_meaning.specs.Steps.{power_on};
 ghost use Rattle.pg_hw.specs.Tallies.{after_load};
-ghost use Rattle.pg_hw.specs.Serving.{SameServed, IsServedWord, IsServedPsw};
+ghost use Rattle.pg_hw.specs.Serving.{IsServed, IsServedWord, IsServedPsw};
 ghost use Rattle.pg_hw.specs.Running.{after_pokes, Ran, Poked};
 
 use crate::hardware::Hardware;
@@ -18,11 +18,11 @@ use pg_word::Psw;
 /// Switches a hardware on with an image of its size: every cell is poked, and the program status word is loaded.
 pub fn power_on<H: Hardware>(hw: &mut H, image: &[u64])
     requires size { length image.now ≡ length (H.machinery hw.old).state.cells }
-    requires words { All (IsServedWord (H.serves hw.old)) image.now }
-    requires psw { IsServedPsw (H.serves hw.old) (power_on_psw (length image.now)) }
+    requires words { All (IsServedWord (H.serves (H.fixed hw.old))) image.now }
+    requires psw { IsServedPsw (H.serves (H.fixed hw.old)) (power_on_psw (length image.now)) }
     ensures switched_on { let size = length image.now in
         H.machinery hw.new ≡ record (H.machinery hw.old) { state = power_on image.now size; tally = after_load (after_pokes (H.machinery hw.old).tally size) } }
-    ensures served { SameServed (H.serves hw.old) (H.serves hw.new) }
+    ensures fixed { H.fixed hw.new ≡ H.fixed hw.old }
 {
     poke_all(hw, image);
     let size = hw.size();
@@ -32,9 +32,9 @@ pub fn power_on<H: Hardware>(hw: &mut H, image: &[u64])
 /// Pokes every cell.
 fn poke_all<H: Hardware>(hw: &mut H, image: &[u64])
     requires size { length image.now ≡ length (H.machinery hw.old).state.cells }
-    requires words { All (IsServedWord (H.serves hw.old)) image.now }
+    requires words { All (IsServedWord (H.serves (H.fixed hw.old))) image.now }
     ensures poked { Poked image.now (length image.now) (H.machinery hw.old) (H.machinery hw.new) }
-    ensures served { SameServed (H.serves hw.old) (H.serves hw.new) }
+    ensures fixed { H.fixed hw.new ≡ H.fixed hw.old }
 {
     let size = hw.size();
     for at in 0..size {
@@ -44,10 +44,10 @@ fn poke_all<H: Hardware>(hw: &mut H, image: &[u64])
 
 /// Runs a machine for `n` steps, in bursts: what traps goes on from the program status word that it loaded.
 pub fn bare<H: Hardware>(hw: &mut H, m: &Machine, n: u64)
-    requires served { H.serves hw.old m.now.desc }
+    requires served { IsServed (H.serves (H.fixed hw.old)) m.now.desc }
     requires state { IsState m.now.desc (H.machinery hw.old).state }
     ensures ran { Ran m.now.desc n (H.machinery hw.old) (H.machinery hw.new) }
-    ensures served { SameServed (H.serves hw.old) (H.serves hw.new) }
+    ensures fixed { H.fixed hw.new ≡ H.fixed hw.old }
 {
     let mut left = n;
     while left > 0 {

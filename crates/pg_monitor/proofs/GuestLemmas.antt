@@ -185,7 +185,6 @@ pub record Entered (k : ℕ) (current : Option ℕ) (old new : Machinery) : Type
   pub cells : new.state.cells ≡ old.state.cells
   pub tally : new.tally ≡ record old.tally { loads = raised_by (change_to k current) old.tally.loads }
   pub bottom : new.bottom ≡ old.bottom
-  pub room : new.room ≡ old.room
 
 pub Turned-went : (d : Desc) (k n : ℕ) (old between new : Machinery) (gs : List Guest) (current : Option ℕ) (g h : Guest) →
     Stands d old.state gs current → slice_get gs k ≡ Some g → Entered k current old between → Went d (suc n) between new g h →
@@ -218,7 +217,6 @@ Turned-went d k n old between new gs current g h stands is entered went =
         steps = omega (arith, went.bottom.steps, ap (λ (c : Bottom). c.steps) entered.bottom);
         untrapped = omega (arith, went.bottom.untrapped, ap (λ (c : Bottom). c.untrapped) entered.bottom, direct);
       };
-      room = went.room ∙ entered.room;
     }
 
 -- no turn changes nothing
@@ -238,7 +236,6 @@ Turned-none d k h gs current g stands is =
       psw = refl;
       tally = CountsTurns-none h.tally;
       bottom = BottomTurns-none h.bottom;
-      room = refl;
     }
 
 -- ---- the current guest, and a change of guest

@@ -210,7 +210,6 @@ Followed-none d h gs current = record {
   psw = refl;
   tally = CountsTurns-none h.tally;
   bottom = BottomTurns-none h.bottom;
-  room = refl;
 }
 
 -- the turns of one pair, and then those of the others
@@ -274,7 +273,6 @@ Followed-next d turn plan before between after gs hs ks c c' c'' valid stands on
           (direct_among-most d g.base n v) (direct_of-most d hs plan (virtuals mid.cells hs)) one.tally rest.tally));
       bottom = subst (λ x. BottomTurns (n + turns_of plan) x b b'') (sym all)
           (BottomTurns-add n (turns_of plan) (direct_among d g.base n v) (direct_of d hs plan (virtuals mid.cells hs)) b b' b'' one.bottom rest.bottom);
-      room = rest.room ∙ one.room;
     }
 
 -- the turns of the pair at a place, and then those of the pairs behind it

@@ -143,7 +143,6 @@ Went-direct d n old new g h run ran guest =
         steps = ran.bottom.steps;
         untrapped = omega (arith, ran.bottom.untrapped.at_least, ran.bottom.untrapped.at_most, run.untrapped, run.supervisor, run.direct);
       };
-      room = ran.room;
     }
 
 -- ---- turns that ended with one that was interpreted
@@ -286,7 +285,6 @@ Went-halted d n old between new g h k valid stopped halted ran done =
         steps = ap (λ (c : Bottom). c.steps) done.bottom ∙ ran.bottom.steps;
         untrapped = omega (arith, ap (λ (c : Bottom). c.untrapped) done.bottom, ran.bottom.untrapped.at_least, ran.bottom.untrapped.at_most, counts.untrapped, counts.supervisor, counts.direct);
       };
-      room = done.room ∙ ran.room;
     }
 
 -- ---- turns after turns
@@ -308,7 +306,6 @@ Went-none d h g runs =
       storage = sym (ap (λ xs. slice_set xs 0 (slice_index real.cells 0)) (with_grant-same real.cells g.base g.size (Holds-within d real g runs.holds)) ∙ set_same real.cells);
       tally = CountsTurns-none h.tally;
       bottom = BottomTurns-none h.bottom;
-      room = refl;
     }
 
 pub direct_among-most : (d : Desc) (base n : ℕ) (s : State) → direct_among d base n s ≤ n
@@ -393,7 +390,6 @@ Went-then d m n old between new g h k valid runs one two =
           (CountsTurns-add m n (direct_among d g.base m v) (direct_among d h.base n (virtual mid.cells h)) 0 0 t t' t'' (direct_among-most d g.base m v) (direct_among-most d h.base n (virtual mid.cells h)) one.tally two.tally);
       bottom = subst (λ x. BottomTurns (m + n) x b b'') (sym all)
           (BottomTurns-add m n (direct_among d g.base m v) (direct_among d h.base n (virtual mid.cells h)) b b' b'' one.bottom two.bottom);
-      room = two.room ∙ one.room;
     }
 
 -- ---- a single step
@@ -470,10 +466,9 @@ Went-count d m n old new g h e went = subst (λ k. Went d k old new g h) e went
 
 -- one step, as a run of one
 pub Ran-step : (d : Desc) (old new : Machinery) → new.state ≡ step d old.state → new.tally ≡ after_steps old.tally 1 (untrapped_at d old.state) →
-    BottomRises d 1 old.state old.bottom new.bottom → new.room ≡ old.room → Ran d 1 old new
-Ran-step d old new moved counted bottom room = record {
+    BottomRises d 1 old.state old.bottom new.bottom → Ran d 1 old new
+Ran-step d old new moved counted bottom = record {
   state = moved ∙ sym (steps-once d old.state);
   tally = counted ∙ ap (λ k. after_steps old.tally 1 k) (sym (untrapped_among-one d old.state));
   bottom = bottom;
-  room = room;
 }

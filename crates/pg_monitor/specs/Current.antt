@@ -46,7 +46,6 @@ pub record Interpreted (d : Desc) (old new : Machinery) (g h : Guest) : Type 0 w
   pub loads : new.tally.loads ≡ raised_by 1 old.tally.loads
   pub pokes : RisesWithin 0 8 old.tally.pokes new.tally.pokes
   pub bottom : new.bottom ≡ old.bottom
-  pub room : new.room ≡ old.room
 
 -- n turns of the current guest
 pub record Went (d : Desc) (n : ℕ) (old new : Machinery) (g h : Guest) : Type 0 where
@@ -56,4 +55,3 @@ pub record Went (d : Desc) (n : ℕ) (old new : Machinery) (g h : Guest) : Type 
   pub storage : new.state.cells ≡ storage_after d g.base n (virtual old.state.cells g) old.state.cells
   pub tally : CountsTurns n (direct_among d g.base n (virtual old.state.cells g)) 0 old.tally new.tally
   pub bottom : BottomTurns n (direct_among d g.base n (virtual old.state.cells g)) old.bottom new.bottom
-  pub room : new.room ≡ old.room

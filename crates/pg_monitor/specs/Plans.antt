@@ -85,4 +85,3 @@ pub record Followed (d : Desc) (plan : List (ℕ × ℕ)) (old new : Machinery) 
   pub psw : new.state.psw ≡ psw_behind d old_guests plan (virtuals old.state.cells old_guests) old.state.psw
   pub tally : CountsTurns (turns_of plan) (direct_of d old_guests plan (virtuals old.state.cells old_guests)) (changes_of plan old_current) old.tally new.tally
   pub bottom : BottomTurns (turns_of plan) (direct_of d old_guests plan (virtuals old.state.cells old_guests)) old.bottom new.bottom
-  pub room : new.room ≡ old.room

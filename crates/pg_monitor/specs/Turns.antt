@@ -90,4 +90,3 @@ pub record Turned (d : Desc) (k n : ℕ) (old new : Machinery) (old_guests new_g
   pub psw : new.state.psw ≡ psw_after d guest n (virtual old.state.cells guest) old.state.psw
   pub tally : CountsTurns n (direct_among d guest.base n (virtual old.state.cells guest)) (changes_in k n old_current) old.tally new.tally
   pub bottom : BottomTurns n (direct_among d guest.base n (virtual old.state.cells guest)) old.bottom new.bottom
-  pub room : new.room ≡ old.room

@@ -3,7 +3,7 @@
 ghost use Rattle.std.specs.Prelude.{◌≡◌, ◌<◌, ◌≤◌, ◌^◌, length, None, All, IsSome, OnOk, OnErr, IfOk, IfErr};
 ghost use Rattle.pg_meaning.specs.States.{IsState};
 ghost use Rattle.pg_meaning.specs.Steps.{power_on};
-ghost use Rattle.pg_hw.specs.Serving.{SameServed};
+ghost use Rattle.pg_hw.specs.Serving.{IsServed};
 ghost use Rattle.pg_type.specs.Listed.{state_of};
 ghost use Rattle.pg_monitor.specs.Monitors.{desc_of, base_for, Admits, SameMonitor};
 ghost use Rattle.pg_monitor.specs.Standing.{Stands};
@@ -25,7 +25,7 @@ impl<'m> Monitor<'m> {
     pub fn load<H: Hardware>(&mut self, hw: &mut H, image: &Image) -> Result<usize, GuestFault>
         requires least { 2 ≤ length image.now }
         requires words { All (λ w. w < 2 ^ (desc_of self.old).word) image.now }
-        requires served { H.serves hw.old (desc_of self.old) }
+        requires served { IsServed (H.serves (H.fixed hw.old)) (desc_of self.old) }
         requires stands { Stands (desc_of self.old) (H.machinery hw.old).state self.old.guests self.old.current }
         ensures number { IfOk result (λ k. k ≡ length self.old.guests) }
         ensures admitted { OnOk result (Admits (power_on image.now (length image.now)) self.old self.new (H.machinery hw.old) (H.machinery hw.new)) }
@@ -35,7 +35,7 @@ impl<'m> Monitor<'m> {
         ensures refused { OnErr result (SameMonitor self.old self.new) }
         ensures untouched { OnErr result (H.machinery hw.new ≡ H.machinery hw.old) }
         ensures machine { self.new.accepted.machine.now ≡ self.old.accepted.machine.now }
-        ensures served { SameServed (H.serves hw.old) (H.serves hw.new) }
+        ensures fixed { H.fixed hw.new ≡ H.fixed hw.old }
     {
         let words = image.as_slice();
         if words.len() > self.accepted.machine().shape().q as usize {
@@ -60,7 +60,7 @@ impl<'m> Monitor<'m> {
         state: &Sparse,
     ) -> Result<usize, GuestFault>
         requires state { IsState (desc_of self.old) (state_of state.now) }
-        requires served { H.serves hw.old (desc_of self.old) }
+        requires served { IsServed (H.serves (H.fixed hw.old)) (desc_of self.old) }
         requires stands { Stands (desc_of self.old) (H.machinery hw.old).state self.old.guests self.old.current }
         ensures number { IfOk result (λ k. k ≡ length self.old.guests) }
         ensures admitted { OnOk result (Admits (state_of state.now) self.old self.new (H.machinery hw.old) (H.machinery hw.new)) }
@@ -70,7 +70,7 @@ impl<'m> Monitor<'m> {
         ensures refused { OnErr result (SameMonitor self.old self.new) }
         ensures untouched { OnErr result (H.machinery hw.new ≡ H.machinery hw.old) }
         ensures machine { self.new.accepted.machine.now ≡ self.old.accepted.machine.now }
-        ensures served { SameServed (H.serves hw.old) (H.serves hw.new) }
+        ensures fixed { H.fixed hw.new ≡ H.fixed hw.old }
     {
         let number = self.guests.len();
         let base = match self.place(state.size, state.psw) {

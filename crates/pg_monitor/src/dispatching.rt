@@ -7,7 +7,7 @@ ghost use Rattle.std.specs.Prelude.{◌≡◌, ℕ, ◌<◌, length, All, Some, 
 ghost use Rattle.std.specs.Option.{option_map};
 ghost use Rattle.pg_meaning.specs.Steps.{step, steps};
 ghost use Rattle.pg_hw.specs.Bursts.{traps};
-ghost use Rattle.pg_hw.specs.Serving.{SameServed};
+ghost use Rattle.pg_hw.specs.Serving.{IsServed};
 ghost use Rattle.pg_hw.specs.Tallies.{raised_by};
 ghost use Rattle.pg_monitor.specs.declared.guest.Guest.{Guest as Guests};
 ghost use Rattle.pg_monitor.specs.Guests.{virtual, virtuals};
@@ -26,14 +26,14 @@ use pg_hw::Hardware;
 impl<'m> Monitor<'m> {
     /// One turn of a guest: its state goes one step on.
     pub fn turn<H: Hardware>(&mut self, hw: &mut H, k: usize)
-        requires served { H.serves hw.old (desc_of self.old) }
+        requires served { IsServed (H.serves (H.fixed hw.old)) (desc_of self.old) }
         requires stands { Stands (desc_of self.old) (H.machinery hw.old).state self.old.guests self.old.current }
         requires known { k < length self.old.guests }
         ensures stands { Stands (desc_of self.old) (H.machinery hw.new).state self.new.guests self.new.current }
         ensures turned { Turned (desc_of self.old) k 1 (H.machinery hw.old) (H.machinery hw.new) self.old.guests self.new.guests self.old.current self.new.current }
         ensures machine { self.new.accepted.machine.now ≡ self.old.accepted.machine.now }
         ensures granted { self.new.granted ≡ self.old.granted }
-        ensures served { SameServed (H.serves hw.old) (H.serves hw.new) }
+        ensures fixed { H.fixed hw.new ≡ H.fixed hw.old }
 
         // A direct turn of the current guest is one step of the hardware, which leaves its mode and R.
         ensures direct { (g : Guests) → slice_get self.old.guests k ≡ Some g → self.old.current ≡ Some k
@@ -48,7 +48,7 @@ impl<'m> Monitor<'m> {
 
     /// One turn of a guest, as `turn` does it; whether the guest's own step trapped, in whatever way.
     pub fn turn_told<H: Hardware>(&mut self, hw: &mut H, k: usize) -> bool
-        requires served { H.serves hw.old (desc_of self.old) }
+        requires served { IsServed (H.serves (H.fixed hw.old)) (desc_of self.old) }
         requires stands { Stands (desc_of self.old) (H.machinery hw.old).state self.old.guests self.old.current }
         requires known { k < length self.old.guests }
         ensures told { (g : Guests) → slice_get self.old.guests k ≡ Some g → result ≡ traps (desc_of self.old) (virtual (H.machinery hw.old).state.cells g) }
@@ -56,7 +56,7 @@ impl<'m> Monitor<'m> {
         ensures turned { Turned (desc_of self.old) k 1 (H.machinery hw.old) (H.machinery hw.new) self.old.guests self.new.guests self.old.current self.new.current }
         ensures machine { self.new.accepted.machine.now ≡ self.old.accepted.machine.now }
         ensures granted { self.new.granted ≡ self.old.granted }
-        ensures served { SameServed (H.serves hw.old) (H.serves hw.new) }
+        ensures fixed { H.fixed hw.new ≡ H.fixed hw.old }
 
         // A direct turn of the current guest is one step of the hardware, which leaves its mode and R.
         ensures direct { (g : Guests) → slice_get self.old.guests k ≡ Some g → self.old.current ≡ Some k
@@ -75,14 +75,14 @@ impl<'m> Monitor<'m> {
 
     /// `n` turns of a guest, one after another: its state goes `n` steps on.
     pub fn turns<H: Hardware>(&mut self, hw: &mut H, k: usize, n: u64)
-        requires served { H.serves hw.old (desc_of self.old) }
+        requires served { IsServed (H.serves (H.fixed hw.old)) (desc_of self.old) }
         requires stands { Stands (desc_of self.old) (H.machinery hw.old).state self.old.guests self.old.current }
         requires known { k < length self.old.guests }
         ensures stands { Stands (desc_of self.old) (H.machinery hw.new).state self.new.guests self.new.current }
         ensures turned { Turned (desc_of self.old) k n (H.machinery hw.old) (H.machinery hw.new) self.old.guests self.new.guests self.old.current self.new.current }
         ensures machine { self.new.accepted.machine.now ≡ self.old.accepted.machine.now }
         ensures granted { self.new.granted ≡ self.old.granted }
-        ensures served { SameServed (H.serves hw.old) (H.serves hw.new) }
+        ensures fixed { H.fixed hw.new ≡ H.fixed hw.old }
     {
         if n == 0 {
             return;
@@ -95,7 +95,7 @@ impl<'m> Monitor<'m> {
 
     /// The turns of a plan, of which each pair is the number of a guest and how many turns it is to have, in order.
     pub fn run<H: Hardware>(&mut self, hw: &mut H, plan: &[(usize, u64)])
-        requires served { H.serves hw.old (desc_of self.old) }
+        requires served { IsServed (H.serves (H.fixed hw.old)) (desc_of self.old) }
         requires stands { Stands (desc_of self.old) (H.machinery hw.old).state self.old.guests self.old.current }
         requires known { All (λ t. t.0 < length self.old.guests) plan.now }
         ensures stands { Stands (desc_of self.old) (H.machinery hw.new).state self.new.guests self.new.current }
@@ -105,7 +105,7 @@ impl<'m> Monitor<'m> {
         ensures followed { Followed (desc_of self.old) plan.now (H.machinery hw.old) (H.machinery hw.new) self.old.guests self.new.guests self.old.current self.new.current }
         ensures machine { self.new.accepted.machine.now ≡ self.old.accepted.machine.now }
         ensures granted { self.new.granted ≡ self.old.granted }
-        ensures served { SameServed (H.serves hw.old) (H.serves hw.new) }
+        ensures fixed { H.fixed hw.new ≡ H.fixed hw.old }
     {
         for turn in plan {
             self.turns(hw, turn.0, turn.1);
@@ -114,7 +114,7 @@ impl<'m> Monitor<'m> {
 
     /// Makes a guest the current one, and enters it where it was not; the guest.
     fn select<H: Hardware>(&mut self, hw: &mut H, k: usize) -> Guest
-        requires served { H.serves hw.old (desc_of self.old) }
+        requires served { IsServed (H.serves (H.fixed hw.old)) (desc_of self.old) }
         requires stands { Stands (desc_of self.old) (H.machinery hw.old).state self.old.guests self.old.current }
         requires known { k < length self.old.guests }
         ensures guest { slice_get self.old.guests k ≡ Some result }
@@ -127,8 +127,7 @@ impl<'m> Monitor<'m> {
         ensures same { self.old.current ≡ Some k → H.machinery hw.new ≡ H.machinery hw.old }
         ensures tally { (H.machinery hw.new).tally ≡ record (H.machinery hw.old).tally { loads = raised_by (change_to k self.old.current) (H.machinery hw.old).tally.loads } }
         ensures bottom { (H.machinery hw.new).bottom ≡ (H.machinery hw.old).bottom }
-        ensures room { (H.machinery hw.new).room ≡ (H.machinery hw.old).room }
-        ensures served { SameServed (H.serves hw.old) (H.serves hw.new) }
+        ensures fixed { H.fixed hw.new ≡ H.fixed hw.old }
     {
         let guest = self.guest(k);
         if is_current(self.current, k) {

@@ -4,7 +4,7 @@ ghost use Rattle.std.specs.Prelude.{◌≡◌, ℕ, ◌+◌, ◌<◌, ◌≤◌,
 ghost use Rattle.pg_word.specs.Psw.{packed, power_on_psw};
 ghost use Rattle.pg_meaning.specs.States.{State, IsState};
 ghost use Rattle.pg_hw.specs.Machinery.{poked_at};
-ghost use Rattle.pg_hw.specs.Serving.{SameServed};
+ghost use Rattle.pg_hw.specs.Serving.{IsServed};
 ghost use Rattle.pg_alloc.specs.Fit.{kept_cells};
 ghost use Rattle.pg_monitor.specs.Guests.{AreOwned};
 ghost use Rattle.pg_monitor.specs.Direct.{is_direct};
@@ -42,7 +42,7 @@ impl<'m> Monitor<'m> {
         accepted: Accepted<'m>,
         hw: &mut H,
     ) -> Result<Monitor<'m>, AllocError>
-        requires served { H.serves hw.old accepted.machine.now.desc }
+        requires served { IsServed (H.serves (H.fixed hw.old)) accepted.machine.now.desc }
         requires size { length (H.machinery hw.old).state.cells ≡ accepted.machine.now.desc.size }
         requires state { IsState accepted.machine.now.desc (H.machinery hw.old).state }
         ensures machine { IfOk result (λ m. m.accepted.machine.now ≡ accepted.entry.machine.now) }
@@ -53,7 +53,7 @@ impl<'m> Monitor<'m> {
         ensures taken { let d = accepted.entry.machine.now.desc in
             OnOk result (H.machinery hw.new ≡ poked_at 1 (packed d.address (power_on_psw d.size)) (H.machinery hw.old)) }
         ensures refused { OnErr result (H.machinery hw.new ≡ H.machinery hw.old) }
-        ensures served { SameServed (H.serves hw.old) (H.serves hw.new) }
+        ensures fixed { H.fixed hw.new ≡ H.fixed hw.old }
 
         // Whether a step is direct does not depend on where the grant lies.
         ensures direct_at_every_base { let d = accepted.entry.machine.now.desc in
@@ -102,12 +102,12 @@ impl<'m> Monitor<'m> {
 
 /// Takes the storage of a hardware: cell 1 becomes the program status word at which a trap enters the monitor.
 pub(crate) fn take_storage<H: Hardware>(m: &Machine, hw: &mut H)
-    requires served { H.serves hw.old m.now.desc }
+    requires served { IsServed (H.serves (H.fixed hw.old)) m.now.desc }
     requires size { length (H.machinery hw.old).state.cells ≡ m.now.desc.size }
     requires state { IsState m.now.desc (H.machinery hw.old).state }
     ensures stands { Stands m.now.desc (H.machinery hw.new).state [] None }
     ensures taken { H.machinery hw.new ≡ poked_at 1 (packed m.now.desc.address (power_on_psw m.now.desc.size)) (H.machinery hw.old) }
-    ensures served { SameServed (H.serves hw.old) (H.serves hw.new) }
+    ensures fixed { H.fixed hw.new ≡ H.fixed hw.old }
 {
     let shape = m.shape();
     let word = pack(shape, Psw::power_on(shape.q));

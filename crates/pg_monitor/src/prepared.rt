@@ -4,7 +4,7 @@ ghost use Rattle.std.specs.Prelude.{◌≡◌, ◌+◌, ◌<◌, ◌≤◌, ◌�
 ghost use Rattle.pg_word.specs.Psw.{packed, power_on_psw};
 ghost use Rattle.pg_meaning.specs.Steps.{power_on};
 ghost use Rattle.pg_hw.specs.Machinery.{poked_at};
-ghost use Rattle.pg_hw.specs.Serving.{SameServed, blank};
+ghost use Rattle.pg_hw.specs.Serving.{IsServed, blank};
 ghost use Rattle.pg_alloc.specs.Fit.{kept_cells};
 ghost use Rattle.pg_monitor.specs.Guests.{virtuals};
 ghost use Rattle.pg_monitor.specs.Monitors.{desc_of, IsReady, SameMonitor};
@@ -62,7 +62,7 @@ impl<'m> Prepared<'m> {
     /// Takes the storage of a hardware that was just installed with all cells of the machine. Guest 0 is switched on in it,
     /// with cells of zero. It is one poke, and takes no memory.
     pub fn start<H: Hardware>(self, hw: &mut H) -> Monitor<'m>
-        requires served { H.serves hw.old (desc_of self.monitor) }
+        requires served { IsServed (H.serves (H.fixed hw.old)) (desc_of self.monitor) }
         requires installed { (H.machinery hw.old).state ≡ blank (desc_of self.monitor).size }
         ensures monitor { SameMonitor self.entry.monitor result }
         ensures ready { IsReady self.entry.size result }
@@ -70,7 +70,7 @@ impl<'m> Prepared<'m> {
         ensures states { virtuals (H.machinery hw.new).state.cells result.guests ≡ power_on (replicate self.entry.size 0) self.entry.size ∷ [] }
         ensures taken { let d = desc_of self.entry.monitor in
             H.machinery hw.new ≡ poked_at 1 (packed d.address (power_on_psw d.size)) (H.machinery hw.old) }
-        ensures served { SameServed (H.serves hw.old) (H.serves hw.new) }
+        ensures fixed { H.fixed hw.new ≡ H.fixed hw.old }
     {
         let Prepared { monitor, .. } = self;
         take_storage(monitor.accepted.machine(), hw);

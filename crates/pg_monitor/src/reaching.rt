@@ -6,7 +6,7 @@
 ghost use Rattle.std.specs.Prelude.{◌≡◌, ◌+◌, ◌<◌, ◌^◌, length, Some, IsSomeAnd, slice_get, slice_set};
 ghost use Rattle.pg_word.specs.Psw.{IsPsw};
 ghost use Rattle.pg_hw.specs.Machinery.{poked_at};
-ghost use Rattle.pg_hw.specs.Serving.{SameServed, IsServedPsw};
+ghost use Rattle.pg_hw.specs.Serving.{IsServed, IsServedPsw};
 ghost use Rattle.pg_routine.specs.Composing.{composed};
 ghost use Rattle.pg_monitor.specs.declared.guest.Guest.{Guest as Guests};
 ghost use Rattle.pg_monitor.specs.Current.{with_psw};
@@ -35,7 +35,7 @@ impl<'m> Monitor<'m> {
     /// Sets a cell of a guest, by its address in the guest's own storage, which is below its size, to a word of the machine.
     /// No other guest changes. It is one poke.
     pub fn poke<H: Hardware>(&mut self, hw: &mut H, k: usize, at: u32, word: u64)
-        requires served { H.serves hw.old (desc_of self.old) }
+        requires served { IsServed (H.serves (H.fixed hw.old)) (desc_of self.old) }
         requires stands { Stands (desc_of self.old) (H.machinery hw.old).state self.old.guests self.old.current }
         requires within { IsSomeAnd (slice_get self.old.guests k) (λ g. at < g.size) }
         requires word { word < 2 ^ (desc_of self.old).word }
@@ -43,7 +43,7 @@ impl<'m> Monitor<'m> {
         ensures states { virtuals (H.machinery hw.new).state.cells self.new.guests ≡ changed_at k (with_cell at word) (virtuals (H.machinery hw.old).state.cells self.old.guests) }
         ensures poked { IsSomeAnd (slice_get self.old.guests k) (λ g. H.machinery hw.new ≡ poked_at (g.base + at) word (H.machinery hw.old)) }
         ensures monitor { SameMonitor self.old self.new }
-        ensures served { SameServed (H.serves hw.old) (H.serves hw.new) }
+        ensures fixed { H.fixed hw.new ≡ H.fixed hw.old }
     {
         let base = self.guest(k).base;
         hw.poke(base + at, word);
@@ -52,7 +52,7 @@ impl<'m> Monitor<'m> {
     /// Sets the program status word of a guest. No other guest changes, and no cell. Where the guest is the current one, the
     /// word that is composed of it is loaded; else the hardware is as it was.
     pub fn set_guest<H: Hardware>(&mut self, hw: &mut H, k: usize, psw: Psw)
-        requires served { H.serves hw.old (desc_of self.old) }
+        requires served { IsServed (H.serves (H.fixed hw.old)) (desc_of self.old) }
         requires stands { Stands (desc_of self.old) (H.machinery hw.old).state self.old.guests self.old.current }
         requires known { k < length self.old.guests }
         requires fields { IsPsw (desc_of self.old).address psw }
@@ -63,7 +63,7 @@ impl<'m> Monitor<'m> {
         ensures granted { self.new.granted ≡ self.old.granted }
         ensures current { self.new.current ≡ self.old.current }
         ensures machine { self.new.accepted.machine.now ≡ self.old.accepted.machine.now }
-        ensures served { SameServed (H.serves hw.old) (H.serves hw.new) }
+        ensures fixed { H.fixed hw.new ≡ H.fixed hw.old }
     {
         let guest = Guest {
             psw,
@@ -76,9 +76,9 @@ impl<'m> Monitor<'m> {
     /// Enters a guest anew, where it is the current one.
     fn reenter<H: Hardware>(&self, hw: &mut H, k: usize, guest: Guest)
         requires addressable { guest.base + guest.size < 2 ^ 32 }
-        requires fits { IsServedPsw (H.serves hw.old) (composed guest.psw guest.base guest.size) }
+        requires fits { IsServedPsw (H.serves (H.fixed hw.old)) (composed guest.psw guest.base guest.size) }
         ensures entered { H.machinery hw.new ≡ entered_if_current k self.now.current guest guest.psw (H.machinery hw.old) }
-        ensures served { SameServed (H.serves hw.old) (H.serves hw.new) }
+        ensures fixed { H.fixed hw.new ≡ H.fixed hw.old }
     {
         if is_current(self.current, k) {
             enter(hw, guest);

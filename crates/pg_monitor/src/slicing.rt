@@ -5,7 +5,7 @@
 
 ghost use Rattle.std.specs.Prelude.{◌≡◌, ◌≤◌, length, map};
 ghost use Rattle.pg_meaning.specs.Steps.{steps};
-ghost use Rattle.pg_hw.specs.Serving.{SameServed};
+ghost use Rattle.pg_hw.specs.Serving.{IsServed};
 ghost use Rattle.pg_monitor.specs.Guests.{virtuals};
 ghost use Rattle.pg_monitor.specs.Monitors.{desc_of};
 ghost use Rattle.pg_monitor.specs.Standing.{Stands};
@@ -21,7 +21,7 @@ impl<'m> Monitor<'m> {
     ///
     /// What a schedule gives each guest is a law, `laws::schedule_gives_each_its_turns`.
     pub fn run_sliced<H: Hardware>(&mut self, hw: &mut H, slice: u64, n: u64)
-        requires served { H.serves hw.old (desc_of self.old) }
+        requires served { IsServed (H.serves (H.fixed hw.old)) (desc_of self.old) }
         requires stands { Stands (desc_of self.old) (H.machinery hw.old).state self.old.guests self.old.current }
         requires some { 1 ≤ slice }
         ensures stands { Stands (desc_of self.old) (H.machinery hw.new).state self.new.guests self.new.current }
@@ -30,7 +30,7 @@ impl<'m> Monitor<'m> {
         ensures followed { Followed (desc_of self.old) (schedule (length self.old.guests) slice n) (H.machinery hw.old) (H.machinery hw.new) self.old.guests self.new.guests self.old.current self.new.current }
         ensures machine { self.new.accepted.machine.now ≡ self.old.accepted.machine.now }
         ensures granted { self.new.granted ≡ self.old.granted }
-        ensures served { SameServed (H.serves hw.old) (H.serves hw.new) }
+        ensures fixed { H.fixed hw.new ≡ H.fixed hw.old }
     {
         for _ in 0..n / slice {
             self.go_round(hw, slice);
@@ -40,14 +40,14 @@ impl<'m> Monitor<'m> {
 
     /// One round: each guest has so many turns, in the order of their numbers.
     fn go_round<H: Hardware>(&mut self, hw: &mut H, turns: u64)
-        requires served { H.serves hw.old (desc_of self.old) }
+        requires served { IsServed (H.serves (H.fixed hw.old)) (desc_of self.old) }
         requires stands { Stands (desc_of self.old) (H.machinery hw.old).state self.old.guests self.old.current }
         ensures stands { Stands (desc_of self.old) (H.machinery hw.new).state self.new.guests self.new.current }
         ensures begun { Begun (desc_of self.old) (round_of 0 (length self.old.guests) turns) (H.machinery hw.old) (H.machinery hw.new) self.old.guests self.new.guests self.old.current self.new.current }
         ensures number { length self.new.guests ≡ length self.old.guests }
         ensures machine { self.new.accepted.machine.now ≡ self.old.accepted.machine.now }
         ensures granted { self.new.granted ≡ self.old.granted }
-        ensures served { SameServed (H.serves hw.old) (H.serves hw.new) }
+        ensures fixed { H.fixed hw.new ≡ H.fixed hw.old }
     {
         for k in 0..self.guests.len() {
             self.turns(hw, k, turns);

@@ -11,7 +11,7 @@ ghost use Rattle.std.specs.Prelude.{◌≡◌, ◌+◌, ◌<◌, ◌≤◌, ◌^
 ghost use Rattle.pg_type.specs.Accepting.{IsAccepted};
 ghost use Rattle.pg_meaning.specs.Steps.{step};
 ghost use Rattle.pg_hw.specs.Bursts.{traps};
-ghost use Rattle.pg_hw.specs.Serving.{SameServed, IsServedPsw};
+ghost use Rattle.pg_hw.specs.Serving.{IsServed, IsServedPsw};
 ghost use Rattle.pg_hw.specs.Machinery.{loaded_with};
 ghost use Rattle.pg_routine.specs.Composing.{composed};
 ghost use Rattle.pg_monitor.specs.Guests.{virtual};
@@ -28,20 +28,20 @@ use pg_word::{Mode, unpack};
 /// Enters a guest: loads the program status word that is composed of its virtual one.
 pub(crate) fn enter<H: Hardware>(hw: &mut H, guest: Guest)
     requires addressable { guest.base + guest.size < 2 ^ 32 }
-    requires fits { IsServedPsw (H.serves hw.old) (composed guest.psw guest.base guest.size) }
+    requires fits { IsServedPsw (H.serves (H.fixed hw.old)) (composed guest.psw guest.base guest.size) }
     ensures entered { H.machinery hw.new ≡ loaded_with (composed guest.psw guest.base guest.size) (H.machinery hw.old) }
-    ensures served { SameServed (H.serves hw.old) (H.serves hw.new) }
+    ensures fixed { H.fixed hw.new ≡ H.fixed hw.old }
 {
     hw.set_psw(compose(guest.psw, guest.base, guest.size));
 }
 
 /// Interprets the step of a guest that trapped, and enters the guest again; whether the guest's own step trapped.
 fn interpret<H: Hardware>(m: &Machine, hw: &mut H, guest: &mut Guest, frame: &mut Frame) -> bool
-    requires served { H.serves hw.old m.now.desc }
+    requires served { IsServed (H.serves (H.fixed hw.old)) m.now.desc }
     requires holds { Holds m.now.desc (H.machinery hw.old).state guest.old }
     ensures interpreted { Interpreted m.now.desc (H.machinery hw.old) (H.machinery hw.new) guest.old guest.new }
     ensures told { result ≡ traps m.now.desc (virtual (H.machinery hw.old).state.cells guest.old) }
-    ensures served { SameServed (H.serves hw.old) (H.serves hw.new) }
+    ensures fixed { H.fixed hw.new ≡ H.fixed hw.old }
 {
     let mut psw = guest.psw;
     let trapped = emulate_told(m, hw, guest.base, guest.size, &mut psw, frame);
@@ -58,11 +58,11 @@ pub(crate) fn turn_once<H: Hardware>(
     frame: &mut Frame,
 ) -> bool
     requires accepted { ∥ IsAccepted m.now.desc ∥₁ }
-    requires served { H.serves hw.old m.now.desc }
+    requires served { IsServed (H.serves (H.fixed hw.old)) m.now.desc }
     requires runs { Runs m.now.desc (H.machinery hw.old).state guest.old }
     ensures went { Went m.now.desc 1 (H.machinery hw.old) (H.machinery hw.new) guest.old guest.new }
     ensures told { result ≡ traps m.now.desc (virtual (H.machinery hw.old).state.cells guest.old) }
-    ensures served { SameServed (H.serves hw.old) (H.serves hw.new) }
+    ensures fixed { H.fixed hw.new ≡ H.fixed hw.old }
     ensures direct { is_direct m.now.desc guest.old.base (virtual (H.machinery hw.old).state.cells guest.old) ≡ true → (H.machinery hw.new).state ≡ step m.now.desc (H.machinery hw.old).state }
 {
     hw.step(m);
@@ -86,13 +86,13 @@ fn turn_on<H: Hardware>(
     frame: &mut Frame,
 ) -> u64
     requires accepted { ∥ IsAccepted m.now.desc ∥₁ }
-    requires served { H.serves hw.old m.now.desc }
+    requires served { IsServed (H.serves (H.fixed hw.old)) m.now.desc }
     requires runs { Runs m.now.desc (H.machinery hw.old).state guest.old }
     requires some { 0 < most }
     ensures least { 1 ≤ result }
     ensures most { result ≤ most }
     ensures went { Went m.now.desc result (H.machinery hw.old) (H.machinery hw.new) guest.old guest.new }
-    ensures served { SameServed (H.serves hw.old) (H.serves hw.new) }
+    ensures fixed { H.fixed hw.new ≡ H.fixed hw.old }
 {
     let done = hw.burst(m, most);
     let psw = hw.psw();
@@ -115,10 +115,10 @@ pub(crate) fn turn_often<H: Hardware>(
     frame: &mut Frame,
 )
     requires accepted { ∥ IsAccepted m.now.desc ∥₁ }
-    requires served { H.serves hw.old m.now.desc }
+    requires served { IsServed (H.serves (H.fixed hw.old)) m.now.desc }
     requires runs { Runs m.now.desc (H.machinery hw.old).state guest.old }
     ensures went { Went m.now.desc n (H.machinery hw.old) (H.machinery hw.new) guest.old guest.new }
-    ensures served { SameServed (H.serves hw.old) (H.serves hw.new) }
+    ensures fixed { H.fixed hw.new ≡ H.fixed hw.old }
 {
     let mut left = n;
     while left > 0 {

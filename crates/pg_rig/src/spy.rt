@@ -95,20 +95,26 @@ impl<H: Hardware> Hardware for Spy<H> {
     ghost use Rattle.pg_hw.specs.Tallies.{after_steps};
     ghost use Rattle.pg_hw.specs.Machinery.{poked_at, loaded_with};
     ghost use Rattle.pg_hw.specs.Bursts.{untrapped_at, untrapped_among, burst_length, BottomRises};
-    ghost use Rattle.pg_hw.specs.Serving.{SameServed, IsServedWord, IsServedPsw, blank};
+    ghost use Rattle.pg_hw.specs.Serving.{IsServed, IsServedWord, IsServedPsw, blank};
     ghost use Rattle.pg_rig.specs.Spying.{extended};
 
     ghost machinery = { λ s. H.machinery s.hw };
 
-    ghost serves = { λ s. H.serves s.hw };
+    ghost Fixed = { H.Fixed };
+
+    ghost fixed = { λ s. H.fixed s.hw };
+
+    ghost serves = { H.serves };
+
+    ghost room = { H.room };
 
     /// What is kept of pokes stays.
     fn install(&mut self, size: u32) -> Result<(), AllocError>
         requires least { 2 ≤ size }
-        requires most { size ≤ (H.machinery self.old.hw).room }
+        requires most { size ≤ H.room (H.fixed self.old.hw) }
         ensures installed { OnOk result (H.machinery self.new.hw ≡ record (H.machinery self.old.hw) { state = blank size }) }
         ensures refused { OnErr result (H.machinery self.new.hw ≡ H.machinery self.old.hw) }
-        ensures served { SameServed (H.serves self.old.hw) (H.serves self.new.hw) }
+        ensures fixed { H.fixed self.new.hw ≡ H.fixed self.old.hw }
         ensures kept { self.new.poked ≡ self.old.poked }
     {
         self.hw.install(size)
@@ -124,13 +130,12 @@ impl<H: Hardware> Hardware for Spy<H> {
 
     /// What is kept of pokes stays: a step's own stores are none.
     fn step(&mut self, m: &Machine)
-        requires served { H.serves self.old.hw m.now.desc }
+        requires served { IsServed (H.serves (H.fixed self.old.hw)) m.now.desc }
         requires state { IsState m.now.desc (H.machinery self.old.hw).state }
         ensures state { (H.machinery self.new.hw).state ≡ stepped m.now.desc (H.machinery self.old.hw).state }
         ensures tally { (H.machinery self.new.hw).tally ≡ after_steps (H.machinery self.old.hw).tally 1 (untrapped_at m.now.desc (H.machinery self.old.hw).state) }
         ensures bottom { BottomRises m.now.desc 1 (H.machinery self.old.hw).state (H.machinery self.old.hw).bottom (H.machinery self.new.hw).bottom }
-        ensures room { (H.machinery self.new.hw).room ≡ (H.machinery self.old.hw).room }
-        ensures served { SameServed (H.serves self.old.hw) (H.serves self.new.hw) }
+        ensures fixed { H.fixed self.new.hw ≡ H.fixed self.old.hw }
         ensures kept { self.new.poked ≡ self.old.poked }
     {
         self.hw.step(m);
@@ -138,14 +143,13 @@ impl<H: Hardware> Hardware for Spy<H> {
 
     /// What is kept of pokes stays: a step's own stores are none.
     fn burst(&mut self, m: &Machine, k: u64) -> u64
-        requires served { H.serves self.old.hw m.now.desc }
+        requires served { IsServed (H.serves (H.fixed self.old.hw)) m.now.desc }
         requires state { IsState m.now.desc (H.machinery self.old.hw).state }
         ensures count { result ≡ burst_length m.now.desc k (H.machinery self.old.hw).state }
         ensures state { (H.machinery self.new.hw).state ≡ stepped_often m.now.desc result (H.machinery self.old.hw).state }
         ensures tally { (H.machinery self.new.hw).tally ≡ after_steps (H.machinery self.old.hw).tally result (untrapped_among m.now.desc result (H.machinery self.old.hw).state) }
         ensures bottom { BottomRises m.now.desc result (H.machinery self.old.hw).state (H.machinery self.old.hw).bottom (H.machinery self.new.hw).bottom }
-        ensures room { (H.machinery self.new.hw).room ≡ (H.machinery self.old.hw).room }
-        ensures served { SameServed (H.serves self.old.hw) (H.serves self.new.hw) }
+        ensures fixed { H.fixed self.new.hw ≡ H.fixed self.old.hw }
         ensures kept { self.new.poked ≡ self.old.poked }
     {
         self.hw.burst(m, k)
@@ -158,9 +162,9 @@ impl<H: Hardware> Hardware for Spy<H> {
     /// The address is kept.
     fn poke(&mut self, at: u32, word: u64)
         requires within { at < length (H.machinery self.old.hw).state.cells }
-        requires word { IsServedWord (H.serves self.old.hw) word }
+        requires word { IsServedWord (H.serves (H.fixed self.old.hw)) word }
         ensures poked { H.machinery self.new.hw ≡ poked_at at word (H.machinery self.old.hw) }
-        ensures served { SameServed (H.serves self.old.hw) (H.serves self.new.hw) }
+        ensures fixed { H.fixed self.new.hw ≡ H.fixed self.old.hw }
         ensures kept { self.new.poked ≡ extended at self.old.poked }
     {
         self.hw.poke(at, word);
@@ -173,9 +177,9 @@ impl<H: Hardware> Hardware for Spy<H> {
 
     /// What is kept of pokes stays.
     fn set_psw(&mut self, psw: Psw)
-        requires { IsServedPsw (H.serves self.old.hw) psw }
+        requires { IsServedPsw (H.serves (H.fixed self.old.hw)) psw }
         ensures loaded { H.machinery self.new.hw ≡ loaded_with psw (H.machinery self.old.hw) }
-        ensures served { SameServed (H.serves self.old.hw) (H.serves self.new.hw) }
+        ensures fixed { H.fixed self.new.hw ≡ H.fixed self.old.hw }
         ensures kept { self.new.poked ≡ self.old.poked }
     {
         self.hw.set_psw(psw);

@@ -52,7 +52,6 @@ pub record Storing (from len : ℕ) (writes : List Write) (n : ℕ) (old new : M
   pub psw : new.state.psw ≡ old.state.psw
   pub tally : PokedWithin n old.tally new.tally
   pub bottom : new.bottom ≡ old.bottom
-  pub room : new.room ≡ old.room
 
 -- the next store, made
 store-made : (from len : ℕ) (cells : List ℕ) (x : Write) (rest : List Write) → from + len ≤ length cells → x.at < len →
@@ -77,7 +76,6 @@ Storing-next from len writes n x old mid new p next within inside more = record 
   psw = ap (λ (h : Machinery). h.state.psw) more ∙ p.psw;
   tally = PokedWithin-next n old.tally mid.tally new.tally p.tally (ap (λ (h : Machinery). h.tally) more);
   bottom = ap (λ (h : Machinery). h.bottom) more ∙ p.bottom;
-  room = ap (λ (h : Machinery). h.room) more ∙ p.room;
 }
 
 -- all stores, made
@@ -93,5 +91,4 @@ Storing-all from len writes n old new p all within =
           ∙ ap (λ (x : Psw). let t : State = record { cells = with_grant old.state.cells from (written writes (take len (drop from old.state.cells))); psw = x } in t) p.psw;
       tally = PokedWithin-more n (length writes) old.tally new.tally (omega (arith, all)) p.tally;
       bottom = p.bottom;
-      room = p.room;
     }

@@ -26,4 +26,3 @@ pub record GrantPoked (base : ℕ) (new_cells : List ℕ) (n : ℕ) (old new : M
   pub state : new.state ≡ record old.state { cells = with_grant old.state.cells base new_cells }
   pub tally : PokedWithin n old.tally new.tally
   pub bottom : new.bottom ≡ old.bottom
-  pub room : new.room ≡ old.room

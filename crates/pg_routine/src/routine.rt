@@ -5,7 +5,7 @@ ghost use Rattle.pg_word.specs.Psw.{cause_number};
 ghost use Rattle.pg_meaning.specs.States.{IsState};
 ghost use Rattle.pg_meaning.specs.Steps.{step, trapped};
 ghost use Rattle.pg_hw.specs.Bursts.{traps};
-ghost use Rattle.pg_hw.specs.Serving.{SameServed, IsServedWord};
+ghost use Rattle.pg_hw.specs.Serving.{IsServed, IsServedWord};
 ghost use Rattle.pg_interp.specs.Writes.{written};
 ghost use Rattle.pg_routine.specs.Granting.{guest_at, GrantPoked};
 
@@ -20,14 +20,14 @@ use pg_word::{Cause, Psw, pack_trap, unpack};
 /// The guest is the `size` cells of the hardware from `base` on, with the program status word `psw`. They become what
 /// *Step* makes of them, by at most 8 pokes; the hardware's own program status word is not touched, and it does no step.
 pub fn emulate<H: Hardware>(m: &Machine, hw: &mut H, base: u32, size: u32, psw: &mut Psw)
-    requires served { H.serves hw.old m.now.desc }
+    requires served { IsServed (H.serves (H.fixed hw.old)) m.now.desc }
     requires addressable { base + size < 2 ^ 32 }
     requires within { base + size ≤ length (H.machinery hw.old).state.cells }
     requires guest { IsState m.now.desc (guest_at (H.machinery hw.old).state.cells base size psw.old) }
     ensures grant { let guest = guest_at (H.machinery hw.old).state.cells base size psw.old in
         GrantPoked base (step m.now.desc guest).cells 8 (H.machinery hw.old) (H.machinery hw.new) }
     ensures psw { psw.new ≡ (step m.now.desc (guest_at (H.machinery hw.old).state.cells base size psw.old)).psw }
-    ensures served { SameServed (H.serves hw.old) (H.serves hw.new) }
+    ensures fixed { H.fixed hw.new ≡ H.fixed hw.old }
 {
     let mut frame = Frame::new();
     emulate_told(m, hw, base, size, psw, &mut frame);
@@ -43,7 +43,7 @@ pub fn emulate_told<H: Hardware>(
     psw: &mut Psw,
     frame: &mut Frame,
 ) -> bool
-    requires served { H.serves hw.old m.now.desc }
+    requires served { IsServed (H.serves (H.fixed hw.old)) m.now.desc }
     requires addressable { base + size < 2 ^ 32 }
     requires within { base + size ≤ length (H.machinery hw.old).state.cells }
     requires guest { IsState m.now.desc (guest_at (H.machinery hw.old).state.cells base size psw.old) }
@@ -51,7 +51,7 @@ pub fn emulate_told<H: Hardware>(
         GrantPoked base (step m.now.desc guest).cells 8 (H.machinery hw.old) (H.machinery hw.new) }
     ensures psw { psw.new ≡ (step m.now.desc (guest_at (H.machinery hw.old).state.cells base size psw.old)).psw }
     ensures told { result ≡ traps m.now.desc (guest_at (H.machinery hw.old).state.cells base size psw.old) }
-    ensures served { SameServed (H.serves hw.old) (H.serves hw.new) }
+    ensures fixed { H.fixed hw.new ≡ H.fixed hw.old }
 {
     let span = span_of(*psw, base, size);
     let ended = step_in(m, &Window { hw, span }, *psw, frame);
@@ -72,10 +72,10 @@ fn store<H: Hardware>(hw: &mut H, span: Span, writes: &[Write])
     requires addressable { span.from + span.len < 2 ^ 32 }
     requires within { span.from + span.len ≤ length (H.machinery hw.old).state.cells }
     requires inside { All (λ x. x.at < span.len) writes.now }
-    requires words { All (λ x. IsServedWord (H.serves hw.old) x.cell) writes.now }
+    requires words { All (λ x. IsServedWord (H.serves (H.fixed hw.old)) x.cell) writes.now }
     ensures grant { let seen = take span.len (drop span.from (H.machinery hw.old).state.cells) in
         GrantPoked span.from (written writes.now seen) (length writes.now) (H.machinery hw.old) (H.machinery hw.new) }
-    ensures served { SameServed (H.serves hw.old) (H.serves hw.new) }
+    ensures fixed { H.fixed hw.new ≡ H.fixed hw.old }
 {
     for write in writes {
         hw.poke(span.from + write.at, write.cell);
@@ -92,7 +92,7 @@ fn trap<H: Hardware>(
     psw: &mut Psw,
     cause: Cause,
 ) -> bool
-    requires served { H.serves hw.old m.now.desc }
+    requires served { IsServed (H.serves (H.fixed hw.old)) m.now.desc }
     requires addressable { base + size < 2 ^ 32 }
     requires within { base + size ≤ length (H.machinery hw.old).state.cells }
     requires guest { IsState m.now.desc (guest_at (H.machinery hw.old).state.cells base size psw.old) }
@@ -100,7 +100,7 @@ fn trap<H: Hardware>(
         GrantPoked base (trapped m.now.desc guest (cause_number cause)).cells 8 (H.machinery hw.old) (H.machinery hw.new) }
     ensures psw { psw.new ≡ (trapped m.now.desc (guest_at (H.machinery hw.old).state.cells base size psw.old) (cause_number cause)).psw }
     ensures told { result ≡ true }
-    ensures served { SameServed (H.serves hw.old) (H.serves hw.new) }
+    ensures fixed { H.fixed hw.new ≡ H.fixed hw.old }
 {
     let shape = m.shape();
     let loaded = unpack(shape, hw.peek(base + 1));

@@ -1,9 +1,8 @@
-use Rattle.std.proofs.Common.{◌≡◌, ◌+◌, ◌-◌, sym, subst, arith}
+use Rattle.std.proofs.Common.{◌≡◌, ◌+◌, ◌-◌, refl, sym, ◌∙◌, subst, arith}
 use Rattle.pg_meaning.specs.States.{IsState}
 use Rattle.pg_valid.proofs.StepSound.{steps-state}
 use Rattle.pg_hw.specs.Running.{Ran}
 use Rattle.pg_hw.proofs.BurstLaws.{burst_length-most, burst_length-some}
-use Rattle.pg_hw.proofs.ServingLaws.{SameServed-same, SameServed-then}
 use Rattle.pg_hw.proofs.RunLemmas.{Ran-none, Ran-then}
 use Rattle.pg_hw.proofs.runs.bare.Goals as goal
 
@@ -12,7 +11,7 @@ loop-left-init g c = record {
   most = omega arith;
   ran = let e : 0 ≡ c.args.n - c.args.n = omega arith in
       subst (λ k. Ran c.args.m.now.desc k (g.H.Hardware.machinery c.args.hw.now) (g.H.Hardware.machinery c.args.hw.now)) e (Ran-none c.args.m.now.desc _);
-  served = SameServed-same _;
+  fixed = refl;
 }
 
 pub burst-left-requires-clause-state : goal.burst-left-requires-clause-state
@@ -42,7 +41,6 @@ loop-left-preserved g c =
             state = c.burst-left.ensures.state;
             tally = c.burst-left.ensures.tally;
             bottom = c.burst-left.ensures.bottom;
-            room = c.burst-left.ensures.room;
           }));
-      served = SameServed-then _ _ _ c.loop-left.invariant.served c.burst-left.ensures.served;
+      fixed = c.burst-left.ensures.fixed ∙ c.loop-left.invariant.fixed;
     }

@@ -1,6 +1,5 @@
 use Rattle.std.proofs.Common.{◌≡◌, take}
 use Rattle.pg_word.specs.Sparse.{storage_of}
-use Rattle.pg_hw.specs.Serving.{SameServed}
 use Rattle.pg_monitor.specs.Loading.{with_words}
 use Rattle.pg_monitor.proofs.loading.put_state.Given as goal
 
@@ -8,5 +7,5 @@ use Rattle.pg_monitor.proofs.loading.put_state.Given as goal
 abbrev pub invariant-loop-at : goal.invariant-loop-at
 invariant-loop-at g l = record {
   put : g.H.Hardware.machinery l.hw ≡ with_words l.base (take l.at (storage_of l.state.size l.state.cells)) (g.H.Hardware.machinery l.initial.hw);
-  served : SameServed (g.H.Hardware.serves l.initial.hw) (g.H.Hardware.serves l.hw);
+  fixed : g.H.Hardware.fixed l.hw ≡ g.H.Hardware.fixed l.initial.hw;
 }

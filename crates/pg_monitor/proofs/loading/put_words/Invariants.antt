@@ -1,5 +1,4 @@
 use Rattle.std.proofs.Common.{◌≡◌, take}
-use Rattle.pg_hw.specs.Serving.{SameServed}
 use Rattle.pg_monitor.specs.Loading.{with_words}
 use Rattle.pg_monitor.proofs.loading.put_words.Given as goal
 
@@ -7,5 +6,5 @@ use Rattle.pg_monitor.proofs.loading.put_words.Given as goal
 abbrev pub invariant-loop-at : goal.invariant-loop-at
 invariant-loop-at g l = record {
   put : g.H.Hardware.machinery l.hw ≡ with_words l.base (take l.at l.words) (g.H.Hardware.machinery l.initial.hw);
-  served : SameServed (g.H.Hardware.serves l.initial.hw) (g.H.Hardware.serves l.hw);
+  fixed : g.H.Hardware.fixed l.hw ≡ g.H.Hardware.fixed l.initial.hw;
 }

@@ -1,5 +1,4 @@
-use Rattle.std.proofs.Common.{◌+◌, ◌-◌, arith}
-use Rattle.pg_hw.proofs.ServingLaws.{SameServed-same, SameServed-then}
+use Rattle.std.proofs.Common.{◌∙◌, refl, ◌+◌, ◌-◌, arith}
 use Rattle.pg_monitor.proofs.WentLemmas.{Went-none, Went-then, Went-count}
 use Rattle.pg_monitor.proofs.turning.turn_often.Goals as goal
 
@@ -7,7 +6,7 @@ pub loop-left-init : goal.loop-left-init
 loop-left-init g c = record {
   most = omega arith;
   went = Went-count c.args.m.now.desc 0 (c.args.n - c.args.n) _ _ _ _ (omega arith) (Went-none c.args.m.now.desc _ c.args.guest.now c.requires.runs);
-  served = SameServed-same _;
+  fixed = refl;
 }
 
 pub loop-left-preserved : goal.loop-left-preserved
@@ -18,7 +17,7 @@ loop-left-preserved g c =
       went = Went-count c.args.m.now.desc ((c.args.n - c.loop-left.left) + c.turn_on-left.result) (c.args.n - (c.loop-left.left - c.turn_on-left.result)) _ _ _ _
           (omega (arith, within, c.turn_on-left.ensures.most))
           (Went-then c.args.m.now.desc _ _ _ _ _ _ _ _ c.args.m.now.valid c.requires.runs c.loop-left.invariant.went c.turn_on-left.ensures.went);
-      served = SameServed-then _ _ _ c.loop-left.invariant.served c.turn_on-left.ensures.served;
+      fixed = c.turn_on-left.ensures.fixed ∙ c.loop-left.invariant.fixed;
     }
 
 pub returns-clause-went : goal.returns-clause-went

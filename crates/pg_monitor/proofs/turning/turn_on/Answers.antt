@@ -35,7 +35,7 @@ returns-in-U-clause-went g c =
     let run = Directly-burst d _ _ _ c.args.guest.now c.requires.accepted c.args.m.now.valid c.requires.runs c.requires.some c.burst-done.ensures.count
     (sym (ap (λ (x : Psw). x.mode) (c.psw-psw.ensures ∙ ap (λ (s : State). s.psw) c.burst-done.ensures.state)) ∙ c.in-U.is) in
     Went-direct d _ _ _ c.args.guest.now _ run
-    (record { state = c.burst-done.ensures.state; tally = c.burst-done.ensures.tally; bottom = c.burst-done.ensures.bottom; room = c.burst-done.ensures.room })
+    (record { state = c.burst-done.ensures.state; tally = c.burst-done.ensures.tally; bottom = c.burst-done.ensures.bottom })
     (ap (λ (x : Psw). with_psw c.args.guest.now (record c.args.guest.now.psw { p = x.p })) c.psw-psw.ensures)
 
 pub returns-in-S-clause-least : goal.returns-in-S-clause-least
@@ -54,5 +54,5 @@ returns-in-S-clause-went g c =
     (ap (λ (x : Psw). with_psw c.args.guest.now (record c.args.guest.now.psw { p = x.p }))
     (entry-read d _ _ _ _ c.shape.ensures.numbers c.peek.ensures c.unpack.ensures.psw)) in
     Went-halted d _ _ _ _ c.args.guest.now _ _ c.args.m.now.valid stopped halted
-    (record { state = c.burst-done.ensures.state; tally = c.burst-done.ensures.tally; bottom = c.burst-done.ensures.bottom; room = c.burst-done.ensures.room })
+    (record { state = c.burst-done.ensures.state; tally = c.burst-done.ensures.tally; bottom = c.burst-done.ensures.bottom })
     c.interpret.ensures.interpreted

@@ -21,7 +21,7 @@ returns-in-U-clause-went g c =
     let run = Directly-burst d 1 1 _ c.args.guest.now c.requires.accepted c.args.m.now.valid c.requires.runs (lit< tt) (burst-one d _)
     (sym (ap (λ (x : Psw). x.mode) (c.psw-psw.ensures ∙ ap (λ (s : State). s.psw) moved)) ∙ c.in-U.is) in
     Went-direct d 1 _ _ c.args.guest.now _ run
-    (Ran-step d _ _ c.step.ensures.state c.step.ensures.tally c.step.ensures.bottom c.step.ensures.room)
+    (Ran-step d _ _ c.step.ensures.state c.step.ensures.tally c.step.ensures.bottom)
     (ap (λ (x : Psw). with_psw c.args.guest.now (record c.args.guest.now.psw { p = x.p })) c.psw-psw.ensures)
 
 pub returns-in-U-clause-told : goal.returns-in-U-clause-told
@@ -38,7 +38,7 @@ returns-in-S-clause-went g c =
     let stopped = Stopped-once d _ _ c.args.guest.now c.requires.accepted c.args.m.now.valid c.requires.runs c.step.ensures.state control in
     let halted = Halted-once d _ _ c.args.guest.now stopped c.requires.accepted c.args.m.now.valid c.requires.runs c.step.ensures.state control in
     Went-halted d 1 _ _ _ c.args.guest.now _ _ c.args.m.now.valid stopped halted
-    (Ran-step d _ _ c.step.ensures.state c.step.ensures.tally c.step.ensures.bottom c.step.ensures.room) c.interpret.ensures.interpreted
+    (Ran-step d _ _ c.step.ensures.state c.step.ensures.tally c.step.ensures.bottom) c.interpret.ensures.interpreted
 
 pub returns-in-S-clause-told : goal.returns-in-S-clause-told
 returns-in-S-clause-told g c =

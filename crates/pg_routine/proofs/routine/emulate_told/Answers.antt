@@ -87,7 +87,6 @@ returns-in-Done-clause-grant g c =
           (step-done c.args.m.now.desc _ _ _ _ _ _ (outcome_in c.step_in-ended.new.frame c.step_in-ended.result) effect _ c.requires.within c.span_of-span.ensures.from c.span_of-span.ensures.len c.step_in-ended.ensures done c.as_slice.ensures);
       tally = PokedWithin-more _ 8 _ _ (few-writes _ _ _ (outcome_in c.step_in-ended.new.frame c.step_in-ended.result) effect c.as_slice.result.now c.step_in-ended.ensures done c.as_slice.ensures) c.store.ensures.grant.tally;
       bottom = c.store.ensures.grant.bottom;
-      room = c.store.ensures.grant.room;
     }
 
 pub returns-in-Done-clause-psw : goal.returns-in-Done-clause-psw

@@ -1,6 +1,5 @@
-use Rattle.std.proofs.Common.{slice_index_or, arith}
+use Rattle.std.proofs.Common.{slice_index_or, ◌∙◌, arith}
 use Rattle.std.proofs.lemmas.List.{drop_more}
-use Rattle.pg_hw.proofs.ServingLaws.{SameServed-then}
 use Rattle.pg_interp.specs.declared.effect.Write.{Write}
 use Rattle.pg_routine.proofs.StoreLemmas.{Storing-next, Storing-all}
 use Rattle.pg_routine.proofs.routine.store.Goals as goal
@@ -13,7 +12,7 @@ loop-write-preserved g c =
     record {
       stores = Storing-next c.args.span.from c.args.span.len writes n (slice_index_or writes n d) _ _ _ c.loop-write.invariant.stores
           (drop_more writes n d c.loop-write-test.true) c.requires.within (c.requires.inside n d c.loop-write-test.true) c.poke.ensures.poked;
-      served = SameServed-then _ _ _ c.loop-write.invariant.served c.poke.ensures.served;
+      fixed = c.poke.ensures.fixed ∙ c.loop-write.invariant.fixed;
     }
 
 pub returns-clause-grant : goal.returns-clause-grant

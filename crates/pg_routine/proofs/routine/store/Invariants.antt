@@ -1,4 +1,4 @@
-use Rattle.pg_hw.specs.Serving.{SameServed}
+use Rattle.std.proofs.Common.{◌≡◌}
 use Rattle.pg_routine.proofs.StoreLemmas.{Storing}
 use Rattle.pg_routine.proofs.routine.store.Given as goal
 
@@ -6,5 +6,5 @@ use Rattle.pg_routine.proofs.routine.store.Given as goal
 abbrev pub invariant-loop-write : goal.invariant-loop-write
 invariant-loop-write g l = record {
   stores : Storing l.span.from l.span.len l.writes l.write-index (g.H.Hardware.machinery l.initial.hw) (g.H.Hardware.machinery l.hw);
-  served : SameServed (g.H.Hardware.serves l.initial.hw) (g.H.Hardware.serves l.hw);
+  fixed : g.H.Hardware.fixed l.hw ≡ g.H.Hardware.fixed l.initial.hw;
 }

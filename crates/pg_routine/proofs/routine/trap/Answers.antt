@@ -22,7 +22,6 @@ returns-clause-grant g c =
           (sym (guest-set old.cells c.args.base c.args.size 0 w c.requires.within (omega (arith, some, c.requires.guest.size_least))));
       tally = PokedWithin-one 8 _ _ (omega arith) (ap (λ (h : Machinery). h.tally) c.poke.ensures.poked);
       bottom = ap (λ (h : Machinery). h.bottom) c.poke.ensures.poked;
-      room = ap (λ (h : Machinery). h.room) c.poke.ensures.poked;
     }
 
 pub returns-clause-psw : goal.returns-clause-psw

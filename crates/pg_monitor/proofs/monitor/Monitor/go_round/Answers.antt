@@ -1,6 +1,5 @@
 use Rattle.std.proofs.Common.{length, refl, ap, ◌∙◌, subst, arith}
 use Rattle.pg_machine.specs.declared.machine.Machine.{Machine}
-use Rattle.pg_hw.proofs.ServingLaws.{SameServed-then}
 use Rattle.pg_monitor.specs.Standing.{Stands}
 use Rattle.pg_monitor.proofs.PlanLemmas.{Turned-machine, grants-length}
 use Rattle.pg_monitor.proofs.ScheduleLemmas.{Begun-guest, Begun-same}
@@ -17,7 +16,7 @@ loop-k-preserved g c =
       granted = c.turns.ensures.granted ∙ before.granted;
       stands = subst (λ x. Stands x (g.H.Hardware.machinery c.turns.new.hw).state c.turns.new.self.guests c.turns.new.self.current) same c.turns.ensures.stands;
       number = grants-length _ _ one.grants ∙ before.number;
-      served = SameServed-then _ _ _ before.served c.turns.ensures.served;
+      fixed = c.turns.ensures.fixed ∙ before.fixed;
       begun = Begun-guest m.desc c.loop-k.k c.args.turns _ _ _ _ _ _ _ _ _ m.valid before.stands before.begun one;
     }
 

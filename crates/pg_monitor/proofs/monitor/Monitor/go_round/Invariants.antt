@@ -1,5 +1,4 @@
 use Rattle.std.proofs.Common.{◌≡◌, length}
-use Rattle.pg_hw.specs.Serving.{SameServed}
 use Rattle.pg_monitor.specs.Standing.{Stands}
 use Rattle.pg_monitor.specs.Schedules.{round_of, Begun}
 use Rattle.pg_monitor.proofs.monitor.Monitor.go_round.Given as goal
@@ -11,7 +10,7 @@ invariant-loop-k g l = record {
   granted : l.self.granted ≡ l.initial.self.granted;
   stands : Stands l.initial.self.accepted.machine.now.desc (g.H.Hardware.machinery l.hw).state l.self.guests l.self.current;
   number : length l.self.guests ≡ length l.initial.self.guests;
-  served : SameServed (g.H.Hardware.serves l.initial.hw) (g.H.Hardware.serves l.hw);
+  fixed : g.H.Hardware.fixed l.hw ≡ g.H.Hardware.fixed l.initial.hw;
   begun : Begun l.initial.self.accepted.machine.now.desc (round_of 0 l.k l.turns) (g.H.Hardware.machinery l.initial.hw) (g.H.Hardware.machinery l.hw)
       l.initial.self.guests l.self.guests l.initial.self.current l.self.current;
 }

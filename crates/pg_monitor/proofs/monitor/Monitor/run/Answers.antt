@@ -1,6 +1,5 @@
 use Rattle.std.proofs.Common.{ap, ◌∙◌, subst, arith}
 use Rattle.pg_machine.specs.declared.machine.Machine.{Machine}
-use Rattle.pg_hw.proofs.ServingLaws.{SameServed-then}
 use Rattle.pg_monitor.specs.Standing.{Stands}
 use Rattle.pg_monitor.proofs.PlanLemmas.{Followed-own, Followed-on, Followed-end, Turned-machine, grants-length}
 use Rattle.pg_monitor.proofs.monitor.Monitor.run.Goals as goal
@@ -16,7 +15,7 @@ loop-turn-preserved g c =
       granted = c.turns.ensures.granted ∙ before.granted;
       stands = subst (λ x. Stands x (g.H.Hardware.machinery c.turns.new.hw).state c.turns.new.self.guests c.turns.new.self.current) same c.turns.ensures.stands;
       known = grants-length _ _ one.grants ∙ before.known;
-      served = SameServed-then _ _ _ before.served c.turns.ensures.served;
+      fixed = c.turns.ensures.fixed ∙ before.fixed;
       goes = λ new gs current rest. before.goes new gs current
           (Followed-on m.desc c.args.plan.now c.loop-turn.turn-index _ _ _ new _ _ gs _ _ current m.valid before.stands c.loop-turn-test.true one rest);
     }

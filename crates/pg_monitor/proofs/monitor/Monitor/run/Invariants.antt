@@ -1,6 +1,5 @@
 use Rattle.std.proofs.Common.{◌≡◌, ℕ, List, length, drop, Option}
 use Rattle.pg_hw.specs.Machinery.{Machinery}
-use Rattle.pg_hw.specs.Serving.{SameServed}
 use Rattle.pg_monitor.specs.declared.guest.Guest.{Guest}
 use Rattle.pg_monitor.specs.Standing.{Stands}
 use Rattle.pg_monitor.specs.Plans.{Followed}
@@ -13,7 +12,7 @@ invariant-loop-turn g l = record {
   granted : l.self.granted ≡ l.initial.self.granted;
   stands : Stands l.initial.self.accepted.machine.now.desc (g.H.Hardware.machinery l.hw).state l.self.guests l.self.current;
   known : length l.self.guests ≡ length l.initial.self.guests;
-  served : SameServed (g.H.Hardware.serves l.initial.hw) (g.H.Hardware.serves l.hw);
+  fixed : g.H.Hardware.fixed l.hw ≡ g.H.Hardware.fixed l.initial.hw;
   goes : (new : Machinery) (gs : List Guest) (current : Option ℕ) →
       Followed l.initial.self.accepted.machine.now.desc (drop l.turn-index l.plan) (g.H.Hardware.machinery l.hw) new l.self.guests gs l.self.current current →
       Followed l.initial.self.accepted.machine.now.desc l.plan (g.H.Hardware.machinery l.initial.hw) new l.initial.self.guests gs l.initial.self.current current;

@@ -1,6 +1,5 @@
 use Rattle.std.proofs.Common.{◌%◌, length, ap, ◌∙◌, subst, arith}
 use Rattle.pg_machine.specs.declared.machine.Machine.{Machine}
-use Rattle.pg_hw.proofs.ServingLaws.{SameServed-then}
 use Rattle.pg_monitor.specs.Standing.{Stands}
 use Rattle.pg_monitor.proofs.ScheduleLemmas.{Begun-same, Begun-round, Begun-schedule, Followed-schedule}
 use Rattle.pg_monitor.proofs.monitor.Monitor.run_sliced.Goals as goal
@@ -16,7 +15,7 @@ loop-preserved g c =
       granted = c.go_round.ensures.granted ∙ before.granted;
       stands = subst (λ x. Stands x (g.H.Hardware.machinery c.go_round.new.hw).state c.go_round.new.self.guests c.go_round.new.self.current) same c.go_round.ensures.stands;
       number = c.go_round.ensures.number ∙ before.number;
-      served = SameServed-then _ _ _ before.served c.go_round.ensures.served;
+      fixed = c.go_round.ensures.fixed ∙ before.fixed;
       begun = Begun-round m.desc (length c.args.self.now.guests) c.args.slice c.loop.counter _ _ _ _ _ _ _ _ _ before.begun one;
     }
 

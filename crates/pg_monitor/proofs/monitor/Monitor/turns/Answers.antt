@@ -1,6 +1,5 @@
 use Rattle.std.proofs.Common.{ap, ◌∙◌, slice_set, slice_get, List, arith}
 use Rattle.pg_machine.specs.declared.machine.Machine.{Machine}
-use Rattle.pg_hw.proofs.ServingLaws.{SameServed-then}
 use Rattle.pg_monitor.specs.declared.guest.Guest.{Guest}
 use Rattle.pg_monitor.proofs.OwnLemmas.{owned-set}
 use Rattle.pg_monitor.proofs.GuestLemmas.{Went-machine, Stands-some, Turned-some, Turned-zero}
@@ -20,12 +19,12 @@ pub returns-clause-turned : goal.returns-clause-turned
 returns-clause-turned g c =
     let m = c.args.self.now.accepted.machine.now in
     Turned-some m.desc c.args.k c.args.n _ (g.H.Hardware.machinery c.select-guest.new.hw) _ c.args.self.now.guests _ c.args.self.now.current _ c.select-guest.result _ (omega (arith, c.if-n-eq0.false)) c.requires.stands c.select-guest.ensures.guest
-    (record { cells = c.select-guest.ensures.cells; tally = c.select-guest.ensures.tally; bottom = c.select-guest.ensures.bottom; room = c.select-guest.ensures.room })
+    (record { cells = c.select-guest.ensures.cells; tally = c.select-guest.ensures.tally; bottom = c.select-guest.ensures.bottom })
     (c.set.ensures ∙ ap (λ l. slice_set l c.args.k c.turn_often.new.guest) c.select-guest.ensures.guests) c.select-guest.ensures.current
     (Went-machine m.desc c.machine-machine.result.now.desc _ _ _ _ _ (ap (λ (x : Machine). x.desc) c.machine-machine.ensures.same) c.turn_often.ensures.went)
 
-pub returns-clause-served : goal.returns-clause-served
-returns-clause-served g c = SameServed-then _ _ _ c.select-guest.ensures.served c.turn_often.ensures.served
+pub returns-clause-fixed : goal.returns-clause-fixed
+returns-clause-fixed g c = c.turn_often.ensures.fixed ∙ c.select-guest.ensures.fixed
 
 pub invariant_of-self : goal.invariant_of-self
 invariant_of-self g c =
