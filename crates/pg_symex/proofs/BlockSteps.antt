@@ -29,7 +29,7 @@ use Rattle.pg_symex.specs.There.{IsSymEntry, sym_setting}
 use Rattle.pg_symex.specs.Stmts.{SymDeed, assigned, trap_made, with_lets_of, with_live, joined_made, other_made, if_made, in_order_made, block_made, else_made, stmt_made}
 use Rattle.pg_symex.specs.Ends.{IsSymRun, Does}
 use Rattle.pg_symex.specs.Calls.{widths_of, AddsFew, stmts_cost}
-use Rattle.pg_symex.specs.RunView.{run_as, IsUnderWay, Fares, FaresInBlock, IsDone, OnTheWay}
+use Rattle.pg_symex.specs.RunView.{run_as, IsUnderWay, Fares, FaresInBlock, IsDone}
 use Rattle.pg_symex.proofs.StmtEquations as mades
 use Rattle.pg_symex.proofs.ExprForms.{entry-later}
 use Rattle.pg_symex.proofs.IfForms.{guard-run}
@@ -128,10 +128,20 @@ arm_ready at n0 n t r live u g c l = record {
 
 -- ---- statements in order
 
-pub way_begins : (at : SymEntry) (ss : List Stmt) (n : List Node) (t : View) (r : Run) → IsUnderWay at n t r → Fares (fares_in_order (map (fare_of (sym_setting at)) ss)) r → OnTheWay at ss ss n t r n t r
+-- statements of which the last are left to be made
+pub record PartlyMade (at : SymEntry) (stmts left : List Stmt) (old : List Node) (t0 : View) (r0 : Run) (nodes : List Node) (t : View) (r : Run) : Type 0 where
+  pub ready : IsUnderWay at nodes t r
+  pub typed : Fares (fares_in_order (map (fare_of (sym_setting at)) left)) r
+  pub made : in_order_made (map stmt_made left) at (run_as nodes t r) ≡ in_order_made (map stmt_made stmts) at (run_as old t0 r0)
+  pub view : t ≡ record t0 { cells = t.cells; writes = t.writes }
+  pub front : GrowsTo old nodes
+  pub writes : length t.writes + (all_of (map stmt_tally left)).accesses ≤ length t0.writes + (all_of (map stmt_tally stmts)).accesses
+  pub few : length t0.writes + (all_of (map stmt_tally stmts)).accesses ≤ 72 → length nodes + stmts_cost (all_of (map stmt_tally left)) ≤ length old + stmts_cost (all_of (map stmt_tally stmts))
+
+pub way_begins : (at : SymEntry) (ss : List Stmt) (n : List Node) (t : View) (r : Run) → IsUnderWay at n t r → Fares (fares_in_order (map (fare_of (sym_setting at)) ss)) r → PartlyMade at ss ss n t r n t r
 way_begins at ss n t r u f = record { ready = u; typed = f; made = refl; view = refl; front = front_same n; writes = omega arith; few = λ w. omega arith }
 
-pub way_first : (at : SymEntry) (ss left : List Stmt) (s : Stmt) (rest : List Stmt) (n0 n : List Node) (t0 t : View) (r0 r : Run) → left ≡ s ∷ rest → OnTheWay at ss left n0 t0 r0 n t r → Fares (fare_of (sym_setting at) s) r
+pub way_first : (at : SymEntry) (ss left : List Stmt) (s : Stmt) (rest : List Stmt) (n0 n : List Node) (t0 t : View) (r0 r : Run) → left ≡ s ∷ rest → PartlyMade at ss left n0 t0 r0 n t r → Fares (fare_of (sym_setting at) s) r
 unfolding fares_in_order
 way_first at ss left s rest n0 n t0 t r0 r e h =
     let f = subst (λ zs. Fares (fares_in_order (map (fare_of (sym_setting at)) zs)) r) e h.typed in
@@ -146,14 +156,14 @@ all_counts x xs = refl
 left_counts : (left : List Stmt) (s : Stmt) (rest : List Stmt) → left ≡ s ∷ rest → all_of (map stmt_tally left) ≡ both (stmt_tally s) (all_of (map stmt_tally rest))
 left_counts left s rest e = ap (λ ss. all_of (map stmt_tally ss)) e ∙ all_counts s rest
 
-way_writes : (at : SymEntry) (ss left : List Stmt) (s : Stmt) (rest : List Stmt) (n0 n m : List Node) (t0 t v : View) (r0 r q : Run) → left ≡ s ∷ rest → OnTheWay at ss left n0 t0 r0 n t r → IsDone (stmt_made s at (run_as n t r)) t m v q →
+way_writes : (at : SymEntry) (ss left : List Stmt) (s : Stmt) (rest : List Stmt) (n0 n m : List Node) (t0 t v : View) (r0 r q : Run) → left ≡ s ∷ rest → PartlyMade at ss left n0 t0 r0 n t r → IsDone (stmt_made s at (run_as n t r)) t m v q →
     length v.writes + (all_of (map stmt_tally rest)).accesses ≤ length t0.writes + (all_of (map stmt_tally ss)).accesses
 unfolding both
 way_writes at ss left s rest n0 n m t0 t v r0 r q e h done =
     omega (arith, ap (λ (k : Tally). k.accesses) (left_counts left s rest e), h.writes, stmt_done_writes s at n m t v r q done)
 
 -- the nodes after one statement more, whether or not memory ran out in it
-pub way_few : (at : SymEntry) (ss left : List Stmt) (s : Stmt) (rest : List Stmt) (n0 n m : List Node) (t0 t : View) (r0 r : Run) → left ≡ s ∷ rest → OnTheWay at ss left n0 t0 r0 n t r →
+pub way_few : (at : SymEntry) (ss left : List Stmt) (s : Stmt) (rest : List Stmt) (n0 n m : List Node) (t0 t : View) (r0 r : Run) → left ≡ s ∷ rest → PartlyMade at ss left n0 t0 r0 n t r →
     AddsFew t.writes (stmt_tally s).accesses n m (stmts_cost (stmt_tally s)) → length t0.writes + (all_of (map stmt_tally ss)).accesses ≤ 72 →
     length m + stmts_cost (all_of (map stmt_tally rest)) ≤ length n0 + stmts_cost (all_of (map stmt_tally ss))
 unfolding both
@@ -166,15 +176,15 @@ way_few at ss left s rest n0 n m t0 t r0 r e h few w =
     let g = few.few (omega (arith, a)) in
     omega (arith, x, y)
 
-pub way_stops : (at : SymEntry) (ss left : List Stmt) (s : Stmt) (rest : List Stmt) (n0 n m : List Node) (t0 t : View) (r0 r : Run) → left ≡ s ∷ rest → OnTheWay at ss left n0 t0 r0 n t r →
+pub way_stops : (at : SymEntry) (ss left : List Stmt) (s : Stmt) (rest : List Stmt) (n0 n m : List Node) (t0 t : View) (r0 r : Run) → left ≡ s ∷ rest → PartlyMade at ss left n0 t0 r0 n t r →
     AddsFew t.writes (stmt_tally s).accesses n m (stmts_cost (stmt_tally s)) → AddsFew t0.writes (all_of (map stmt_tally ss)).accesses n0 m (stmts_cost (all_of (map stmt_tally ss)))
 way_stops at ss left s rest n0 n m t0 t r0 r e h few = record { few = λ w. omega (arith, way_few at ss left s rest n0 n m t0 t r0 r e h few w) }
 
-pub way_all : (at : SymEntry) (ss left : List Stmt) (n0 n : List Node) (t0 t : View) (r0 r : Run) → OnTheWay at ss left n0 t0 r0 n t r → AddsFew t0.writes (all_of (map stmt_tally ss)).accesses n0 n (stmts_cost (all_of (map stmt_tally ss)))
+pub way_all : (at : SymEntry) (ss left : List Stmt) (n0 n : List Node) (t0 t : View) (r0 r : Run) → PartlyMade at ss left n0 t0 r0 n t r → AddsFew t0.writes (all_of (map stmt_tally ss)).accesses n0 n (stmts_cost (all_of (map stmt_tally ss)))
 way_all at ss left n0 n t0 t r0 r h = record { few = λ w. omega (arith, h.few w) }
 
-pub way_next : (at : SymEntry) (ss left : List Stmt) (s : Stmt) (rest : List Stmt) (n0 n m : List Node) (t0 t v : View) (r0 r q : Run) → left ≡ s ∷ rest → OnTheWay at ss left n0 t0 r0 n t r → IsDone (stmt_made s at (run_as n t r)) t m v q → GrowsTo n m →
-    AddsFew t.writes (stmt_tally s).accesses n m (stmts_cost (stmt_tally s)) → OnTheWay at ss rest n0 t0 r0 m v q
+pub way_next : (at : SymEntry) (ss left : List Stmt) (s : Stmt) (rest : List Stmt) (n0 n m : List Node) (t0 t v : View) (r0 r q : Run) → left ≡ s ∷ rest → PartlyMade at ss left n0 t0 r0 n t r → IsDone (stmt_made s at (run_as n t r)) t m v q → GrowsTo n m →
+    AddsFew t.writes (stmt_tally s).accesses n m (stmts_cost (stmt_tally s)) → PartlyMade at ss rest n0 t0 r0 m v q
 unfolding fares_in_order in_order_made
 way_next at ss left s rest n0 n m t0 t v r0 r q e h done g few =
     let f = subst (λ zs. Fares (fares_in_order (map (fare_of (sym_setting at)) zs)) r) e h.typed in
@@ -196,7 +206,7 @@ way_next at ss left s rest n0 n m t0 t v r0 r q e h done g few =
       few = way_few at ss left s rest n0 n m t0 t r0 r e h few;
     }
 
-pub way_ends : (at : SymEntry) (ss left : List Stmt) (n0 n : List Node) (t0 t : View) (r0 r : Run) → left ≡ [] → OnTheWay at ss left n0 t0 r0 n t r → IsDone (in_order_made (map stmt_made ss) at (run_as n0 t0 r0)) t0 n t r
+pub way_ends : (at : SymEntry) (ss left : List Stmt) (n0 n : List Node) (t0 t : View) (r0 r : Run) → left ≡ [] → PartlyMade at ss left n0 t0 r0 n t r → IsDone (in_order_made (map stmt_made ss) at (run_as n0 t0 r0)) t0 n t r
 unfolding in_order_made
 way_ends at ss left n0 n t0 t r0 r e h = record { made = ap (λ zs. in_order_made (map stmt_made zs) at (run_as n t r)) (sym e) ∙ h.made; view = h.view }
 

@@ -1,21 +1,17 @@
 -- A body under way of the code as the definitions have it, and what its calls ask and leave.
-use Rattle.std.specs.Prelude.{◌≡◌, ℕ, ◌+◌, ◌≤◌, List, length, map}
+use Rattle.std.specs.Prelude.{◌≡◌, ℕ, List, length}
 use Rattle.pg_circuit.specs.declared.node.Gate.{Gate}
 use Rattle.pg_circuit.specs.declared.node.Node.{Node}
-use Rattle.pg_circuit.specs.Grown.{GrowsTo}
 use Rattle.pg_cells.specs.View.{View}
 use Rattle.pg_ast.specs.declared.tree.Expr.{Expr}
-use Rattle.pg_ast.specs.declared.tree.Stmt.{Stmt}
-use Rattle.pg_valid.specs.Limits.{all_of, stmt_tally}
-use Rattle.pg_valid.specs.Widths.{LetWidths, Keeps, Faring, after_block, fare_of, fares_in_order}
+use Rattle.pg_valid.specs.Widths.{LetWidths, Keeps, Faring, after_block}
 use Rattle.pg_symex.specs.declared.run.Run.{Run}
 use Rattle.pg_symex.specs.Flow.{SymEntry, SymRun, view_of}
 use Rattle.pg_symex.specs.FlowView.{flow_as}
-use Rattle.pg_symex.specs.There.{IsSymEntry, sym_setting}
+use Rattle.pg_symex.specs.There.{IsSymEntry}
 use Rattle.pg_symex.specs.Ends.{IsSymRun}
-use Rattle.pg_symex.specs.Calls.{widths_of, stmts_cost, IsMade, IsValue}
+use Rattle.pg_symex.specs.Calls.{widths_of, IsMade, IsValue}
 use Rattle.pg_symex.specs.Exprs.{expr_made}
-use Rattle.pg_symex.specs.Stmts.{in_order_made, stmt_made}
 
 abbrev pub run_as : List Node → View → Run → SymRun
 run_as nodes t r = record { flow = flow_as nodes t.cells r.guards; writes = t.writes; trap = r.trap; next = r.next; lets = r.lets }
@@ -44,16 +40,6 @@ pub record FaresInBlock (f : Faring) (r : Run) : Type 0 where
 pub record IsDone (due : SymRun) (old : View) (nodes : List Node) (t : View) (r : Run) : Type 0 where
   pub made : run_as nodes t r ≡ due
   pub view : t ≡ record old { cells = t.cells; writes = t.writes }
-
--- statements of which the last are left to be made
-pub record OnTheWay (at : SymEntry) (stmts left : List Stmt) (old : List Node) (t0 : View) (r0 : Run) (nodes : List Node) (t : View) (r : Run) : Type 0 where
-  pub ready : IsUnderWay at nodes t r
-  pub typed : Fares (fares_in_order (map (fare_of (sym_setting at)) left)) r
-  pub made : in_order_made (map stmt_made left) at (run_as nodes t r) ≡ in_order_made (map stmt_made stmts) at (run_as old t0 r0)
-  pub view : t ≡ record t0 { cells = t.cells; writes = t.writes }
-  pub front : GrowsTo old nodes
-  pub writes : length t.writes + (all_of (map stmt_tally left)).accesses ≤ length t0.writes + (all_of (map stmt_tally stmts)).accesses
-  pub few : length t0.writes + (all_of (map stmt_tally stmts)).accesses ≤ 72 → length nodes + stmts_cost (all_of (map stmt_tally left)) ≤ length old + stmts_cost (all_of (map stmt_tally stmts))
 
 -- bits of an expression of a body under way, of which the guards alone may have changed
 pub record IsTaken (at : SymEntry) (e : Expr) (old : List Node) (t0 : View) (r0 : Run) (bits : List Gate) (nodes : List Node) (t : View) (r : Run) : Type 0 where

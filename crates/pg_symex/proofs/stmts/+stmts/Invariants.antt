@@ -2,7 +2,7 @@ use Rattle.std.proofs.Common.{◌+◌, ◌*◌, drop, map}
 use Rattle.pg_valid.specs.Limits.{all_of, if_any, stmt_tally}
 use Rattle.std.specs.Option.{option_map}
 use Rattle.pg_symex.specs.EntryView.{entry_as}
-use Rattle.pg_symex.specs.RunView.{OnTheWay}
+use Rattle.pg_symex.proofs.BlockSteps.{PartlyMade}
 use Rattle.pg_symex.proofs.stmts.+stmts.Given as goal
 
 -- the arms of an if have fewer statements than it has, and a block stands below what asks for it, above each of its statements
@@ -23,4 +23,4 @@ decreases-in_order l = 5 * (all_of (map stmt_tally l.stmts.now)).statements + 1
 
 abbrev pub invariant-in_order-loop-s : goal.invariant-in_order-loop-s
 invariant-in_order-loop-s l =
-    OnTheWay (entry_as l.at) l.stmts (drop l.s-index l.stmts) l.initial.c.nodes l.initial.t l.initial.run l.c.nodes l.t l.run
+    PartlyMade (entry_as l.at) l.stmts (drop l.s-index l.stmts) l.initial.c.nodes l.initial.t l.initial.run l.c.nodes l.t l.run
