@@ -91,7 +91,7 @@ module _ (clauses : List (List ℤ)) (variables budget : ℕ) (are : AreClauses 
             (trimmed_may_stand clauses heading log acts trimmed given may).1;
         listed = tt;
         numbered = (trimmed_may_stand clauses PlainTwo log acts trimmed given refl).0;
-        searched = (log, trimmed);
+        searched = record { steps = steps; refuted = h; trimmed = subst (λ l. IsTrimmed clauses l acts) same trimmed };
       }
 
   pub spent_found : (steps : List Step) → IsExhausted clauses budget steps → 1 ≤ budget →

@@ -1,13 +1,16 @@
 -- What is found of the questions of a machine, each within a budget.
-use Rattle.std.specs.Prelude.{◌≡◌, ⊤, ℕ, true, ℤ, List, Some, slice_get}
+use Rattle.std.specs.Prelude.{◌≡◌, ⊤, ℕ, true, ℤ, List, map, Some, slice_get}
 use Rattle.std.specs.List.{All}
 use Rattle.pg_ast.specs.declared.tree.Instr.{Instr}
 use Rattle.pg_ast.specs.declared.tree.Desc.{Desc}
 use Rattle.pg_meaning.specs.States.{shape_of}
 use Rattle.pg_type.specs.declared.kind.Kind.{Kind}
 use Rattle.pg_ask.specs.Question.{question}
+use Rattle.pg_proof.specs.declared.step.Step.{Step}
 use Rattle.pg_proof.specs.declared.step.Act.{Act}
+use Rattle.pg_proof.specs.declared.step.Act.TheVariants.{Add}
 use Rattle.pg_proof.specs.Trimmed.{IsTrimmed}
+use Rattle.pg_sat.specs.Answers.{IsRefuted}
 use Rattle.pg_sat.specs.Solving.{AreNew}
 use Rattle.pg_cert.specs.declared.cert.Family.{Family}
 use Rattle.pg_cert.specs.declared.cert.Finding.{Finding}
@@ -19,10 +22,17 @@ use Rattle.pg_cert.specs.Texts.{AreListed, instr_of, kind_of, heading_of, cert_l
 use Rattle.pg_cert.specs.Validity.{may_remove, IsValidFinding, IsValidCert}
 use Rattle.pg_cert.specs.InRange.{IsFindingNumbered}
 
--- what a search within a budget leaves: a log that refutes is a trimmed one; one that is left open spends the budget, and each
--- of its steps is new: unit propagation over the clauses before it does not see it
+-- a log that refutes within a budget: the trimmed form of steps that end with the empty clause, behind at most as many others as
+-- the budget, each new
+pub record IsRefutedWithin (clauses : List (List ℤ)) (budget : ℕ) (acts : List Act) : Type 0 where
+  pub steps : List Step
+  pub refuted : IsRefuted clauses budget steps
+  pub trimmed : IsTrimmed clauses (map Add steps) acts
+
+-- what a search within a budget leaves: a log that refutes does so within it; one that is left open spends it, and each of its
+-- steps is new: unit propagation over the clauses before it does not see it
 abbrev pub IsSearched : List (List ℤ) → ℕ → Finding → Type 0
-IsSearched clauses budget (Refuted acts) = (log : List Act) × IsTrimmed clauses log acts
+IsSearched clauses budget (Refuted acts) = IsRefutedWithin clauses budget acts
 IsSearched clauses budget (Shown s t) = ⊤
 IsSearched clauses budget (Spent k steps) = (k ≡ budget) × AreNew clauses steps
 
@@ -50,7 +60,7 @@ AreSearched d family budget findings =
     IsSearched (question d i (kind_of family n)) budget f
 
 -- *classify-valid*: a valid certificate, each line of which is in range, and whose states are listed in the one way. Its logs
--- are trimmed, and what it leaves open has spent the budget
+-- that refute are trimmed from logs within the budget, and what it leaves open has spent the budget
 pub record IsClassified (d : Desc) (family : Family) (budget : ℕ) (cert : Cert) : Type 0 where
   pub of_family : cert.family ≡ family
   pub valid : IsValidCert (question d) (heading_of family) d cert

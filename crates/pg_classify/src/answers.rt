@@ -3,8 +3,6 @@
 ghost use Rattle.std.specs.Prelude.{◌≡◌, ◌≤◌, ℕ, true, length, map, slice_get, Some, IfOk};
 ghost use Rattle.pg_word.specs.Sparse.{IsCellList};
 ghost use Rattle.pg_ast.specs.declared.tree.Instr.{Instr};
-ghost use Rattle.pg_ast.specs.declared.tree.Desc.{Desc};
-ghost use Rattle.pg_type.specs.declared.kind.Kind.{Kind as Kinds};
 ghost use Rattle.pg_cnf.specs.Truth.{clauses_true};
 ghost use Rattle.pg_proof.specs.declared.step.Act.TheVariants.{Add};
 ghost use Rattle.pg_sat.specs.Answers.{IsRefuted, IsExhausted};
@@ -15,7 +13,6 @@ ghost use Rattle.pg_classify.specs.Classified.{IsFound};
 
 use pg_ask::{Asked, states_of};
 use pg_cert::Finding;
-use pg_cnf::Cnf;
 use pg_proof::{Act, ActList, trim};
 use pg_sat::{Answer, StepList, solve};
 use pg_word::Sparse;
@@ -34,23 +31,28 @@ fn log_of(alloc: Global, steps: StepList) -> Result<ActList, AllocError>
     Ok(ActList::from_vec(made))
 }
 
-/// The finding of steps that close: their log, trimmed. The error is want of memory.
-fn refuted(alloc: Global, cnf: &Cnf, budget: u32, steps: StepList) -> Result<Finding, AllocError>
-    requires closed { IsRefuted cnf.now.clauses budget steps }
+/// The finding of steps that refute a question: their log, trimmed. The error is want of memory.
+fn refuted(
+    alloc: Global,
+    asked: &Asked<'_>,
+    budget: u32,
+    steps: StepList,
+) -> Result<Finding, AllocError>
+    requires closed { IsRefuted asked.now.cnf.clauses budget steps }
     requires most { budget ≤ most_budget }
-    ensures { IfOk result (λ f. (d : Desc) (i : Instr) (kind : Kinds) → IsFound cnf.now.clauses budget d i kind f) }
+    ensures { IfOk result (λ f. (i : Instr) → slice_get asked.now.machine.now.desc.instrs asked.now.instr ≡ Some i → IsFound asked.now.cnf.clauses budget asked.now.machine.now.desc i asked.now.kind f) }
 {
     let log = log_of(alloc, steps)?;
-    let acts = trim(alloc, cnf, log.as_slice())?;
+    let acts = trim(alloc, asked.cnf(), log.as_slice())?;
     Ok(Finding::Refuted(acts))
 }
 
-/// The finding of steps that spend a budget.
-fn spent(cnf: &Cnf, budget: u32, steps: StepList) -> Finding
-    requires exhausted { IsExhausted cnf.now.clauses budget steps }
+/// The finding of steps that spend a budget on a question.
+fn spent(asked: &Asked<'_>, budget: u32, steps: StepList) -> Finding
+    requires exhausted { IsExhausted asked.now.cnf.clauses budget steps }
     requires least { 1 ≤ budget }
     requires most { budget ≤ most_budget }
-    ensures { (d : Desc) (i : Instr) (kind : Kinds) → IsFound cnf.now.clauses budget d i kind result }
+    ensures { (i : Instr) → slice_get asked.now.machine.now.desc.instrs asked.now.instr ≡ Some i → IsFound asked.now.cnf.clauses budget asked.now.machine.now.desc i asked.now.kind result }
 {
     Finding::Spent(budget, steps)
 }
@@ -89,7 +91,7 @@ pub fn found(alloc: Global, asked: &Asked<'_>, budget: u32) -> Result<Finding, A
 {
     match solve(alloc, asked.cnf(), budget)? {
         Answer::Sat(assignment) => shown(alloc, asked, budget, assignment.as_slice()),
-        Answer::Unsat(steps) => refuted(alloc, asked.cnf(), budget, steps),
-        Answer::Spent(steps) => Ok(spent(asked.cnf(), budget, steps)),
+        Answer::Unsat(steps) => refuted(alloc, asked, budget, steps),
+        Answer::Spent(steps) => Ok(spent(asked, budget, steps)),
     }
 }

@@ -59,8 +59,10 @@ fn findings<W: Watcher>(
 /// The certificate of a machine over a family of kinds: one finding for each instruction in order and each kind in order,
 /// for which the solver learns at most `budget` clauses, from 1 to 1,000,000. The watcher is told of each question.
 ///
-/// It is valid whatever the solver finds: each finding is a log that refutes its question, two states that show the kind, or
-/// a log of as many steps as the budget, each new. Its text can be written, and is taken where it is within the limit.
+/// It is valid whatever the solver finds: each finding is a log that refutes its question, trimmed from at most `budget` steps
+/// and the empty clause, two states that show the kind, or a log of as many steps as the budget, each new. Its text can be
+/// written, and is taken where it is within the limit. Nothing that is said of the certificate rests on the watcher, and nothing
+/// is said of when it is told, or of what.
 ///
 /// It costs what its questions cost, one at a time; nothing of a question is kept but its finding. The error is want of
 /// memory.

@@ -1,9 +1,13 @@
-use Rattle.std.proofs.Common.{◌∙◌}
+use Rattle.std.proofs.Common.{◌∙◌, subst}
+use Rattle.pg_cnf.specs.declared.clause.Cnf.{Cnf}
+use Rattle.pg_proof.specs.Trimmed.{IsTrimmed}
 use Rattle.pg_classify.proofs.FoundLemmas.{refuted_found}
 use Rattle.pg_classify.proofs.answers.refuted.Goals as goal
 
 pub returns : goal.returns
-returns c = λ d i kind.
-    let cnf = c.args.cnf.now in
-    refuted_found cnf.clauses cnf.variables c.args.budget cnf.are_clauses cnf.few_variables cnf.few_clauses c.requires.most d i kind
-    c.args.steps c.as_slice.result.now c.in_ok-acts.acts c.requires.closed (c.as_slice.ensures ∙ c.in_ok-log.ensures) c.in_ok-acts.ensures
+returns c = λ i at.
+    let asked = c.args.asked.now in
+    let acts = c.in_ok-acts.acts in
+    refuted_found asked.cnf.clauses asked.cnf.variables c.args.budget asked.cnf.are_clauses asked.cnf.few_variables asked.cnf.few_clauses c.requires.most
+    asked.machine.now.desc i asked.kind c.args.steps c.as_slice.result.now acts c.requires.closed (c.as_slice.ensures ∙ c.in_ok-log.ensures)
+    (subst (λ (cnf : Cnf). IsTrimmed cnf.clauses c.as_slice.result.now acts) c.cnf.ensures c.in_ok-acts.ensures)
