@@ -31,9 +31,10 @@ use Rattle.pg_cert.specs.Lines.{is_line, IsLine}
 use Rattle.pg_cert.specs.Texts.{AreListed, instr_of, kind_of, name_of, found_of, body_lines, finding_lines, findings_lines, cert_lines, cert_text, family_of, heading_of}
 use Rattle.pg_cert.specs.Validity.{may_remove, IsValidCert}
 use Rattle.pg_cert.proofs.Fits.{instr_within}
+use Rattle.pg_drawn.specs.Drawn.{Drawn, drawn_of}
 use Rattle.pg_verify.specs.declared.fault.VerifyFault.TheVariants as fault
-use Rattle.pg_verify.specs.Reader.{Drawn, Progress, Reader}
-use Rattle.pg_verify.specs.Feeding.{most_bytes, drawn_of, kept, verified, verified_whole, IsReportOf, IsReported}
+use Rattle.pg_verify.specs.Reader.{Progress, Reader}
+use Rattle.pg_verify.specs.Feeding.{most_bytes, kept, verified, verified_whole, IsReportOf, IsReported}
 use Rattle.pg_verify.specs.Verified.{IsValidOf, Spells}
 use Rattle.pg_verify.proofs.StepLemmas.{same_ok}
 use Rattle.pg_verify.proofs.SpellLemmas.{taken_texts_spell}

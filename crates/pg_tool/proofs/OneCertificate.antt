@@ -12,9 +12,10 @@ use Rattle.pg_cert.specs.declared.report.Report.{Report}
 use Rattle.pg_report.specs.declared.line.RefusalLine.TheVariants.{Certificate}
 use Rattle.pg_report.specs.declared.line.CertificateLine.{CertificateLine}
 use Rattle.pg_report.specs.declared.line.CertificateLine.TheVariants as told_line
+use Rattle.pg_drawn.specs.Drawn.{Drawn, drawn_of}
 use Rattle.pg_verify.specs.declared.fault.VerifyFault.{VerifyFault}
-use Rattle.pg_verify.specs.Reader.{Drawn, Progress, Reader}
-use Rattle.pg_verify.specs.Feeding.{most_bytes, drawn_of, kept, IsReportOf}
+use Rattle.pg_verify.specs.Reader.{Progress, Reader}
+use Rattle.pg_verify.specs.Feeding.{most_bytes, kept, IsReportOf}
 use Rattle.pg_verify.proofs.StepLemmas.{same_ok}
 use Rattle.pg_tool.specs.Certificates.{told_of_verifying, CertTextDue, CertDue}
 use Rattle.pg_tool.specs.FileSteps.{FromFile}

@@ -36,9 +36,10 @@ use Rattle.pg_word.specs.Sparse.{IsCellList}
 use Rattle.pg_cert.proofs.Fits.{shown_fit}
 use Rattle.pg_cert.specs.Texts.{instr_of, kind_of, cert_text, AreListed}
 use Rattle.pg_cert.specs.Validity.{IsValidFinding, IsValidCert}
+use Rattle.pg_drawn.specs.Drawn.{drawn_of}
 use Rattle.pg_verify.specs.Reader.{Progress, Mark as KeptMark}
 use Rattle.pg_verify.specs.Reader as reader
-use Rattle.pg_verify.specs.Feeding.{verified, drawn_of, kept, IsReportOf}
+use Rattle.pg_verify.specs.Feeding.{verified, kept, IsReportOf}
 use Rattle.pg_verify.specs.Verified.{Spells, AreTold, IsTaken}
 use Rattle.pg_verify.proofs.SpellLemmas.{taken_texts_spell}
 use Rattle.pg_verify.proofs.TellLemmas.{taken_texts_tell, closed_refutes}

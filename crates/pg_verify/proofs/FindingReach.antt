@@ -32,10 +32,11 @@ use Rattle.pg_cert.specs.declared.line.Line.TheVariants as line
 use Rattle.pg_cert.specs.Verdicts.{kinds_of, kind_count, mark_of}
 use Rattle.pg_cert.specs.Texts.{act_line, state_lines, instr_of, kind_of, name_of, finding_lines, lines_text, AreListed}
 use Rattle.pg_cert.specs.Validity.{may_remove, IsValidFinding}
+use Rattle.pg_drawn.specs.Drawn.{Drawn, drawn_of}
 use Rattle.pg_verify.specs.declared.fault.VerifyFault.TheVariants as fault
-use Rattle.pg_verify.specs.Reader.{Drawn, NoState, FirstSize, FirstState, SecondSize, BothStates, Open, Between, Refuting, Showing, Spending, Mark, Refuted, Shown, Spent, Progress}
+use Rattle.pg_verify.specs.Reader.{NoState, FirstSize, FirstState, SecondSize, BothStates, Open, Between, Refuting, Showing, Spending, Mark, Refuted, Shown, Spent, Progress}
 use Rattle.pg_verify.specs.Taking.{then_take, misplaced, missing, with_open, may_close, marked, shows_at, closed, clauses_at, opening, placed, named, instr_named, kind_place, with_header, after_header, after_form}
-use Rattle.pg_verify.specs.Feeding.{drawn_of, kept}
+use Rattle.pg_verify.specs.Feeding.{kept}
 use Rattle.pg_verify.proofs.JudgingLemmas.{shows_decides}
 use Rattle.pg_verify.proofs.ReachLemmas.{spot, Fits, fits_front, fits_back, Reaches, reaches_then, reaches_cons}
 use Rattle.pg_verify.proofs.LogReach.{IsRefuted, reaches_acts, IsAllSpent, reaches_steps}

@@ -27,11 +27,12 @@ use Rattle.pg_cert.specs.Lines.{is_line, IsLine, is_found, most_budget}
 use Rattle.pg_cert.specs.Verdicts.{kinds_of, kind_count}
 use Rattle.pg_cert.specs.Texts.{family_of, instr_of, kind_of, name_of, findings_lines, AreListed}
 use Rattle.pg_cert.specs.Validity.{may_remove, IsActUnder}
+use Rattle.pg_drawn.proofs.DrawnLines.{row_is}
 use Rattle.pg_verify.specs.declared.fault.VerifyFault.TheVariants as fault
 use Rattle.pg_verify.specs.Reader.{Open, Fresh, Between, Refuting, Showing, Spending, Ended, Mark, Progress}
 use Rattle.pg_verify.specs.Taking.{then_take, misplaced, with_open, after_step, after_remove, with_size, with_psw, with_cells, after_state_line, missing, all_findings, may_close, closed, clauses_at, opening, placed, named, instr_named, kind_place, with_header, after_header, ended, after_end, is_fresh, same_family, is_first_due, after_first, after_form}
 use Rattle.pg_verify.proofs.Standing.{IsBody, IsBetween, IsOpenAt, IsAt, Keeps, Stands}
-use Rattle.pg_verify.proofs.StepLemmas.{same_ok, no_ok, taken, if_taken, row_is, size_on, psw_on, cells_on}
+use Rattle.pg_verify.proofs.StepLemmas.{same_ok, no_ok, taken, if_taken, size_on, psw_on, cells_on}
 use Rattle.pg_verify.proofs.OpenLemmas.{step_kept, removal_kept, state_kept, reopened_stands}
 use Rattle.pg_verify.proofs.CloseLemmas.{Closed, open_closed}
 
@@ -344,5 +345,5 @@ module _ (p q : Progress) (lines : List Line) (h : IsAt p.desc p.family p.remove
       reopened_stands p q (after_state_line p.lines (with_cells first words) p.opened)
       (lines ++ line.Cells first words ∷ []) e
       (λ o t. state_kept p.desc p.family p.removes p.marks lines p.lines (line.Cells first words)
-      (with_cells first words) p.opened o (λ x y. cells_on first words x y (row_is p.desc first words r)) t h)
+      (with_cells first words) p.opened o (λ x y. cells_on first words x y (row_is (shape_of p.desc) first words r)) t h)
   form_kept line.End r e = end_kept e

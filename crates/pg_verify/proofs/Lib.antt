@@ -1,6 +1,4 @@
-mod PushedRows
 pub mod JudgingLemmas
-pub mod RowLemmas
 pub mod Standing
 pub mod StepLemmas
 pub mod OpenLemmas

@@ -21,7 +21,7 @@ use Rattle.pg_ask.specs.Question.{question}
 use Rattle.pg_cert.specs.declared.cert.Family.{Family}
 use Rattle.pg_cert.specs.declared.cert.Family.TheVariants.{Plain, Hybrid}
 use Rattle.pg_cert.specs.Verdicts.{kind_count}
-use Rattle.pg_verify.specs.Reader.{Drawn, state_of}
+use Rattle.pg_drawn.specs.Drawn.{Drawn, state_of}
 use Rattle.pg_verify.specs.Judging.{shows}
 use Rattle.pg_verify.specs.Taking.{shows_at, clauses_at}
 use Rattle.pg_verify.proofs.JudgingLemmas.{shows_decides}

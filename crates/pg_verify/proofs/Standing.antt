@@ -2,9 +2,6 @@
 use Rattle.std.proofs.Common.{◌≡◌, ℕ, ◌≤◌, Bool, List, [], ◌∷◌, ◌++◌, length, map, Some, slice_get}
 use Rattle.std.specs.Prelude.{⊤, ◌*◌, ℤ}
 use Rattle.std.specs.List.{All}
-use Rattle.pg_word.specs.declared.sparse.Sparse.{Sparse}
-use Rattle.pg_word.specs.Sparse.{IsCellList, AreWithin, storage_of}
-use Rattle.pg_image.specs.Lines.{line_count}
 use Rattle.pg_ast.specs.declared.tree.Instr.{Instr}
 use Rattle.pg_ast.specs.declared.tree.Desc.{Desc}
 use Rattle.pg_proof.specs.declared.step.Step.{Step}
@@ -22,18 +19,13 @@ use Rattle.pg_cert.specs.declared.line.Line.{Line}
 use Rattle.pg_cert.specs.declared.line.Line.TheVariants as line
 use Rattle.pg_cert.specs.Lines.{most_budget}
 use Rattle.pg_cert.specs.Verdicts.{kind_count, mark_of}
-use Rattle.pg_cert.specs.Texts.{rows_before, act_line, family_of, instr_of, kind_of, name_of, findings_lines, AreListed}
+use Rattle.pg_cert.specs.Texts.{act_line, family_of, instr_of, kind_of, name_of, findings_lines, AreListed}
 use Rattle.pg_cert.specs.Validity.{may_remove, IsActUnder, IsValidFinding}
-use Rattle.pg_verify.specs.Reader.{Drawn, Pair, NoState, FirstSize, FirstState, SecondSize, BothStates, Open, Fresh, Between, Refuting, Showing, Spending, Ended, Mark, Progress}
+use Rattle.pg_drawn.proofs.DrawnLines.{drawn_lines, IsDrawn}
+use Rattle.pg_verify.specs.Reader.{Pair, NoState, FirstSize, FirstState, SecondSize, BothStates, Open, Fresh, Between, Refuting, Showing, Spending, Ended, Mark, Progress}
 use Rattle.pg_verify.specs.Feeding.{kept}
 
 -- ---- states
-
-abbrev pub sparse_of : (s : Drawn) → AreWithin s.size s.cells → Sparse
-sparse_of s h = record { size = s.size; psw = s.psw; cells = s.cells; within = h }
-
-abbrev pub drawn_lines : Drawn → List Line
-drawn_lines s = line.Size s.size ∷ line.Psw s.psw ∷ rows_before (line_count s.size) (storage_of s.size s.cells)
 
 abbrev pub pair_lines : Pair → List Line
 pair_lines NoState = []
@@ -41,10 +33,6 @@ pair_lines (FirstSize n) = line.Size n ∷ []
 pair_lines (FirstState s) = drawn_lines s
 pair_lines (SecondSize s n) = drawn_lines s ++ line.Size n ∷ []
 pair_lines (BothStates s t) = drawn_lines s ++ drawn_lines t
-
-pub record IsDrawn (s : Drawn) : Type 0 where
-  pub cells : IsCellList s.cells
-  pub within : AreWithin s.size s.cells
 
 abbrev pub AreDrawn : Pair → Type 0
 AreDrawn NoState = ⊤

@@ -1,18 +1,12 @@
 -- One line more below the header of a finding that is open.
-use Rattle.std.proofs.Common.{◌≡◌, ◌≢◌, ℕ, zero, suc, ◌-◌, ◌*◌, ◌/◌, ◌%◌, ◌<◌, ◌≤◌, min, Bool, true, false, not, if◌then◌else◌, List, [], ◌∷◌, ◌++◌, length, map, Option, None, Some, Result, Ok, Err, is_none, All, refl, sym, ap, subst, ◌∙◌, arith, ℤ, append_assoc}
-use Rattle.std.specs.Prelude.{◌&&◌, ◌||◌, ◌==◌, ◌^◌, nat_lt, nat_le}
-use Rattle.std.specs.List.{list_all, list_any}
+use Rattle.std.proofs.Common.{◌≡◌, ℕ, zero, suc, ◌-◌, Bool, true, false, not, if◌then◌else◌, List, [], ◌∷◌, ◌++◌, map, Option, None, Some, Result, Ok, Err, is_none, refl, sym, ap, subst, ◌∙◌, ℤ, append_assoc}
+use Rattle.std.specs.Prelude.{◌&&◌, nat_lt}
 use Rattle.std.specs.Option.{option_and_then}
-use Rattle.std.proofs.lemmas.Bool.{and_parts, ltb-true, leb-true, eqb-true, not-true}
+use Rattle.std.proofs.lemmas.Bool.{and_parts, not-true}
 use Rattle.std.proofs.lemmas.List.{map-append}
-use Rattle.std.proofs.lemmas.List.Elements.{All-nil, All-push}
-use Rattle.std.proofs.lemmas.List.Sums.{AllPass-from_list_all}
+use Rattle.std.proofs.lemmas.List.Elements.{All-push}
 use Rattle.std.proofs.lemmas.Option.{same_Some}
 use Rattle.pg_word.specs.declared.psw.Psw.{Psw}
-use Rattle.pg_word.specs.Sparse.{storage_of}
-use Rattle.pg_ast.specs.declared.tree.Desc.{Desc}
-use Rattle.pg_meaning.specs.States.{shape_of}
-use Rattle.pg_image.specs.Lines.{line_cells, line_count}
 use Rattle.pg_proof.specs.declared.step.ProofFault.{ProofFault}
 use Rattle.pg_proof.specs.declared.step.Step.{Step}
 use Rattle.pg_proof.specs.declared.step.Act.{Act}
@@ -26,14 +20,14 @@ use Rattle.pg_cert.specs.declared.line.Heading.{Heading}
 use Rattle.pg_cert.specs.declared.line.Found.{Found}
 use Rattle.pg_cert.specs.declared.line.Line.{Line}
 use Rattle.pg_cert.specs.declared.line.Line.TheVariants as line
-use Rattle.pg_cert.specs.Lines.{is_line, IsLine, most_number}
-use Rattle.pg_cert.specs.Texts.{act_line, rows_before}
+use Rattle.pg_cert.specs.Texts.{act_line}
 use Rattle.pg_cert.specs.Validity.{IsActUnder}
+use Rattle.pg_drawn.specs.Drawn.{Drawn, drawn, with_row}
+use Rattle.pg_drawn.proofs.DrawnLines.{drawn_lines, drawn_new, drawn_new-lines, IsRow, row_on}
 use Rattle.pg_verify.specs.declared.fault.VerifyFault.{VerifyFault}
-use Rattle.pg_verify.specs.Reader.{Drawn, Pair, NoState, FirstSize, FirstState, SecondSize, BothStates}
-use Rattle.pg_verify.specs.Taking.{then_take, where_valid, with_step, with_spent_step, is_worth, with_size, with_psw, drawn, listed, row_fits, with_row, as_first, as_second, with_cells}
-use Rattle.pg_verify.proofs.RowLemmas.{listed_more, within_more, row_added, no_rows}
-use Rattle.pg_verify.proofs.Standing.{drawn_lines, pair_lines, IsDrawn, AreDrawn, IsRefuting, IsShowing, log_after, IsSpending}
+use Rattle.pg_verify.specs.Reader.{Pair, NoState, FirstSize, FirstState, SecondSize, BothStates}
+use Rattle.pg_verify.specs.Taking.{then_take, where_valid, with_step, with_spent_step, is_worth, with_size, with_psw, as_first, as_second, with_cells}
+use Rattle.pg_verify.proofs.Standing.{pair_lines, AreDrawn, IsRefuting, IsShowing, log_after, IsSpending}
 
 -- ---- results
 
@@ -162,95 +156,6 @@ spending_more clauses budget count log after f body step e h = record {
 }
 
 -- ---- states
-
-drawn_new : (n : ℕ) (psw : Psw) → IsDrawn (drawn n psw)
-drawn_new n psw = record {
-  cells = record { ascending = λ i j l m. absurd (omega arith); not_zero = All-nil (λ (c : ℕ × ℕ). c.1 ≢ 0) };
-  within = All-nil (λ (c : ℕ × ℕ). c.0 < n);
-}
-
-drawn_new-lines : (n : ℕ) (psw : Psw) → line.Size n ∷ line.Psw psw ∷ [] ≡ drawn_lines (drawn n psw)
-drawn_new-lines n psw = ap (λ (ls : List Line). line.Size n ∷ line.Psw psw ∷ ls) (sym (no_rows n (line_count n)))
-
--- a row that is in range begins at a multiple of 8, is not empty and not all zero
-pub record IsRow (first : ℕ) (words : List ℕ) : Type 0 where
-  pub place : first % 8 ≡ 0
-  pub some : 1 ≤ length words
-  pub not_zero : list_all (λ w. w == 0) words ≡ false
-
-any_not : (words : List ℕ) → list_any (λ x. not (x == 0)) words ≡ true → list_all (λ w. w == 0) words ≡ false
-any_not [] e = absurd (let f : false ≡ true = e in cc)
-any_not (w ∷ ws) e = by (w == 0) e (λ h. any_not ws h)
-  where
-    by : (b : Bool) → (not b || list_any (λ x. not (x == 0)) ws) ≡ true →
-        (list_any (λ x. not (x == 0)) ws ≡ true → list_all (λ w. w == 0) ws ≡ false) →
-        (b && list_all (λ w. w == 0) ws) ≡ false
-    by true e rest = rest e
-    by false e rest = refl
-
-pub row_is : (d : Desc) (first : ℕ) (words : List ℕ) → IsLine (shape_of d) (line.Cells first words) → IsRow first words
-unfolding is_line
-row_is d first words h =
-    let w : ℕ = d.word in
-    let ends : Bool = nat_le first most_number && (first % line_cells == 0) in
-    let count : Bool = nat_le 1 (length words) && nat_le (length words) line_cells in
-    let any : Bool = list_any (λ x. not (x == 0)) words in
-    let fit : Bool = list_all (λ x. nat_lt x (2 ^ w)) words in
-    let a = and_parts ends (count && (any && fit)) h in
-    let b = and_parts count (any && fit) a.1 in
-    record {
-      place = eqb-true (first % line_cells) 0 (and_parts (nat_le first most_number) (first % line_cells == 0) a.0).1;
-      some = leb-true 1 (length words) (and_parts (nat_le 1 (length words)) (nat_le (length words) line_cells) b.0).0;
-      not_zero = any_not words (and_parts any fit b.1).0;
-    }
-
-pub record IsRowOn (s t : Drawn) (first : ℕ) (words : List ℕ) : Type 0 where
-  pub drawn : IsDrawn t
-  pub lines_are : drawn_lines t ≡ drawn_lines s ++ line.Cells first words ∷ []
-
-row_on : (s : Drawn) (first : ℕ) (words : List ℕ) (t : Drawn) → IsRow first words → with_row first words s ≡ Some t →
-    IsDrawn s → IsRowOn s t first words
-row_on s first words t row e h = by (row_fits s first words) refl e
-  where
-    below : row_fits s first words ≡ true → All (λ c. c.0 < first) s.cells
-    below f = λ k d l. ltb-true _ first
-        (AllPass-from_list_all (λ (c : ℕ × ℕ). nat_lt c.0 first) s.cells
-        (and_parts (list_all (λ (c : ℕ × ℕ). nat_lt c.0 first) s.cells)
-        (length words == min line_cells (s.size - first)) f).0 k d l)
-
-    size : row_fits s first words ≡ true → length words ≡ min line_cells (s.size - first)
-    size f = eqb-true (length words) (min line_cells (s.size - first))
-        (and_parts (list_all (λ (c : ℕ × ℕ). nat_lt c.0 first) s.cells)
-        (length words == min line_cells (s.size - first)) f).1
-
-    eight : first ≡ 8 * (first / 8)
-    eight = let p = row.place in omega arith
-
-    new : Drawn
-    new = record s { cells = s.cells ++ listed first words }
-
-    on : row_fits s first words ≡ true → IsRowOn s new first words
-    on f =
-        let len = size f in
-        let some = row.some in
-        let rows : rows_before (line_count s.size) (storage_of s.size (s.cells ++ listed first words)) ≡ rows_before
-        (line_count s.size) (storage_of s.size s.cells) ++ line.Cells first words ∷ [] =
-        subst (λ n. rows_before (line_count s.size) (storage_of s.size (s.cells ++ listed n words)) ≡ rows_before
-        (line_count s.size) (storage_of s.size s.cells) ++ line.Cells n words ∷ []) (sym eight)
-        (row_added s.size (first / 8) s.cells words (subst (λ n. All (λ c. c.0 < n) s.cells) eight (below f))
-        (len ∙ ap (λ n. min 8 (s.size - n)) eight) row.some row.not_zero) in
-        record {
-          drawn = record {
-            cells = listed_more first words s.cells h.cells (below f);
-            within =
-                within_more s.size first words s.cells h.within (omega arith);
-          };
-          lines_are = ap (λ (ls : List Line). line.Size s.size ∷ line.Psw s.psw ∷ ls) rows;
-        }
-
-    by : (b : Bool) → row_fits s first words ≡ b → (if b then Some new else None) ≡ Some t → IsRowOn s t first words
-    by true f g = subst (λ x. IsRowOn s x first words) (same_Some new t g) (on f)
-    by false f g = absurd (cc)
 
 -- a pair with one line more
 pub record IsPairOn (p q : Pair) (l : Line) : Type 0 where

@@ -1,15 +1,15 @@
 -- A text that is fed, byte by byte: a line is taken with its LF.
 use Rattle.std.specs.Prelude.{◌≢◌, nat_lt, length, ◌≡◌, ℕ, suc, false, ◌==◌, if◌then◌else◌, List, [], ◌∷◌, ◌++◌, map, Result, Ok, Err}
-use Rattle.pg_word.specs.declared.sparse.Sparse.{Sparse}
 use Rattle.pg_ast.specs.declared.tree.Desc.{Desc}
 use Rattle.pg_cert.specs.declared.cert.Family.{Family}
 use Rattle.pg_cert.specs.declared.line.Line.TheVariants as line
 use Rattle.pg_cert.specs.declared.report.Mark.{Mark as Marks}
 use Rattle.pg_cert.specs.declared.report.Mark.TheVariants as mark
 use Rattle.pg_cert.specs.declared.report.Report.{Report}
+use Rattle.pg_drawn.specs.Drawn.{drawn_of}
 use Rattle.pg_verify.specs.declared.fault.VerifyFault.{VerifyFault}
 use Rattle.pg_verify.specs.declared.fault.VerifyFault.TheVariants as fault
-use Rattle.pg_verify.specs.Reader.{Drawn, Open, Fresh, Between, Refuting, Showing, Spending, Ended, Mark, Refuted, Shown, Spent, Progress, Reader}
+use Rattle.pg_verify.specs.Reader.{Open, Fresh, Between, Refuting, Showing, Spending, Ended, Mark, Refuted, Shown, Spent, Progress, Reader}
 use Rattle.pg_verify.specs.Taking.{then_take, misplaced, after_form, after_line}
 
 -- the most bytes of a certificate
@@ -76,10 +76,7 @@ verified_whole d family bytes = (if nat_lt most_bytes (length bytes) then Err fa
 
 -- ---- what is answered
 
--- a state as it is kept, and a mark
-abbrev pub drawn_of : Sparse → Drawn
-drawn_of s = record { size = s.size; psw = s.psw; cells = s.cells }
-
+-- a mark as it is kept
 abbrev pub kept : Marks → Mark
 kept mark.Refuted = Refuted
 kept (mark.Shown s t) = Shown (drawn_of s) (drawn_of t)

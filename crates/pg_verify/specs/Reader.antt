@@ -1,21 +1,10 @@
 -- How far the text of a certificate has been read, or why it was refused.
 use Rattle.std.specs.Prelude.{ℕ, Bool, List, Result}
-use Rattle.pg_word.specs.declared.psw.Psw.{Psw}
-use Rattle.pg_word.specs.Sparse.{storage_of}
 use Rattle.pg_ast.specs.declared.tree.Desc.{Desc}
-use Rattle.pg_meaning.specs.States.{State}
 use Rattle.pg_proof.specs.State.{State as Log}
 use Rattle.pg_cert.specs.declared.cert.Family.{Family}
+use Rattle.pg_drawn.specs.Drawn.{Drawn}
 use Rattle.pg_verify.specs.declared.fault.VerifyFault.{VerifyFault}
-
--- a state as its lines give it: its cells that are not zero are listed
-pub record Drawn : Type 0 where
-  pub size : ℕ
-  pub psw : Psw
-  pub cells : List (ℕ × ℕ)
-
-abbrev pub state_of : Drawn → State
-state_of s = record { cells = storage_of s.size s.cells; psw = s.psw }
 
 -- how far the two states of a finding have come. A state is whole from its program status word on; rows of cells may follow
 pub data Pair : Type 0 where

@@ -1,18 +1,16 @@
 -- The values of the code as the definitions have them.
-use Rattle.std.specs.Prelude.{Bool, true, false, ℕ, ⊤, ◌≡◌, ◌≢◌, ◌≤◌, length, Option, None, Some, Result, Ok, Err}
-use Rattle.pg_word.specs.declared.sparse.Sparse.{Sparse}
+use Rattle.std.specs.Prelude.{Bool, true, false, ℕ, ◌≡◌, ◌≢◌, length, Option, None, Some, Result, Ok, Err}
+use Rattle.pg_drawn.specs.Drawn.{drawn_of}
 use Rattle.pg_verify.specs.declared.fault.VerifyFault.{VerifyFault}
 use Rattle.pg_verify.specs.declared.fault.VerifyFault.TheVariants.{Memory}
 use Rattle.pg_verify.specs.declared.drawing.Drawing.{Drawing}
 use Rattle.pg_verify.specs.declared.drawing.Drawing.TheVariants as drawing
 use Rattle.pg_verify.specs.declared.opened.Opened.{Opened}
 use Rattle.pg_verify.specs.declared.opened.Opened.TheVariants as opened
-use Rattle.pg_verify.specs.Reader.{Drawn, Progress, Reader, Pair, NoState, FirstSize, FirstState, SecondSize, BothStates, Open, Fresh, Between, Refuting, Showing, Spending, Ended}
-use Rattle.pg_image.specs.Lines.{line_cells}
+use Rattle.pg_verify.specs.Reader.{Progress, Reader, Pair, NoState, FirstSize, FirstState, SecondSize, BothStates, Open, Fresh, Between, Refuting, Showing, Spending, Ended}
 use Rattle.pg_verify.specs.declared.states.StatePart.{StatePart}
 use Rattle.pg_verify.specs.declared.states.StatePart.TheVariants as part
 use Rattle.pg_verify.specs.Taking.{misplaced, with_size, with_psw, with_cells}
-use Rattle.pg_verify.specs.Feeding.{drawn_of}
 
 abbrev pub pair_of : Drawing → Pair
 pair_of drawing.NoState = NoState
@@ -48,22 +46,11 @@ abbrev pub IsPair : Option Pair → Option Drawing → Type 0
 IsPair due None = due ≡ None
 IsPair due (Some d) = due ≡ Some (pair_of d)
 
--- and where a row more of a state is due or none
-abbrev pub IsRow : Option Drawn → Option Sparse → Type 0
-IsRow due None = due ≡ None
-IsRow due (Some s) = due ≡ Some (drawn_of s)
-
 -- what a line says of a state
 abbrev pub with_part : StatePart → Pair → Option Pair
 with_part (part.Size size) = with_size size
 with_part (part.Psw psw) = with_psw psw
 with_part (part.Cells first words) = with_cells first words.now
-
--- a row has 8 words at most
-abbrev pub IsRowPart : StatePart → Type 0
-IsRowPart (part.Size size) = ⊤
-IsRowPart (part.Psw psw) = ⊤
-IsRowPart (part.Cells first words) = length words.now ≤ line_cells
 
 -- a pair with a line more, or that it may not stand there
 abbrev pub pair_told : ℕ → Option Pair → Result Pair VerifyFault

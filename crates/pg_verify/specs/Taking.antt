@@ -1,12 +1,10 @@
 -- What a line does to what was read before it, by what it says.
-use Rattle.std.specs.Prelude.{ℕ, suc, ◌+◌, ◌-◌, ◌*◌, Bool, true, false, not, ◌&&◌, ◌==◌, nat_lt, min, if◌then◌else◌, ℤ, List, [], ◌∷◌, ◌++◌, length, position, bytes_eq, Option, None, Some, slice_get, Result, Ok, Err}
-use Rattle.std.specs.List.{list_all}
+use Rattle.std.specs.Prelude.{ℕ, suc, ◌+◌, ◌*◌, Bool, true, false, not, ◌&&◌, ◌==◌, nat_lt, if◌then◌else◌, ℤ, List, [], ◌∷◌, ◌++◌, length, position, bytes_eq, Option, None, Some, slice_get, Result, Ok, Err}
 use Rattle.pg_word.specs.declared.psw.Psw.{Psw as Psws}
 use Rattle.pg_ast.specs.declared.tree.Instr.{Instr}
 use Rattle.pg_ast.specs.declared.tree.Desc.{Desc}
 use Rattle.pg_meaning.specs.States.{shape_of}
 use Rattle.pg_valid.specs.Twice.{instr_names}
-use Rattle.pg_image.specs.Lines.{line_cells}
 use Rattle.pg_type.specs.declared.kind.Kind.{Kind}
 use Rattle.pg_type.specs.declared.kind.Kind.TheVariants as kind
 use Rattle.pg_proof.specs.declared.step.ProofFault.{ProofFault}
@@ -29,10 +27,11 @@ use Rattle.pg_cert.specs.Verdicts.{kind_count}
 use Rattle.pg_cert.specs.Parsing.{Said, Says, NoToken, NoForm, OtherVersion, said}
 use Rattle.pg_cert.specs.Texts.{family_of, instr_of, kind_of}
 use Rattle.pg_cert.specs.Validity.{may_remove}
+use Rattle.pg_drawn.specs.Drawn.{Drawn, state_of, drawn, with_row}
 use Rattle.pg_verify.specs.declared.fault.VerifyFault.{VerifyFault}
 use Rattle.pg_verify.specs.declared.fault.VerifyFault.TheVariants as fault
 use Rattle.pg_verify.specs.declared.fault.StepCause.TheVariants.{UnknownLit, UnknownHint, NotUnit, NoConflict}
-use Rattle.pg_verify.specs.Reader.{Drawn, state_of, Pair, NoState, FirstSize, FirstState, SecondSize, BothStates, Open, Fresh, Between, Refuting, Showing, Spending, Ended, Mark, Refuted, Shown, Spent, Progress, Reader}
+use Rattle.pg_verify.specs.Reader.{Pair, NoState, FirstSize, FirstState, SecondSize, BothStates, Open, Fresh, Between, Refuting, Showing, Spending, Ended, Mark, Refuted, Shown, Spent, Progress, Reader}
 use Rattle.pg_verify.specs.Judging.{shows}
 
 -- ---- what may come of a line
@@ -114,27 +113,12 @@ with_size size (FirstState s) = Some (SecondSize s size)
 with_size size (SecondSize s m) = None
 with_size size (BothStates s t) = None
 
-abbrev pub drawn : ℕ → Psws → Drawn
-drawn size psw = record { size = size; psw = psw; cells = [] }
-
 abbrev pub with_psw : Psws → Pair → Option Pair
 with_psw psw NoState = None
 with_psw psw (FirstSize size) = Some (FirstState (drawn size psw))
 with_psw psw (FirstState s) = None
 with_psw psw (SecondSize s size) = Some (BothStates s (drawn size psw))
 with_psw psw (BothStates s t) = None
-
--- the cells of a row that are not zero, with their addresses
-abbrev pub listed : ℕ → List ℕ → List (ℕ × ℕ)
-listed at [] = []
-listed at (word ∷ words) = (if word == 0 then listed (suc at) words else (at, word) ∷ listed (suc at) words)
-
--- a row fits where it comes behind all cells that are listed and has as many words as the storage has there, 8 at most
-abbrev pub row_fits : Drawn → ℕ → List ℕ → Bool
-row_fits s first words = list_all (λ cell. nat_lt cell.0 first) s.cells && (length words == min line_cells (s.size - first))
-
-abbrev pub with_row : ℕ → List ℕ → Drawn → Option Drawn
-with_row first words s = (if row_fits s first words then Some (record s { cells = s.cells ++ listed first words }) else None)
 
 abbrev pub as_first : Option Drawn → Option Pair
 as_first None = None

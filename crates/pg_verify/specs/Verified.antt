@@ -15,8 +15,9 @@ use Rattle.pg_cert.specs.Verdicts.{kinds_of, kind_count, mark_of}
 use Rattle.pg_cert.specs.Lines.{IsLine}
 use Rattle.pg_cert.specs.Texts.{instr_of, kind_of, cert_lines, cert_text, AreListed}
 use Rattle.pg_cert.specs.Validity.{IsValidCert}
+use Rattle.pg_drawn.specs.Drawn.{state_of}
 use Rattle.pg_verify.specs.declared.fault.VerifyFault.TheVariants as fault
-use Rattle.pg_verify.specs.Reader.{state_of, Mark, Refuted, Shown, Spent, Progress}
+use Rattle.pg_verify.specs.Reader.{Mark, Refuted, Shown, Spent, Progress}
 use Rattle.pg_verify.specs.Feeding.{verified, kept, most_bytes}
 
 -- a certificate of the description that is valid for its questions, each line of which is in range

@@ -6,10 +6,15 @@
 //!
 //! # Modules
 //!
-//! - `fault`: why a text is refused. `drawing`: the two states of a finding, as lines give them. `opened`: the finding that is
-//!   open.
 //! - `verifier`: the type, and its life: `new` or `hybrid`, then `feed` or `line`, then `finish`. `verify` is all of it.
-//! - `steps`, `states`, `headers`: what a line does, by what it says.
+//! - `fault`: why a text is refused.
+//! - `families`: which headings begin the certificates of a family, and in which order its kinds come.
+//! - `opened`: what is open of a text: a finding, or none.
+//! - `drawing`: the two states of a finding, as lines give them.
+//! - `reading`: how far a text has been read; its first line, its headers and its last line.
+//! - `reading::feeding`: bytes that are fed, cut into lines.
+//! - `steps`: a line of a log.
+//! - `states`: a line of the two states.
 //! - `laws`: what follows from the definitions alone: a text is taken exactly where it spells a valid certificate.
 #![tactic(auto)]
 

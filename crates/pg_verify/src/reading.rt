@@ -6,12 +6,11 @@
 ghost use Rattle.std.specs.Prelude.{◌≡◌, ◌+◌, ◌*◌, ◌<◌, ◌≤◌, ◌^◌, ◌==◌, length, slice_get, true, map, Some, IfOk, IfSome, Ok};
 ghost use Rattle.pg_cert.specs.Verdicts.{kind_count};
 ghost use Rattle.pg_proof.specs.State.{begun as log_begun};
+ghost use Rattle.pg_drawn.specs.Drawn.{drawn_of};
 ghost use Rattle.pg_verify.specs.Taking.{closed, closed_pair, marked, opened_with, shows_due, due_instr, due_kind, all_findings, may_close, instr_named, clauses_at, placed, named, after_first, after_header, after_end, after_form, is_first_due, ended};
-ghost use Rattle.pg_verify.specs.Feeding.{begun, drawn_of, kept};
+ghost use Rattle.pg_verify.specs.Feeding.{begun, kept};
 ghost use Rattle.pg_verify.specs.Taking.{reopened, after_step, after_remove, after_state_line, after_line};
-ghost use Rattle.pg_verify.specs.Seen.{numbered, with_part, IsRowPart, IsTold};
-ghost use Rattle.pg_meaning.specs.States.{shape_of};
-ghost use Rattle.pg_cert.specs.Lines.{IsLine};
+ghost use Rattle.pg_verify.specs.Seen.{numbered, with_part, IsTold};
 ghost use Rattle.pg_verify.specs.Reader.{BothStates};
 ghost use Rattle.pg_verify.specs.declared.fault.VerifyFault.TheVariants.{Missing};
 ghost use Rattle.pg_cert.specs.Texts.{family_of};
@@ -288,7 +287,6 @@ impl<'m> Reading<'m> {
     /// A line of a state of the pair that is open.
     fn draw(&mut self, part: StatePart<'_>) -> Result<(), VerifyFault>
         requires slack { numbered self.old.opened + 1 ≤ 2 ^ 31 + self.old.lines }
-        requires row { IsRowPart part }
         ensures { IsTold (reopened self.old (after_state_line self.old.lines (with_part part.entry) self.old.opened)) self.new result }
     {
         take_part(self.alloc, &mut self.opened, self.lines, part)
@@ -298,7 +296,6 @@ impl<'m> Reading<'m> {
     #[tactic(auto, unfolding(crate::specs::Taking::after_form))]
     fn take_form(&mut self, line: &Line) -> Result<(), VerifyFault>
         requires slack { numbered self.old.opened + 1 ≤ 2 ^ 31 + self.old.lines }
-        requires line { IsLine (shape_of self.old.desc) line.now }
         ensures { IsTold (after_form self.old line.now) self.new result }
     {
         match line {

@@ -63,12 +63,14 @@ impl<'m> Verifier<'m> {
     }
 
     /// The next bytes of the text, however it is cut. It is refused with the first fault of its lines, or with `Long` at the
-    /// byte with which it is too long, and then for good; `Memory` is a refusal too, but says nothing of the text.
+    /// byte with which it is too long, and then for good: each call after a refusal answers the same one. `Memory` is a refusal
+    /// too, but says nothing of the text.
     ///
     /// Beside the questions that are asked as findings open, it costs the length of the bytes and of the clauses that the
     /// hints of steps name, and for steps of a spent log of those that hang at its literals. The memory taken is that of one
     /// question, of the clauses held of one log, of the marks, and of a line that is not whole.
     pub fn feed(&mut self, bytes: &[u8]) -> Result<(), VerifyFault>
+        ensures same { IfErr self.old (λ f. result ≡ Err f) }
         ensures fed { OnOk result (then_take self.old (λ p. fed p bytes.now) ≡ self.new) }
         ensures some { OnOk result (IsOk self.new) }
         ensures refused { IfErr result (λ f. self.new ≡ Err f) }
@@ -86,8 +88,9 @@ impl<'m> Verifier<'m> {
         }
     }
 
-    /// The next line, its LF among the bytes: without one it is refused.
+    /// The next line, its LF among the bytes: without one it is refused. After a refusal the same is answered.
     pub fn line(&mut self, bytes: &[u8]) -> Result<(), VerifyFault>
+        ensures same { IfErr self.old (λ f. result ≡ Err f) }
         ensures fed { OnOk result (then_take self.old (λ p. lined p bytes.now) ≡ self.new) }
         ensures some { OnOk result (IsOk self.new) }
         ensures refused { IfErr result (λ f. self.new ≡ Err f) }
@@ -105,9 +108,10 @@ impl<'m> Verifier<'m> {
         }
     }
 
-    /// No byte comes any more: the report of the text, or why it is refused.
+    /// No byte comes any more: the report of the text, or why it is refused. After a refusal the same is answered.
     pub fn finish(self) -> Result<Report, VerifyFault>
-        ensures { IsAnswer (then_take self.entry finished) result }
+        ensures same { IfErr self.entry (λ f. result ≡ Err f) }
+        ensures due { IsAnswer (then_take self.entry finished) result }
     {
         let Verifier { reading, fault } = self;
         match fault {

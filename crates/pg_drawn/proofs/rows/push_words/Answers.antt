@@ -1,6 +1,6 @@
 use Rattle.std.proofs.Common.{arith, ◌∙◌}
-use Rattle.pg_verify.proofs.PushedRows.{row_goes_on}
-use Rattle.pg_verify.proofs.states.push_words.Goals as goal
+use Rattle.pg_drawn.proofs.PushedRows.{row_goes_on}
+use Rattle.pg_drawn.proofs.rows.push_words.Goals as goal
 
 pub loop-word-preserved : goal.loop-word-preserved
 loop-word-preserved c =

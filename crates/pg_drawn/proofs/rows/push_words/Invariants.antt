@@ -1,6 +1,6 @@
 use Rattle.std.proofs.Common.{◌≡◌}
-use Rattle.pg_verify.proofs.PushedRows.{IsListedSoFar}
-use Rattle.pg_verify.proofs.states.push_words.Given as goal
+use Rattle.pg_drawn.proofs.PushedRows.{IsListedSoFar}
+use Rattle.pg_drawn.proofs.rows.push_words.Given as goal
 
 abbrev pub invariant-loop-word : goal.invariant-loop-word
 invariant-loop-word l = record {

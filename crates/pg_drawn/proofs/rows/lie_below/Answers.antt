@@ -2,8 +2,8 @@ use Rattle.std.proofs.Common.{arith, subst, sym, ap, ◌∙◌}
 use Rattle.std.specs.Prelude.{nat_lt}
 use Rattle.std.specs.List.{list_all}
 use Rattle.pg_word.specs.Sparse.{IsCellList}
-use Rattle.pg_verify.proofs.PushedRows.{last_below}
-use Rattle.pg_verify.proofs.states.lie_below.Goals as goal
+use Rattle.pg_drawn.proofs.PushedRows.{last_below}
+use Rattle.pg_drawn.proofs.rows.lie_below.Goals as goal
 
 pub returns : goal.returns
 returns c =

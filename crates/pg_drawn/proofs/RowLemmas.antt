@@ -12,7 +12,7 @@ use Rattle.pg_word.proofs.SparseLemmas.{length-storage_of, pushed}
 use Rattle.pg_image.specs.Lines.{line_words, line_count}
 use Rattle.pg_cert.specs.declared.line.Line.TheVariants.{Cells}
 use Rattle.pg_cert.specs.Texts.{row_lines, rows_before}
-use Rattle.pg_verify.specs.Taking.{listed}
+use Rattle.pg_drawn.specs.Drawn.{listed}
 
 -- ---- what a row lists
 

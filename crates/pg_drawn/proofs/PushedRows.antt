@@ -1,22 +1,14 @@
 -- Rows of cells that come behind those of a state.
 use Rattle.std.proofs.Common.{◌≡◌, ◌≢◌, ℕ, suc, ◌+◌, ◌-◌, ◌<◌, ◌≤◌, Bool, true, false, List, [], ◌∷◌, ◌++◌, length, get_or, drop, refl, sym, ap, subst, ◌∙◌, arith, cond, append_assoc, ◌⊎◌, inl, inr}
-use Rattle.std.specs.Prelude.{nat_lt, nat_le, not, ◌==◌, ◌&&◌, ◌%◌, ◌^◌, Result}
-use Rattle.std.specs.List.{All, list_all, list_any}
+use Rattle.std.specs.Prelude.{nat_lt, ◌==◌}
+use Rattle.std.specs.List.{All, list_all}
 use Rattle.std.proofs.lemmas.List.{drop_more, drop_all, append-nil}
 use Rattle.std.proofs.lemmas.List.Folds.{list_all_at}
 use Rattle.std.proofs.lemmas.List.Sums.{AllPass-from_list_all, list_all-from_AllPass}
 use Rattle.std.proofs.lemmas.List.Elements.{All-from_get_or, All-weaker, All-append, All-nil, All-cons}
-use Rattle.std.proofs.lemmas.Bool.{ltb-true, lt-ltb, cases_Bool, eq-eqb, ne_eqb, and_parts, leb-true}
+use Rattle.std.proofs.lemmas.Bool.{ltb-true, lt-ltb, cases_Bool, eq-eqb, ne_eqb}
 use Rattle.pg_word.specs.Sparse.{address_at, IsCellList, IsPastLast}
-use Rattle.pg_word.specs.declared.shape.Shape.{Shape}
-use Rattle.pg_image.specs.Lines.{line_cells}
-use Rattle.pg_cert.specs.declared.line.Line.{Line}
-use Rattle.pg_cert.specs.declared.line.Line.TheVariants as line
-use Rattle.pg_cert.specs.Lines.{is_line, IsLine, most_number}
-use Rattle.pg_verify.specs.declared.fault.VerifyFault.{VerifyFault}
-use Rattle.pg_verify.specs.Reader.{Progress}
-use Rattle.pg_verify.specs.Seen.{IsTold}
-use Rattle.pg_verify.specs.Taking.{listed, reopened, after_state_line, with_cells, after_form}
+use Rattle.pg_drawn.specs.Drawn.{listed}
 
 below_all : (cells : List (ℕ × ℕ)) (first : ℕ) → IsCellList cells → 0 < length cells → address_at cells (length cells - 1) < first → All (λ cell. cell.0 < first) cells
 below_all cells first h some last = All-from_get_or (λ cell. cell.0 < first) cells (0, 0) (λ i l.
@@ -95,21 +87,3 @@ pub row_listed : (before cells : List (ℕ × ℕ)) (first : ℕ) (words : List 
     cells ≡ before ++ listed first words
 row_listed before cells first words at i l h =
     sym (append-nil cells) ∙ ap (λ ws. cells ++ listed at ws) (sym (drop_all i words l)) ∙ h.listed_are
-
--- ---- lines of cells
-
--- a row that is in range has 8 words at most
-pub row_short : (shape : Shape) (first : ℕ) (words : List ℕ) → IsLine shape (line.Cells first words) → length words ≤ line_cells
-unfolding is_line
-row_short shape first words h =
-    let ends : Bool = nat_le first most_number && (first % line_cells == 0) in
-    let count : Bool = nat_le 1 (length words) && nat_le (length words) line_cells in
-    let rest : Bool = list_any (λ x. not (x == 0)) words && list_all (λ x. nat_lt x (2 ^ shape.w)) words in
-    let b = and_parts count rest (and_parts ends (count && rest) h).1 in
-    leb-true (length words) line_cells (and_parts (nat_le 1 (length words)) (nat_le (length words) line_cells) b.0).1
-
-pub told_cells : {A : Type 0} (p q : Progress) (l : Line) (first : ℕ) (words slice : List ℕ) (r : Result A VerifyFault) → l ≡ line.Cells first words → slice ≡ words →
-    IsTold (reopened p (after_state_line p.lines (with_cells first slice) p.opened)) q r → IsTold (after_form p l) q r
-unfolding after_form
-told_cells p q l first words slice r e s h =
-    subst (λ x. IsTold x q r) (sym (ap (after_form p) e ∙ ap (λ ws. reopened p (after_state_line p.lines (with_cells first ws) p.opened)) (sym s))) h

@@ -1,0 +1,4 @@
+pub mod RowLemmas
+mod PushedRows
+pub mod RowsBack
+pub mod DrawnLines
