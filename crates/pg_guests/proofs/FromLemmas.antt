@@ -141,10 +141,6 @@ pub loaded-bottom : (base : ℕ) (images : List (List ℕ)) (h : Machinery) → 
 loaded-bottom base [] h = refl
 loaded-bottom base (x ∷ xs) h = loaded-bottom (base + length x) xs (with_words base x h)
 
-pub loaded-room : (base : ℕ) (images : List (List ℕ)) (h : Machinery) → (loaded_from base images h).room ≡ h.room
-loaded-room base [] h = refl
-loaded-room base (x ∷ xs) h = loaded-room (base + length x) xs (with_words base x h)
-
 pub loaded-pokes : (base : ℕ) (images : List (List ℕ)) (h : Machinery) → h.tally.pokes + cells_in images < 2 ^ 63 → (loaded_from base images h).tally.pokes ≡ h.tally.pokes + cells_in images
 loaded-pokes base [] h few = omega arith
 loaded-pokes base (x ∷ xs) h few =

@@ -24,7 +24,7 @@ use Rattle.pg_monitor.proofs.ScheduleLemmas.{turns_of-schedule, direct_of-schedu
 use Rattle.pg_report.specs.Spans.{span}
 use Rattle.pg_guests.specs.Runs.{GuestRun, CanRun, CanCount, RanGuests, SetUp, Untouched, Installed, Loaded, granted, guests_from, guests_of, first_states, reached_by, plan_of, turns_in, direct_turns_of, loaded_for, taken_for, cells_in, run_of}
 use Rattle.pg_guests.specs.Begun.{IsBegun}
-use Rattle.pg_guests.proofs.FromLemmas.{loaded-psw, loaded-before, loaded-outside, loaded-steps, loaded-untrapped, loaded-loads, loaded-bottom, loaded-room, loaded-pokes}
+use Rattle.pg_guests.proofs.FromLemmas.{loaded-psw, loaded-before, loaded-outside, loaded-steps, loaded-untrapped, loaded-loads, loaded-bottom, loaded-pokes}
 
 -- ---- what is small
 
@@ -233,7 +233,6 @@ module _ (machine : Machine) (images : List (List ℕ)) (slice n : ℕ) (old on 
       loads = (let counted = tally.loads in let was = on-loads in let can = h.can_count.loads in let few = h.can_run.counted in let most = direct-most in let change = changes in
           counted ∙ omega (arith, was, can, few, most, change));
       bottom = subst (λ b. BottomTurns (turns_in r) (direct_turns_of r) b new.bottom) (ap (λ (m : Machinery). m.bottom) h.made ∙ loaded-bottom 2 images (taken_for d old)) bottom;
-      room = followed.room ∙ ap (λ (m : Machinery). m.room) h.made ∙ loaded-room 2 images (taken_for d old);
     }
 
 -- ---- a hardware that was being set up

@@ -155,4 +155,3 @@ pub record RanGuests (r : GuestRun) (old new : Machinery) : Type 0 where
   -- one load for each change of guest, the first turn among them, and one for each turn that is not direct
   pub loads : new.tally.loads ≡ old.tally.loads + (changes_of (plan_of r) None + emulated_turns r)
   pub bottom : BottomTurns (turns_in r) (direct_turns_of r) old.bottom new.bottom
-  pub room : new.room ≡ old.room

@@ -1,7 +1,7 @@
 //! The turns of guests.
 
 ghost use Rattle.std.specs.Prelude.{◌≡◌, ◌≤◌, IfOk, OnOk, OnErr};
-ghost use Rattle.pg_hw.specs.Serving.{SameServed};
+ghost use Rattle.pg_hw.specs.Serving.{IsServed};
 ghost use Rattle.pg_guests.specs.Runs.{CanRun, CanCount, RanGuests, SetUp, run_of};
 ghost use Rattle.pg_guests.specs.Begun.{HaveRun};
 
@@ -38,14 +38,14 @@ pub fn run_guests<'m, H: Hardware>(
     steps: u64,
     hw: &mut H,
 ) -> Result<Ran<'m>, AllocError>
-    requires served { H.serves hw.old accepted.machine.now.desc }
-    requires room { accepted.machine.now.desc.size ≤ (H.machinery hw.old).room }
+    requires served { IsServed (H.serves (H.fixed hw.old)) accepted.machine.now.desc }
+    requires room { accepted.machine.now.desc.size ≤ H.room (H.fixed hw.old) }
     requires counts { CanCount (H.machinery hw.old).tally }
     requires can_run { CanRun (run_of accepted.machine.now images.now slice steps) }
     ensures have_run { IfOk result (λ ran. HaveRun (run_of accepted.entry.machine.now images.now slice steps) ran (H.machinery hw.new)) }
     ensures ran { OnOk result (RanGuests (run_of accepted.entry.machine.now images.now slice steps) (H.machinery hw.old) (H.machinery hw.new)) }
     ensures set_up { OnErr result (SetUp (run_of accepted.entry.machine.now images.now slice steps) (H.machinery hw.old) (H.machinery hw.new)) }
-    ensures served { SameServed (H.serves hw.old) (H.serves hw.new) }
+    ensures fixed { H.fixed hw.new ≡ H.fixed hw.old }
 {
     let mut monitor = match start(alloc, accepted, images, hw) {
         Ok(monitor) => monitor,

@@ -1,7 +1,7 @@
 //! The hardware, the monitor and its guests, before the first turn.
 
 ghost use Rattle.std.specs.Prelude.{◌≡◌, ◌≤◌, [], length, IfOk, OnOk, OnErr};
-ghost use Rattle.pg_hw.specs.Serving.{SameServed};
+ghost use Rattle.pg_hw.specs.Serving.{IsServed};
 ghost use Rattle.pg_alloc.specs.Fit.{kept_cells};
 ghost use Rattle.pg_monitor.specs.Monitors.{desc_of};
 ghost use Rattle.pg_guests.specs.Runs.{HaveRoom, SetUp, loaded_for, loaded_from, run_of};
@@ -20,14 +20,14 @@ pub(crate) fn start<'m, H: Hardware>(
     images: &[Image],
     hw: &mut H,
 ) -> Result<Monitor<'m>, AllocError>
-    requires served { H.serves hw.old accepted.machine.now.desc }
-    requires room { accepted.machine.now.desc.size ≤ (H.machinery hw.old).room }
+    requires served { IsServed (H.serves (H.fixed hw.old)) accepted.machine.now.desc }
+    requires room { accepted.machine.now.desc.size ≤ H.room (H.fixed hw.old) }
     requires fit { HaveRoom accepted.machine.now.desc images.now }
     ensures machine { IfOk result (λ m. m.accepted.machine.now ≡ accepted.entry.machine.now) }
     ensures begun { IfOk result (λ m. IsBegun images.now m (H.machinery hw.new)) }
     ensures made { OnOk result (H.machinery hw.new ≡ loaded_for accepted.entry.machine.now.desc images.now (H.machinery hw.old)) }
     ensures set_up { OnErr result (SetUp (run_of accepted.entry.machine.now images.now 1 0) (H.machinery hw.old) (H.machinery hw.new)) }
-    ensures served { SameServed (H.serves hw.old) (H.serves hw.new) }
+    ensures fixed { H.fixed hw.new ≡ H.fixed hw.old }
 {
     match hw.install(accepted.machine().shape().q) {
         Ok(()) => {}
@@ -49,14 +49,14 @@ fn load_all<H: Hardware>(
     images: &[Image],
     hw: &mut H,
 ) -> Result<(), AllocError>
-    requires served { H.serves hw.old (desc_of monitor.old) }
+    requires served { IsServed (H.serves (H.fixed hw.old)) (desc_of monitor.old) }
     requires begun { IsBegun [] monitor.old (H.machinery hw.old) }
     requires fit { HaveRoom (desc_of monitor.old) images.now }
     ensures begun { OnOk result (IsBegun images.now monitor.new (H.machinery hw.new)) }
     ensures made { OnOk result (H.machinery hw.new ≡ loaded_from kept_cells images.now (H.machinery hw.old)) }
     ensures refused { OnErr result (LoadedSome images.now (H.machinery hw.old) (H.machinery hw.new)) }
     ensures machine { monitor.new.accepted.machine.now ≡ monitor.old.accepted.machine.now }
-    ensures served { SameServed (H.serves hw.old) (H.serves hw.new) }
+    ensures fixed { H.fixed hw.new ≡ H.fixed hw.old }
 {
     for image in images {
         match monitor.load(hw, image) {

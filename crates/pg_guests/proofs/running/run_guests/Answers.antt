@@ -1,7 +1,6 @@
 use Rattle.std.proofs.Common.{◌∙◌, ap, arith}
 use Rattle.pg_machine.specs.declared.machine.Machine.{Machine}
 use Rattle.pg_hw.specs.declared.counts.Counts.{Counts}
-use Rattle.pg_hw.proofs.ServingLaws.{SameServed-then}
 use Rattle.pg_guests.proofs.RanLemmas.{run-states, run-stands, run-untrapped, run-left, set-up-same}
 use Rattle.pg_guests.proofs.running.run_guests.Goals as goal
 
@@ -87,5 +86,5 @@ returns-clause-have_run g c =
       direct = omega (arith, after, before, rose);
     }
 
-pub returns-clause-served : goal.returns-clause-served
-returns-clause-served g c = SameServed-then _ _ _ c.start.ensures.served c.run_sliced.ensures.served
+pub returns-clause-fixed : goal.returns-clause-fixed
+returns-clause-fixed g c = c.run_sliced.ensures.fixed ∙ c.start.ensures.fixed

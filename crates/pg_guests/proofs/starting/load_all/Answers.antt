@@ -1,6 +1,5 @@
 use Rattle.std.proofs.Common.{◌∙◌, ap}
 use Rattle.pg_machine.specs.declared.machine.Machine.{Machine}
-use Rattle.pg_hw.proofs.ServingLaws.{SameServed-then}
 use Rattle.pg_guests.proofs.BegunLemmas.{one-begun, one-made, one-fits}
 use Rattle.pg_guests.proofs.starting.load_all.Goals as goal
 
@@ -39,5 +38,5 @@ loop-image-preserved g c =
             admitted = c.in-Ok.ensures.admitted;
             stands = c.load.ensures.stands;
           });
-      served = SameServed-then _ _ _ before.served c.load.ensures.served;
+      fixed = c.load.ensures.fixed ∙ before.fixed;
     }

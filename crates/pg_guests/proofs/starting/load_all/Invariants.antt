@@ -1,5 +1,4 @@
 use Rattle.std.proofs.Common.{◌≡◌, take}
-use Rattle.pg_hw.specs.Serving.{SameServed}
 use Rattle.pg_alloc.specs.Fit.{kept_cells}
 use Rattle.pg_guests.specs.Runs.{loaded_from}
 use Rattle.pg_guests.specs.Begun.{IsBegun}
@@ -11,5 +10,5 @@ invariant-loop-image g l = record {
   machine : l.monitor.accepted.machine.now ≡ l.initial.monitor.accepted.machine.now;
   begun : IsBegun (take l.image-index l.images) l.monitor (g.H.Hardware.machinery l.hw);
   made : g.H.Hardware.machinery l.hw ≡ loaded_from kept_cells (take l.image-index l.images) (g.H.Hardware.machinery l.initial.hw);
-  served : SameServed (g.H.Hardware.serves l.initial.hw) (g.H.Hardware.serves l.hw);
+  fixed : g.H.Hardware.fixed l.hw ≡ g.H.Hardware.fixed l.initial.hw;
 }
