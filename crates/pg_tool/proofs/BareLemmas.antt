@@ -80,7 +80,6 @@ RanBare-of r old on new is ran can few small =
       pokes = ap (λ c. c.pokes) h.tally ∙ omega (arith, can.pokes, small);
       loads = ap (λ c. c.loads) h.tally ∙ omega (arith, can.loads);
       bottom = h.bottom;
-      room = h.room;
     }
 
 -- ---- the text

@@ -43,7 +43,6 @@ pub record RanBare (r : BareRun) (old new : Machinery) : Type 0 where
   pub pokes : new.tally.pokes ≡ old.tally.pokes + r.grant
   pub loads : new.tally.loads ≡ old.tally.loads + 1
   pub bottom : BottomRises r.desc r.steps (power_on r.image r.grant) old.bottom new.bottom
-  pub room : new.room ≡ old.room
 
 -- it ran, and its text is that of the state that it reached; no file was saved
 pub record BareEnds (r : BareRun) (old new : World) (given : Status) (text : List ℕ) : Type 0 where

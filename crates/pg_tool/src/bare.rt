@@ -8,7 +8,6 @@
 ghost use Rattle.std.specs.Prelude.{◌≡◌, ◌≤◌, OnOk, OnErr};
 ghost use Rattle.pg_ast.specs.declared.tree.Desc.{Desc};
 ghost use Rattle.pg_edge.specs.Sink.{Puts};
-ghost use Rattle.pg_hw.specs.Serving.{SameServed};
 ghost use Rattle.pg_image.specs.Lines.{state_text};
 ghost use Rattle.pg_tool.specs.Bare.{BareDue, RanBare, bare_command, reached};
 ghost use Rattle.pg_valid.specs.Valid.{IsValid};
@@ -39,8 +38,8 @@ pub(crate) fn carry_bare<F: Shelf, S: Sink, H: Hardware>(
     out: &mut S,
     hw: &mut H,
 ) -> Status
-    requires serves { (d : Desc) → IsValid d → H.serves hw.old d }
-    requires room { 1048575 ≤ (H.machinery hw.old).room }
+    requires serves { (d : Desc) → IsValid d → H.serves (H.fixed hw.old) d }
+    requires room { 1048575 ≤ H.room (H.fixed hw.old) }
     requires counts { CanCount (H.machinery hw.old).tally }
     ensures carries { Carries (bare_command words.now) (around (F.files shelf.old) (F.reads shelf.old) (F.saves shelf.old) (output (S.written out.old) (S.faults out.old)) (H.machinery hw.old))
         (around (F.files shelf.new) (F.reads shelf.new) (F.saves shelf.new) (output (S.written out.new) (S.faults out.new)) (H.machinery hw.new)) result }
@@ -48,7 +47,7 @@ pub(crate) fn carry_bare<F: Shelf, S: Sink, H: Hardware>(
     ensures reads { F.reads shelf.old ≤ F.reads shelf.new }
     ensures saves { F.saves shelf.new ≡ F.saves shelf.old }
     ensures faults { S.faults out.old ≤ S.faults out.new }
-    ensures served { SameServed (H.serves hw.old) (H.serves hw.new) }
+    ensures fixed { H.fixed hw.new ≡ H.fixed hw.old }
 {
     let plan = match prepare_bare(alloc, words, shelf) {
         Ok(plan) => plan,
@@ -90,12 +89,12 @@ fn prepare_bare<F: Shelf>(alloc: Global, words: &BareWords, shelf: &mut F) -> Re
 
 /// Runs a bare machine on the hardware. No memory is taken from its first step on.
 pub(crate) fn run_bare<H: Hardware>(plan: &BarePlan, hw: &mut H) -> Result<(), AllocError>
-    requires serves { (d : Desc) → IsValid d → H.serves hw.old d }
-    requires room { 1048575 ≤ (H.machinery hw.old).room }
+    requires serves { (d : Desc) → IsValid d → H.serves (H.fixed hw.old) d }
+    requires room { 1048575 ≤ H.room (H.fixed hw.old) }
     requires counts { CanCount (H.machinery hw.old).tally }
     ensures ran { OnOk result (RanBare (bare_run plan.now) (H.machinery hw.old) (H.machinery hw.new)) }
     ensures refused { OnErr result ((H.machinery hw.new) ≡ (H.machinery hw.old)) }
-    ensures served { SameServed (H.serves hw.old) (H.serves hw.new) }
+    ensures fixed { H.fixed hw.new ≡ H.fixed hw.old }
 {
     match hw.install(plan.grant) {
         Ok(()) => {}

@@ -13,7 +13,6 @@ ghost use Rattle.pg_edge.specs.Sink.{Puts};
 ghost use Rattle.pg_generate.specs.Generated.{IsGenerated};
 ghost use Rattle.pg_generate.specs.Images.{images_of};
 ghost use Rattle.pg_guests.specs.Runs.{SetUp};
-ghost use Rattle.pg_hw.specs.Serving.{SameServed};
 ghost use Rattle.pg_type.specs.Accepting.{IsAccepted};
 ghost use Rattle.pg_valid.specs.Valid.{IsValid};
 ghost use Rattle.pg_tool.specs.Check.{IsChecked};
@@ -58,8 +57,8 @@ pub(crate) fn carry_gen<F: Shelf, S: Sink, H: Hardware, W: Watcher>(
     hw: &mut H,
     watcher: &mut W,
 ) -> Status
-    requires serves { (d : Desc) → IsValid d → H.serves hw.old d }
-    requires room { 1048575 ≤ (H.machinery hw.old).room }
+    requires serves { (d : Desc) → IsValid d → H.serves (H.fixed hw.old) d }
+    requires room { 1048575 ≤ H.room (H.fixed hw.old) }
     requires counts { CanCount (H.machinery hw.old).tally }
     ensures carries { Carries (gen_command words.now) (around (F.files shelf.old) (F.reads shelf.old) (F.saves shelf.old) (output (S.written out.old) (S.faults out.old)) (H.machinery hw.old))
         (around (F.files shelf.new) (F.reads shelf.new) (F.saves shelf.new) (output (S.written out.new) (S.faults out.new)) (H.machinery hw.new)) result }
@@ -67,7 +66,7 @@ pub(crate) fn carry_gen<F: Shelf, S: Sink, H: Hardware, W: Watcher>(
     ensures reads { F.reads shelf.old ≤ F.reads shelf.new }
     ensures saves { F.saves shelf.old ≤ F.saves shelf.new }
     ensures faults { S.faults out.old ≤ S.faults out.new }
-    ensures served { SameServed (H.serves hw.old) (H.serves hw.new) }
+    ensures fixed { H.fixed hw.new ≡ H.fixed hw.old }
 {
     let plan = match prepare_gen(alloc, words, watcher) {
         Ok(plan) => plan,
@@ -120,14 +119,14 @@ fn run_plan<'m, H: Hardware>(
     hw: &mut H,
 ) -> Result<Option<Ran<'m>>, AllocError>
     requires accepts { verdict_of plan.now.report.family plan.now.report.marks ≡ Accepted → IsAccepted plan.now.machine.desc }
-    requires serves { (d : Desc) → IsValid d → H.serves hw.old d }
-    requires room { 1048575 ≤ (H.machinery hw.old).room }
+    requires serves { (d : Desc) → IsValid d → H.serves (H.fixed hw.old) d }
+    requires room { 1048575 ≤ H.room (H.fixed hw.old) }
     requires counts { CanCount (H.machinery hw.old).tally }
     ensures ran { OnOk result (RanBy (verdict_of plan.now.report.family plan.now.report.marks) (run_of_plan plan.now) (H.machinery hw.old) (H.machinery hw.new)) }
     ensures have_run { IfOk result (λ ran. HaveRunBy (verdict_of plan.now.report.family plan.now.report.marks) (run_of_plan plan.now) ran (H.machinery hw.new)) }
     ensures accepted { OnErr result (verdict_of plan.now.report.family plan.now.report.marks ≡ Accepted) }
     ensures set_up { OnErr result (SetUp (run_of_plan plan.now) (H.machinery hw.old) (H.machinery hw.new)) }
-    ensures served { SameServed (H.serves hw.old) (H.serves hw.new) }
+    ensures fixed { H.fixed hw.new ≡ H.fixed hw.old }
 {
     if !is_accepted(plan.report.verdict()) {
         return Ok(None);

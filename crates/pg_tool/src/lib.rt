@@ -22,7 +22,6 @@
 ghost use Rattle.std.specs.Prelude.{◌≡◌, ◌≤◌, Some, map, string_bytes};
 ghost use Rattle.pg_ast.specs.declared.tree.Desc.{Desc};
 ghost use Rattle.pg_edge.specs.Shelf.{Files};
-ghost use Rattle.pg_hw.specs.Serving.{SameServed};
 ghost use Rattle.pg_tool.specs.Asking.{command_for, command_of};
 ghost use Rattle.pg_valid.specs.Valid.{IsValid};
 ghost use Rattle.pg_tool.specs.Commands.{Carries, Exactly};
@@ -81,8 +80,8 @@ pub fn tool<F: Shelf, S: Sink, H: Hardware>(
     out: &mut S,
     hw: &mut H,
 ) -> Status
-    requires serves { (d : Desc) → IsValid d → H.serves hw.old d }
-    requires room { 1048575 ≤ (H.machinery hw.old).room }
+    requires serves { (d : Desc) → IsValid d → H.serves (H.fixed hw.old) d }
+    requires room { 1048575 ≤ H.room (H.fixed hw.old) }
     requires counts { CanCount (H.machinery hw.old).tally }
     // What is left of files, sink and hardware, by the status.
     ensures carries { Carries (command_for (map string_bytes words.now)) (around (F.files shelf.old) (F.reads shelf.old) (F.saves shelf.old) (output (S.written out.old) (S.faults out.old)) (H.machinery hw.old))
@@ -98,7 +97,7 @@ pub fn tool<F: Shelf, S: Sink, H: Hardware>(
     ensures reads { F.reads shelf.old ≤ F.reads shelf.new }
     ensures saves { F.saves shelf.old ≤ F.saves shelf.new }
     ensures faults { S.faults out.old ≤ S.faults out.new }
-    ensures served { SameServed (H.serves hw.old) (H.serves hw.new) }
+    ensures fixed { H.fixed hw.new ≡ H.fixed hw.old }
 {
     tool_watched(alloc, words, shelf, out, hw, &mut Silent)
 }
@@ -112,8 +111,8 @@ pub fn tool_watched<F: Shelf, S: Sink, H: Hardware, W: Watcher>(
     hw: &mut H,
     watcher: &mut W,
 ) -> Status
-    requires serves { (d : Desc) → IsValid d → H.serves hw.old d }
-    requires room { 1048575 ≤ (H.machinery hw.old).room }
+    requires serves { (d : Desc) → IsValid d → H.serves (H.fixed hw.old) d }
+    requires room { 1048575 ≤ H.room (H.fixed hw.old) }
     requires counts { CanCount (H.machinery hw.old).tally }
     // What is left of files, sink and hardware, by the status.
     ensures carries { Carries (command_for (map string_bytes words.now)) (around (F.files shelf.old) (F.reads shelf.old) (F.saves shelf.old) (output (S.written out.old) (S.faults out.old)) (H.machinery hw.old))
@@ -129,7 +128,7 @@ pub fn tool_watched<F: Shelf, S: Sink, H: Hardware, W: Watcher>(
     ensures reads { F.reads shelf.old ≤ F.reads shelf.new }
     ensures saves { F.saves shelf.old ≤ F.saves shelf.new }
     ensures faults { S.faults out.old ≤ S.faults out.new }
-    ensures served { SameServed (H.serves hw.old) (H.serves hw.new) }
+    ensures fixed { H.fixed hw.new ≡ H.fixed hw.old }
 {
     match request(alloc, words) {
         Ok(request) => carry(alloc, &request, shelf, out, hw, watcher),
@@ -146,8 +145,8 @@ fn carry<F: Shelf, S: Sink, H: Hardware, W: Watcher>(
     hw: &mut H,
     watcher: &mut W,
 ) -> Status
-    requires serves { (d : Desc) → IsValid d → H.serves hw.old d }
-    requires room { 1048575 ≤ (H.machinery hw.old).room }
+    requires serves { (d : Desc) → IsValid d → H.serves (H.fixed hw.old) d }
+    requires room { 1048575 ≤ H.room (H.fixed hw.old) }
     requires counts { CanCount (H.machinery hw.old).tally }
     ensures carries { Carries (command_of request.now) (around (F.files shelf.old) (F.reads shelf.old) (F.saves shelf.old) (output (S.written out.old) (S.faults out.old)) (H.machinery hw.old))
         (around (F.files shelf.new) (F.reads shelf.new) (F.saves shelf.new) (output (S.written out.new) (S.faults out.new)) (H.machinery hw.new)) result }
@@ -155,7 +154,7 @@ fn carry<F: Shelf, S: Sink, H: Hardware, W: Watcher>(
     ensures reads { F.reads shelf.old ≤ F.reads shelf.new }
     ensures saves { F.saves shelf.old ≤ F.saves shelf.new }
     ensures faults { S.faults out.old ≤ S.faults out.new }
-    ensures served { SameServed (H.serves hw.old) (H.serves hw.new) }
+    ensures fixed { H.fixed hw.new ≡ H.fixed hw.old }
 {
     match request {
         Request::Bare(words) => carry_bare(alloc, words, shelf, out, hw),

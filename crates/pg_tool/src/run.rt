@@ -10,7 +10,6 @@ ghost use Rattle.pg_alloc.specs.Fit.{kept_cells};
 ghost use Rattle.pg_ast.specs.declared.tree.Desc.{Desc};
 ghost use Rattle.pg_cert.specs.Verdicts.{verdict_of};
 ghost use Rattle.pg_cert.specs.declared.report.Verdict.TheVariants.{Accepted};
-ghost use Rattle.pg_hw.specs.Serving.{SameServed};
 ghost use Rattle.pg_type.specs.Accepting.{IsAccepted};
 ghost use Rattle.pg_word.specs.Shape.{IsShape};
 ghost use Rattle.pg_valid.specs.Valid.{IsValid};
@@ -48,8 +47,8 @@ pub(crate) fn carry_run<F: Shelf, S: Sink, H: Hardware>(
     out: &mut S,
     hw: &mut H,
 ) -> Status
-    requires serves { (d : Desc) → IsValid d → H.serves hw.old d }
-    requires room { 1048575 ≤ (H.machinery hw.old).room }
+    requires serves { (d : Desc) → IsValid d → H.serves (H.fixed hw.old) d }
+    requires room { 1048575 ≤ H.room (H.fixed hw.old) }
     requires counts { CanCount (H.machinery hw.old).tally }
     ensures carries { Carries (run_command words.now) (around (F.files shelf.old) (F.reads shelf.old) (F.saves shelf.old) (output (S.written out.old) (S.faults out.old)) (H.machinery hw.old))
         (around (F.files shelf.new) (F.reads shelf.new) (F.saves shelf.new) (output (S.written out.new) (S.faults out.new)) (H.machinery hw.new)) result }
@@ -57,7 +56,7 @@ pub(crate) fn carry_run<F: Shelf, S: Sink, H: Hardware>(
     ensures reads { F.reads shelf.old ≤ F.reads shelf.new }
     ensures saves { F.saves shelf.new ≡ F.saves shelf.old }
     ensures faults { S.faults out.old ≤ S.faults out.new }
-    ensures served { SameServed (H.serves hw.old) (H.serves hw.new) }
+    ensures fixed { H.fixed hw.new ≡ H.fixed hw.old }
 {
     let plan = match prepare_run(alloc, words, shelf) {
         Ok(plan) => plan,
