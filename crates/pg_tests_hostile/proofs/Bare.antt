@@ -20,10 +20,10 @@ blank-length n s e = ap (λ (t : State). length t.cells) e ∙ length-replicate 
 -- what a machine with room for eight cells is switched on with
 pub served-psw : (serves : Desc → Type 0) (d : Desc) → serves d → IsValid d → 8 ≤ d.size → IsServedPsw serves (power_on_psw 8)
 unfolding blank
-served-psw serves d h v within = let on : IsState d (blank 8) = blank-state d 8 v (lit≤ tt) within in IsServedPsw-of serves d (power_on_psw 8) h on.fields
+served-psw serves d h v within = let on : IsState d (blank 8) = blank-state d 8 v (lit≤ tt) within in IsServedPsw-of serves d (power_on_psw 8) ∣ h ∣₁ on.fields
 
 pub served-words : (serves : Desc → Type 0) (d : Desc) (image : List ℕ) → serves d → IsImage d image → All (IsServedWord serves) image
-served-words serves d image h is = All-weaker (λ word. word < 2 ^ d.word) (IsServedWord serves) (λ word fits. IsServedWord-of serves d word h fits) image is.words
+served-words serves d image h is = All-weaker (λ word. word < 2 ^ d.word) (IsServedWord serves) (λ word fits. IsServedWord-of serves d word ∣ h ∣₁ fits) image is.words
 
 -- and the state that it is switched on at
 pub first-state : (d : Desc) (image : List ℕ) → IsValid d → IsImage d image → IsState d (power_on image (length image))

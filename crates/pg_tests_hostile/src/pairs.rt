@@ -1,6 +1,7 @@
 //! Two guests side by side, on a hardware that is watched.
 
 ghost use Rattle.std.specs.Prelude.{◌≡◌, ◌≤◌, IfOk};
+ghost use Rattle.pg_hw.specs.Serving.{IsServed};
 ghost use Rattle.pg_monitor.specs.Monitors.{desc_of};
 ghost use Rattle.pg_monitor.specs.Standing.{Stands};
 ghost use Rattle.pg_tests_hostile.specs.Images.{IsImage};
@@ -35,10 +36,10 @@ fn taken<'m, H: Hardware>(
     accepted: Accepted<'m>,
     hw: &mut H,
 ) -> Result<Monitor<'m>, Fail>
-    requires served { H.serves hw.old accepted.machine.now.desc }
-    requires room { accepted.machine.now.desc.size ≤ (H.machinery hw.old).room }
+    requires served { IsServed (H.serves (H.fixed hw.old)) accepted.machine.now.desc }
+    requires room { accepted.machine.now.desc.size ≤ H.room (H.fixed hw.old) }
     ensures machine { IfOk result (λ m. m.accepted.machine.now ≡ accepted.entry.machine.now) }
-    ensures served { IfOk result (λ m. H.serves hw.new (desc_of m)) }
+    ensures served { IfOk result (λ m. IsServed (H.serves (H.fixed hw.new)) (desc_of m)) }
     ensures stands { IfOk result (λ m. Stands (desc_of m) (H.machinery hw.new).state m.guests m.current) }
 {
     hw.install(accepted.machine().shape().q)?;
@@ -48,10 +49,10 @@ fn taken<'m, H: Hardware>(
 /// Loads an image as one more guest.
 fn load<H: Hardware>(monitor: &mut Monitor<'_>, hw: &mut H, image: &Image) -> Result<(), Fail>
     requires image { IsImage (desc_of monitor.old) image.now }
-    requires served { H.serves hw.old (desc_of monitor.old) }
+    requires served { IsServed (H.serves (H.fixed hw.old)) (desc_of monitor.old) }
     requires stands { Stands (desc_of monitor.old) (H.machinery hw.old).state monitor.old.guests monitor.old.current }
     ensures machine { monitor.new.accepted.machine.now ≡ monitor.old.accepted.machine.now }
-    ensures served { H.serves hw.new (desc_of monitor.new) }
+    ensures served { IsServed (H.serves (H.fixed hw.new)) (desc_of monitor.new) }
     ensures stands { Stands (desc_of monitor.new) (H.machinery hw.new).state monitor.new.guests monitor.new.current }
 {
     monitor.load(hw, image)?;

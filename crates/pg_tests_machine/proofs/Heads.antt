@@ -19,10 +19,10 @@ abbrev head : Desc
 head = record { word = 32; address = 8; size = 64; causes = false; instrs = [] }
 
 pub served-word : (word : ℕ) → word < 2 ^ 32 → IsServedWord (λ d. d.instrs ≡ []) word
-served-word word fits = record { machine = head; served = refl; fits = fits }
+served-word word fits = record { machine = head; served = ∣ refl ∣₁; fits = fits }
 
 pub served-psw : (psw : Psw) → IsPsw 8 psw → IsServedPsw (λ d. d.instrs ≡ []) psw
-served-psw psw fits = record { machine = head; served = refl; fits = fits }
+served-psw psw fits = record { machine = head; served = ∣ refl ∣₁; fits = fits }
 
 pub blank-length : (n : ℕ) (s : State) → s ≡ blank n → length s.cells ≡ n
 unfolding blank

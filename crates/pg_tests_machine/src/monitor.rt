@@ -1,6 +1,7 @@
 //! A monitor over the smallest hardware, on which every step traps: how it takes guests, reaches them and gives them turns.
 
 ghost use Rattle.std.specs.Prelude.{◌≡◌, ◌+◌, ◌<◌, ◌≤◌, ◌^◌, [], length, IfOk};
+ghost use Rattle.pg_hw.specs.Serving.{IsServed};
 ghost use Rattle.pg_monitor.specs.Monitors.{desc_of};
 ghost use Rattle.pg_monitor.specs.Standing.{Stands};
 
@@ -207,12 +208,12 @@ fn taken<'m, H: Hardware>(
     accepted: Accepted<'m>,
     hw: &mut H,
 ) -> Result<Monitor<'m>, Fail>
-    requires served { H.serves hw.old accepted.machine.now.desc }
+    requires served { IsServed (H.serves (H.fixed hw.old)) accepted.machine.now.desc }
     requires size { accepted.machine.now.desc.size ≡ 64 }
-    requires room { 64 ≤ (H.machinery hw.old).room }
+    requires room { 64 ≤ H.room (H.fixed hw.old) }
     ensures guests { IfOk result (λ m. m.guests ≡ []) }
     ensures machine { IfOk result (λ m. m.accepted.machine.now ≡ accepted.entry.machine.now) }
-    ensures served { IfOk result (λ m. H.serves hw.new (desc_of m)) }
+    ensures served { IfOk result (λ m. IsServed (H.serves (H.fixed hw.new)) (desc_of m)) }
     ensures stands { IfOk result (λ m. Stands (desc_of m) (H.machinery hw.new).state m.guests m.current) }
 {
     hw.install(64)?;
@@ -227,11 +228,11 @@ fn load_cells<'m, H: Hardware>(
     word: u64,
 ) -> Result<(), Fail>
     requires word { word < 2 ^ (desc_of monitor.old).word }
-    requires served { H.serves hw.old (desc_of monitor.old) }
+    requires served { IsServed (H.serves (H.fixed hw.old)) (desc_of monitor.old) }
     requires stands { Stands (desc_of monitor.old) (H.machinery hw.old).state monitor.old.guests monitor.old.current }
     ensures guests { IfOk result (λ _. length monitor.new.guests ≡ length monitor.old.guests + 1) }
     ensures machine { monitor.new.accepted.machine.now ≡ monitor.old.accepted.machine.now }
-    ensures served { H.serves hw.new (desc_of monitor.new) }
+    ensures served { IsServed (H.serves (H.fixed hw.new)) (desc_of monitor.new) }
     ensures stands { Stands (desc_of monitor.new) (H.machinery hw.new).state monitor.new.guests monitor.new.current }
 {
     let image = Image::from_slice(alloc, &[word; 8])?;
@@ -245,13 +246,13 @@ fn of_two<'m, H: Hardware>(
     accepted: Accepted<'m>,
     hw: &mut H,
 ) -> Result<Monitor<'m>, Fail>
-    requires served { H.serves hw.old accepted.machine.now.desc }
+    requires served { IsServed (H.serves (H.fixed hw.old)) accepted.machine.now.desc }
     requires size { accepted.machine.now.desc.size ≡ 64 }
     requires word { accepted.machine.now.desc.word ≡ 32 }
-    requires room { 64 ≤ (H.machinery hw.old).room }
+    requires room { 64 ≤ H.room (H.fixed hw.old) }
     ensures guests { IfOk result (λ m. length m.guests ≡ 2) }
     ensures machine { IfOk result (λ m. m.accepted.machine.now ≡ accepted.entry.machine.now) }
-    ensures served { IfOk result (λ m. H.serves hw.new (desc_of m)) }
+    ensures served { IfOk result (λ m. IsServed (H.serves (H.fixed hw.new)) (desc_of m)) }
     ensures stands { IfOk result (λ m. Stands (desc_of m) (H.machinery hw.new).state m.guests m.current) }
 {
     let mut monitor = taken(alloc, accepted, hw)?;
