@@ -5,8 +5,8 @@
 //! stands. `close` and `otherwise` leave it where it was. `name` and `pattern` copy what they find into memory of its own,
 //! so that a tree keeps nothing of the tokens, and answer `Memory` where there is none; the other steps take no memory.
 
-ghost use Rattle.std.specs.Prelude.{◌≡◌, [], ◌∷◌, map, IsTrue, ◌↔◌, IfOk, MatchOption};
-ghost use Rattle.pg_ast.specs.Reading.{past_sign, past_word, past_close, past_else, name_of, pattern_of, op_of};
+ghost use Rattle.std.specs.Prelude.{◌≡◌, [], ◌∷◌, Some, map, IsTrue, ◌↔◌, IfOk, MatchOption};
+ghost use Rattle.pg_ast.specs.Reading.{then_read, past_sign, past_word, past_close, past_else, name_of, pattern_of, op_of};
 ghost use Rattle.pg_read.specs.Steps.{IsStepDue, IsPassed, alone, number_at, name_at, pattern_at, op_at};
 
 use crate::fault::Stop;
@@ -129,6 +129,14 @@ impl<'a> Cursor<'a> {
             }
             _ => Err(Stop::Unread),
         }
+    }
+
+    /// Passes over this sign, which closes what was read.
+    pub fn closed<T: Drop>(&mut self, read: T, sign: Sign) -> Result<T, Stop>
+        ensures { IsStepDue result (then_read (past_sign sign self.old alone) (λ _ rest. Some (read, rest))) self.new }
+    {
+        self.sign(sign)?;
+        Ok(read)
     }
 
     /// Passes over a number.

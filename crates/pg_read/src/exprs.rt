@@ -30,7 +30,6 @@ pub fn expr(alloc: Global, cursor: &mut Cursor<'_>, levels: u32) -> Result<Expr,
 }
 
 /// This sign, and an expression of at most so many levels.
-#[cycle(exprs)]
 pub fn expr_behind(
     alloc: Global,
     cursor: &mut Cursor<'_>,
@@ -41,6 +40,29 @@ pub fn expr_behind(
 {
     cursor.sign(sign)?;
     expr(alloc, cursor, levels)
+}
+
+/// An expression of at most so many levels, in memory of its own: a part of another one.
+#[cycle(exprs)]
+fn boxed(alloc: Global, cursor: &mut Cursor<'_>, levels: u32) -> Result<Boxed<Expr>, Stop>
+    ensures { IsStepDue result (read_expr levels cursor.old) cursor.new }
+{
+    let e = expr(alloc, cursor, levels)?;
+    Ok(Boxed::new(alloc, e)?)
+}
+
+/// This sign, and such a part.
+#[cycle(exprs)]
+fn boxed_behind(
+    alloc: Global,
+    cursor: &mut Cursor<'_>,
+    sign: Sign,
+    levels: u32,
+) -> Result<Boxed<Expr>, Stop>
+    ensures { IsStepDue result (past_sign sign cursor.old (read_expr levels)) cursor.new }
+{
+    cursor.sign(sign)?;
+    boxed(alloc, cursor, levels)
 }
 
 /// An expression, by its first token.
@@ -123,9 +145,8 @@ fn lit(cursor: &mut Cursor<'_>, value: u64) -> Result<Expr, Stop>
 fn load(alloc: Global, cursor: &mut Cursor<'_>, inner: u32) -> Result<Expr, Stop>
     ensures { IsStepDue result (load_at (read_expr inner) cursor.old) cursor.new }
 {
-    let e = expr_behind(alloc, cursor, Sign::OpenBracket, inner)?;
-    cursor.sign(Sign::CloseBracket)?;
-    Ok(Expr::Load(Boxed::new(alloc, e)?))
+    let e = boxed_behind(alloc, cursor, Sign::OpenBracket, inner)?;
+    cursor.closed(Expr::Load(e), Sign::CloseBracket)
 }
 
 /// The rest of `~e`.
@@ -134,8 +155,8 @@ fn load(alloc: Global, cursor: &mut Cursor<'_>, inner: u32) -> Result<Expr, Stop
 fn not(alloc: Global, cursor: &mut Cursor<'_>, inner: u32) -> Result<Expr, Stop>
     ensures { IsStepDue result (not_at (read_expr inner) cursor.old) cursor.new }
 {
-    let e = expr(alloc, cursor, inner)?;
-    Ok(Expr::Not(Boxed::new(alloc, e)?))
+    let e = boxed(alloc, cursor, inner)?;
+    Ok(Expr::Not(e))
 }
 
 /// The rest of `(x + y)`, and so on for each operator.
@@ -144,11 +165,10 @@ fn not(alloc: Global, cursor: &mut Cursor<'_>, inner: u32) -> Result<Expr, Stop>
 fn bin(alloc: Global, cursor: &mut Cursor<'_>, inner: u32) -> Result<Expr, Stop>
     ensures { IsStepDue result (bin_at (read_expr inner) cursor.old) cursor.new }
 {
-    let x = expr(alloc, cursor, inner)?;
+    let x = boxed(alloc, cursor, inner)?;
     let op = cursor.op()?;
-    let y = expr(alloc, cursor, inner)?;
-    cursor.sign(Sign::CloseParen)?;
-    Ok(Expr::Bin(op, Boxed::new(alloc, x)?, Boxed::new(alloc, y)?))
+    let y = boxed(alloc, cursor, inner)?;
+    cursor.closed(Expr::Bin(op, x, y), Sign::CloseParen)
 }
 
 /// The rest of `cat(x, y)`.
@@ -157,10 +177,9 @@ fn bin(alloc: Global, cursor: &mut Cursor<'_>, inner: u32) -> Result<Expr, Stop>
 fn cat(alloc: Global, cursor: &mut Cursor<'_>, inner: u32) -> Result<Expr, Stop>
     ensures { IsStepDue result (cat_at (read_expr inner) cursor.old) cursor.new }
 {
-    let x = expr_behind(alloc, cursor, Sign::OpenParen, inner)?;
-    let y = expr_behind(alloc, cursor, Sign::Comma, inner)?;
-    cursor.sign(Sign::CloseParen)?;
-    Ok(Expr::Cat(Boxed::new(alloc, x)?, Boxed::new(alloc, y)?))
+    let x = boxed_behind(alloc, cursor, Sign::OpenParen, inner)?;
+    let y = boxed_behind(alloc, cursor, Sign::Comma, inner)?;
+    cursor.closed(Expr::Cat(x, y), Sign::CloseParen)
 }
 
 /// The rest of `cut(e, h, k)`.
@@ -169,11 +188,10 @@ fn cat(alloc: Global, cursor: &mut Cursor<'_>, inner: u32) -> Result<Expr, Stop>
 fn cut(alloc: Global, cursor: &mut Cursor<'_>, inner: u32) -> Result<Expr, Stop>
     ensures { IsStepDue result (cut_at (read_expr inner) cursor.old) cursor.new }
 {
-    let e = expr_behind(alloc, cursor, Sign::OpenParen, inner)?;
+    let e = boxed_behind(alloc, cursor, Sign::OpenParen, inner)?;
     let high = cursor.number_behind(Sign::Comma)?;
     let low = cursor.number_behind(Sign::Comma)?;
-    cursor.sign(Sign::CloseParen)?;
-    Ok(Expr::Cut(Boxed::new(alloc, e)?, high, low))
+    cursor.closed(Expr::Cut(e, high, low), Sign::CloseParen)
 }
 
 /// The rest of `ext(e, n)`.
@@ -182,10 +200,9 @@ fn cut(alloc: Global, cursor: &mut Cursor<'_>, inner: u32) -> Result<Expr, Stop>
 fn ext(alloc: Global, cursor: &mut Cursor<'_>, inner: u32) -> Result<Expr, Stop>
     ensures { IsStepDue result (ext_at (read_expr inner) cursor.old) cursor.new }
 {
-    let e = expr_behind(alloc, cursor, Sign::OpenParen, inner)?;
+    let e = boxed_behind(alloc, cursor, Sign::OpenParen, inner)?;
     let width = cursor.number_behind(Sign::Comma)?;
-    cursor.sign(Sign::CloseParen)?;
-    Ok(Expr::Ext(Boxed::new(alloc, e)?, width))
+    cursor.closed(Expr::Ext(e, width), Sign::CloseParen)
 }
 
 /// The rest of `sext(e, n)`.
@@ -194,10 +211,9 @@ fn ext(alloc: Global, cursor: &mut Cursor<'_>, inner: u32) -> Result<Expr, Stop>
 fn sext(alloc: Global, cursor: &mut Cursor<'_>, inner: u32) -> Result<Expr, Stop>
     ensures { IsStepDue result (sext_at (read_expr inner) cursor.old) cursor.new }
 {
-    let e = expr_behind(alloc, cursor, Sign::OpenParen, inner)?;
+    let e = boxed_behind(alloc, cursor, Sign::OpenParen, inner)?;
     let width = cursor.number_behind(Sign::Comma)?;
-    cursor.sign(Sign::CloseParen)?;
-    Ok(Expr::Sext(Boxed::new(alloc, e)?, width))
+    cursor.closed(Expr::Sext(e, width), Sign::CloseParen)
 }
 
 /// The rest of `sel(c, x, y)`.
@@ -206,13 +222,8 @@ fn sext(alloc: Global, cursor: &mut Cursor<'_>, inner: u32) -> Result<Expr, Stop
 fn sel(alloc: Global, cursor: &mut Cursor<'_>, inner: u32) -> Result<Expr, Stop>
     ensures { IsStepDue result (sel_at (read_expr inner) cursor.old) cursor.new }
 {
-    let test = expr_behind(alloc, cursor, Sign::OpenParen, inner)?;
-    let chosen = expr_behind(alloc, cursor, Sign::Comma, inner)?;
-    let other = expr_behind(alloc, cursor, Sign::Comma, inner)?;
-    cursor.sign(Sign::CloseParen)?;
-    Ok(Expr::Sel(
-        Boxed::new(alloc, test)?,
-        Boxed::new(alloc, chosen)?,
-        Boxed::new(alloc, other)?,
-    ))
+    let test = boxed_behind(alloc, cursor, Sign::OpenParen, inner)?;
+    let chosen = boxed_behind(alloc, cursor, Sign::Comma, inner)?;
+    let other = boxed_behind(alloc, cursor, Sign::Comma, inner)?;
+    cursor.closed(Expr::Sel(test, chosen, other), Sign::CloseParen)
 }

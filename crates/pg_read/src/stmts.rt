@@ -28,8 +28,7 @@ fn value(alloc: Global, cursor: &mut Cursor<'_>) -> Result<Expr, Stop>
     ensures { IsStepDue result (value_at (read_expr most_expr_levels) cursor.old) cursor.new }
 {
     let e = expr_behind(alloc, cursor, Sign::Equals, EXPR_LEVELS)?;
-    cursor.sign(Sign::Semicolon)?;
-    Ok(e)
+    cursor.closed(e, Sign::Semicolon)
 }
 
 /// A let, behind its first word.
