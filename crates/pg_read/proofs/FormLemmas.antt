@@ -6,14 +6,14 @@ use Rattle.pg_token.specs.declared.tok.Sign.{Sign as Signs}
 use Rattle.pg_token.specs.declared.tok.Sign.TheVariants.{OpenParen, Tilde}
 use Rattle.pg_ast.specs.declared.tree.Expr.{Expr}
 use Rattle.pg_ast.specs.declared.tree.Stmt.{Stmt}
-use Rattle.pg_ast.specs.declared.tree.Stmt.TheVariants.{If}
+use Rattle.pg_ast.specs.declared.tree.Stmt.TheVariants.{Store, If}
 use Rattle.pg_ast.specs.Reading.{then_read, past_found, past_sign, past_word, past_op, past_name, past_number, sign_number, op_of, name_of, pattern_of, past_pattern, read_expr, read_level, read_keyword, read_sign, read_stmt_word, read_else}
 use Rattle.pg_ast.proofs.Found.{name_of-none}
 use Rattle.pg_read.specs.declared.words.ExprWord.{ExprWord}
 use Rattle.pg_read.specs.declared.words.StmtWord.{StmtWord}
 use Rattle.pg_read.specs.Steps.{number_at, name_at, pattern_at, op_at}
 use Rattle.pg_read.specs.Keywords.{expr_word, stmt_word}
-use Rattle.pg_read.specs.Forms.{lit_at, load_at, not_at, bin_at, cat_at, cut_at, ext_at, sext_at, sel_at, expr_word_at, value_at, let_at, store_at, assign_at, trap_at, else_found, if_at, stmt_word_at}
+use Rattle.pg_read.specs.Forms.{lit_at, load_at, not_at, bin_at, cat_at, cut_at, ext_at, sext_at, sel_at, expr_word_at, value_at, address_at, let_at, store_at, assign_at, trap_at, else_found, if_at, stmt_word_at}
 
 pub ruleset name_rules = (name_of-none)
 
@@ -120,6 +120,14 @@ pub then-then : {A B C : Type 0} (x : Option (A × List Tok)) (f : A → List To
     then_read (then_read x f) go ≡ then_read x (λ a us. then_read (f a us) go)
 then-then None f go = refl
 then-then (Some p) f go = refl
+
+-- a store is an address and what is assigned
+pub store-form : (r : List Tok → Option (Expr × List Tok)) (ts : List Tok) →
+    store_at r ts ≡ then_read (address_at r ts) (λ a us. then_read (value_at r us) (λ e rest. Some (Store a e, rest)))
+unfolding store_at address_at
+store-form r ts = simp then-then
+
+pub ruleset store_rules = (store-form)
 
 module _ (x : List Tok → Option (Expr × List Tok)) (b : List Tok → Option (List Stmt × List Tok)) where
   else-form : (c : Expr) (held : List Stmt) (ts : List Tok) (found : Option (List Tok)) →

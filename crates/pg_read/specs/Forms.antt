@@ -86,6 +86,11 @@ module _ (r : List Tok → Option (Expr × List Tok)) where
   unfoldable pub let_at : List Tok → Option (Stmt × List Tok)
   let_at ts = then_read (name_at ts) (λ n us. then_read (value_at us) (λ e rest. Some (Let n e, rest)))
 
+  -- an address in brackets
+  unfoldable pub address_at : List Tok → Option (Expr × List Tok)
+  address_at ts =
+      then_read (past_sign OpenBracket ts r) (λ a us. then_read (past_sign CloseBracket us alone) (λ _ rest. Some (a, rest)))
+
   unfoldable pub store_at : List Tok → Option (Stmt × List Tok)
   store_at ts =
       then_read (past_sign OpenBracket ts r) (λ a us. then_read (past_sign CloseBracket us alone) (λ _ vs.

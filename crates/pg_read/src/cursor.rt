@@ -131,7 +131,7 @@ impl<'a> Cursor<'a> {
         }
     }
 
-    /// Passes over this sign, which closes what was read.
+    /// Passes over this sign, which is to stand behind what was read, and gives that back.
     pub fn closed<T: Drop>(&mut self, read: T, sign: Sign) -> Result<T, Stop>
         ensures { IsStepDue result (then_read (past_sign sign self.old alone) (λ _ rest. Some (read, rest))) self.new }
     {

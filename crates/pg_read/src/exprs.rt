@@ -1,9 +1,10 @@
 //! Expressions.
 //!
-//! `stmts` calls `expr` and `expr_behind`. These are given how many levels an expression may have, `EXPR_LEVELS` at first,
-//! and read nothing where that is none, so they recurse no deeper. The others are given how many an expression inside may
-//! have: one less. Each form of the language has a function of its own, for what comes behind its first token, and a definition of
-//! that name (`cat`, and `cat_at` in `specs/Forms.antt`). An expression inside another takes memory for its box.
+//! `stmts` calls `expr` and `expr_behind`. These, and `boxed` and `boxed_behind`, are given how many levels an expression may
+//! have, `EXPR_LEVELS` at first, and read none where that is 0, so they recurse no deeper. The others are given how many an
+//! expression inside may have: one less. Each form of the language has a function of its own, for what comes behind its first token, and a definition of
+//! that name (`cat`, and `cat_at` in `specs/Forms.antt`). An expression inside another takes memory for its box, as soon as it
+//! is read (`boxed`).
 
 ghost use Rattle.pg_ast.specs.Reading.{read_expr, read_level, read_word, read_sign, past_sign, name_of};
 ghost use Rattle.pg_read.specs.Steps.{IsStepDue};

@@ -33,7 +33,7 @@ pub enum DescFault {
 }
 
 /// Why a part of a description was not read.
-#[derive(Clone, Copy, Debug, PartialEq, Eq)]
+#[derive(Clone, Copy)]
 pub enum Stop {
     /// The tokens that are left do not begin with that part.
     Unread,

@@ -19,7 +19,7 @@ use pg_token::{Sign, Tok, is_name, is_pattern};
 use std::alloc::AllocError;
 
 /// A form of expressions, by the first token.
-#[derive(Clone, Copy, Debug, PartialEq, Eq)]
+#[derive(Clone, Copy)]
 pub enum ExprForm {
     /// `v:w`
     Lit,

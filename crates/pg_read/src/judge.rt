@@ -24,7 +24,7 @@ use pg_token::{Sign, Tok};
 use std::alloc::{AllocError, Global};
 
 /// What became of a token.
-#[derive(Clone, Copy, Debug, PartialEq, Eq)]
+#[derive(Clone, Copy, PartialEq, Eq)]
 pub enum Step {
     /// It met the first goal.
     On,

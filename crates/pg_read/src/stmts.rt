@@ -10,7 +10,7 @@ ghost use Rattle.pg_ast.specs.Levels.{most_expr_levels};
 ghost use Rattle.pg_ast.specs.Reading.{read_expr, read_stmt, read_stmt_word, past_sign, past_else};
 ghost use Rattle.pg_token.specs.declared.tok.Sign.TheVariants.{OpenBrace};
 ghost use Rattle.pg_read.specs.Steps.{IsStepDue};
-ghost use Rattle.pg_read.specs.Forms.{value_at, let_at, store_at, trap_at, else_found, if_at, stmt_word_at};
+ghost use Rattle.pg_read.specs.Forms.{value_at, address_at, let_at, store_at, trap_at, else_found, if_at, stmt_word_at};
 ghost use Rattle.pg_read.specs.Blocks.{stmts_at, body_at};
 
 use crate::cursor::Cursor;
@@ -41,13 +41,21 @@ fn binding(alloc: Global, cursor: &mut Cursor<'_>) -> Result<Stmt, Stop>
     Ok(Stmt::Let(name, e))
 }
 
+/// The address of a store: an expression in brackets.
+#[tactic(auto, unfolding(crate::specs::Forms::address_at))]
+fn address(alloc: Global, cursor: &mut Cursor<'_>) -> Result<Expr, Stop>
+    ensures { IsStepDue result (address_at (read_expr most_expr_levels) cursor.old) cursor.new }
+{
+    let e = expr_behind(alloc, cursor, Sign::OpenBracket, EXPR_LEVELS)?;
+    cursor.closed(e, Sign::CloseBracket)
+}
+
 /// A store, behind its first word.
-#[tactic(auto, unfolding(crate::specs::Forms::store_at))]
+#[tactic(auto, using(crate::proofs::FormLemmas::store_rules))]
 fn store(alloc: Global, cursor: &mut Cursor<'_>) -> Result<Stmt, Stop>
     ensures { IsStepDue result (store_at (read_expr most_expr_levels) cursor.old) cursor.new }
 {
-    let address = expr_behind(alloc, cursor, Sign::OpenBracket, EXPR_LEVELS)?;
-    cursor.sign(Sign::CloseBracket)?;
+    let address = address(alloc, cursor)?;
     let e = value(alloc, cursor)?;
     Ok(Stmt::Store(address, e))
 }

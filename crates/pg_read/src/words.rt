@@ -9,7 +9,7 @@ ghost use Rattle.std.specs.Prelude.{◌≡◌, bytes_eq};
 ghost use Rattle.pg_read.specs.Keywords.{expr_word, stmt_word};
 
 /// A word that begins an expression and is no name.
-#[derive(Clone, Copy, Debug, PartialEq, Eq)]
+#[derive(Clone, Copy)]
 pub enum ExprWord {
     /// `pc`, alone.
     Pc,
@@ -34,7 +34,7 @@ pub enum ExprWord {
 }
 
 /// A word that begins a statement.
-#[derive(Clone, Copy, Debug, PartialEq, Eq)]
+#[derive(Clone, Copy)]
 pub enum StmtWord {
     /// `let`, with a name and what is assigned to it.
     Let,
@@ -55,7 +55,7 @@ pub enum StmtWord {
 }
 
 /// A word that stands at a fixed place of the head.
-#[derive(Clone, Copy, Debug, PartialEq, Eq)]
+#[derive(Clone, Copy)]
 pub enum HeadWord {
     /// `machine`, the first word of a description.
     Machine,
