@@ -39,10 +39,10 @@ use Rattle.pg_verify.specs.Verified.{IsValidOf, Spells}
 use Rattle.pg_verify.proofs.StepLemmas.{same_ok}
 use Rattle.pg_verify.proofs.SpellLemmas.{taken_texts_spell}
 use Rattle.pg_verify.proofs.TakeLemmas.{valid_texts_are_taken}
-use Rattle.pg_migrate.specs.Logs.{acts_of, AreLogsOf}
+use Rattle.pg_migrate.specs.Logs.{AreLogsOf}
 use Rattle.pg_migrate.specs.Made.{AreReady, AreMade}
 use Rattle.pg_migrate.specs.Migrated.{IsMigrated}
-use Rattle.pg_migrate.proofs.LogLemmas.{cert_logs, log_few}
+use Rattle.pg_migrate.proofs.LogLemmas.{acts_of, cert_logs, log_few}
 use Rattle.pg_migrate.proofs.RangeLemmas.{All-front, All-back}
 use Rattle.pg_migrate.proofs.MadeLemmas.{IsBecome, become, closed_log, there, from_start}
 

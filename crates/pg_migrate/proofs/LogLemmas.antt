@@ -24,7 +24,7 @@ use Rattle.pg_cert.specs.Lines.{line_text}
 use Rattle.pg_cert.specs.Reading.{but_last}
 use Rattle.pg_cert.specs.Texts.{row_lines, rows_before, state_lines, act_line, body_lines, finding_lines, findings_lines, cert_lines, lines_text, cert_text}
 use Rattle.pg_cert.proofs.Said.{text_ends}
-use Rattle.pg_migrate.specs.Logs.{acts_of, with_act, with_line, with_lines, logs_of}
+use Rattle.pg_migrate.specs.Logs.{with_act, with_line, with_lines, logs_of}
 
 -- ---- lines, one after another
 
@@ -77,6 +77,12 @@ rows_over (suc k) cells logs =
 
 state_over : (s : Sparse) (logs : List (List Act)) → with_lines logs (state_lines s) ≡ logs
 state_over s logs = rows_over (line_count s.size) (storage_of s.size s.cells) logs
+
+-- the log of a finding. Two states have none
+abbrev pub acts_of : Finding → List Act
+acts_of (finding.Refuted acts) = acts
+acts_of (finding.Shown s t) = []
+acts_of (finding.Spent k steps) = map act.Add steps
 
 body_added : (f : Finding) (logs : List (List Act)) → with_lines (logs ++ [] ∷ []) (body_lines f) ≡ logs ++ acts_of f ∷ []
 body_added (finding.Refuted acts) logs = acts_added acts logs []

@@ -31,9 +31,9 @@ use Rattle.pg_cert.specs.Validity.{may_remove, IsValidFinding}
 use Rattle.pg_cert.specs.InRange.{IsNumbered}
 use Rattle.pg_cert.proofs.InRange.{trimmed_may_stand}
 use Rattle.pg_verify.specs.Feeding.{most_bytes}
-use Rattle.pg_migrate.specs.Logs.{acts_of}
 use Rattle.pg_migrate.specs.Made.{steps_of, IsMade, IsMadeAt, AreReady, AreMadeFrom}
 use Rattle.pg_migrate.specs.Migrated.{Keeps}
+use Rattle.pg_migrate.proofs.LogLemmas.{acts_of}
 use Rattle.pg_migrate.proofs.RangeLemmas.{log_in_range}
 
 -- ---- numbers

@@ -1,22 +1,14 @@
 -- The logs that stand in the text of a certificate: below each header one, which has an act for each line of a step or a removal.
-use Rattle.std.specs.Prelude.{◌≡◌, ℕ, List, [], ◌∷◌, ◌++◌, map}
+use Rattle.std.specs.Prelude.{◌≡◌, ℕ, List, [], ◌∷◌, ◌++◌}
 use Rattle.std.specs.List.{All}
 use Rattle.pg_word.specs.declared.shape.Shape.{Shape}
 use Rattle.pg_proof.specs.declared.step.Act.{Act}
 use Rattle.pg_proof.specs.declared.step.Act.TheVariants as act
-use Rattle.pg_cert.specs.declared.cert.Finding.{Finding}
-use Rattle.pg_cert.specs.declared.cert.Finding.TheVariants as finding
 use Rattle.pg_cert.specs.declared.line.Line.{Line}
 use Rattle.pg_cert.specs.declared.line.Line.TheVariants.{First, Header, Step, Remove, Size, Psw, Cells, End}
 use Rattle.pg_cert.specs.Lines.{IsLine}
 use Rattle.pg_cert.specs.Parsing.{Said, Says, NoToken, NoForm, OtherVersion}
 use Rattle.pg_cert.specs.Texts.{lines_text}
-
--- the log of a finding. Two states have none
-abbrev pub acts_of : Finding → List Act
-acts_of (finding.Refuted acts) = acts
-acts_of (finding.Shown s t) = []
-acts_of (finding.Spent k steps) = map act.Add steps
 
 -- an act more of the log that was begun last, if there is one
 abbrev pub with_act : List (List Act) → Act → List (List Act)

@@ -11,7 +11,7 @@ use pg_cnf::Cnf;
 use pg_watch::Watches;
 use std::alloc::{AllocError, Global};
 
-/// What a search took. Nothing is said of it in contracts.
+/// What a search took. Nothing is said of it in contracts, and nothing rests on it.
 #[derive(Clone, Copy)]
 pub struct Counts {
     /// How many clauses were learned, the empty one with them.
@@ -38,7 +38,8 @@ pub fn solve(alloc: Global, cnf: &Cnf, budget: u32) -> Result<Answer, AllocError
     }
 }
 
-/// The same as `solve`, and what the search took.
+/// The same as `solve`, and what the search took. The counts are for measurements: nothing is said of them, and nothing rests on
+/// them.
 pub fn solve_counted(alloc: Global, cnf: &Cnf, budget: u32) -> Result<(Answer, Counts), AllocError>
     requires { budget < 2 ^ 31 }
     ensures { IfOk result (λ told. IsAnswer cnf.now.clauses cnf.now.variables budget told.0) }
