@@ -1,7 +1,7 @@
 -- Runs of guests: images that run side by side under one monitor, and what is left of them.
 use Rattle.std.specs.Prelude.{◌≡◌, ℕ, ◌+◌, ◌-◌, ◌*◌, ◌<◌, ◌≤◌, ◌^◌, List, [], ◌∷◌, All, length, map, take, slice_get, slice_index, None, Some}
 use Rattle.pg_ast.specs.declared.tree.Desc.{Desc}
-use Rattle.pg_word.specs.Psw.{packed, power_on_psw}
+use Rattle.pg_word.specs.Psw.{new_psw_cell, old_psw_cell, packed, power_on_psw}
 use Rattle.pg_machine.specs.declared.machine.Machine.{Machine}
 use Rattle.pg_meaning.specs.States.{State}
 use Rattle.pg_meaning.specs.Steps.{power_on, bare}
@@ -111,7 +111,7 @@ installed_for d h = record h { state = blank d.size }
 
 -- the same, of which a monitor took the storage: cell 1 has the control program's PSW
 abbrev pub taken_for : Desc → Machinery → Machinery
-taken_for d h = poked_at 1 (packed d.address (power_on_psw d.size)) (installed_for d h)
+taken_for d h = poked_at new_psw_cell (packed d.address (power_on_psw d.size)) (installed_for d h)
 
 -- images poked into the cells from a base on, one behind the other
 abbrev pub loaded_from : ℕ → List (List ℕ) → Machinery → Machinery
@@ -140,10 +140,10 @@ granted gs cells = map (λ g. span g.base g.size cells) gs
 -- turns leave there
 pub record RanGuests (r : GuestRun) (old new : Machinery) : Type 0 where
   pub size : length new.state.cells ≡ r.desc.size
-  pub control : slice_get new.state.cells 1 ≡ Some (packed r.desc.address (power_on_psw r.desc.size))
+  pub control : slice_get new.state.cells new_psw_cell ≡ Some (packed r.desc.address (power_on_psw r.desc.size))
   pub grants : granted (guests_of r) new.state.cells ≡ map (λ s. s.cells) (reached_by r)
   -- cell 0 holds the word of the last trap, or 0 where none was, and no other cell outside the grants was set
-  pub cell_0 : slice_index new.state.cells 0 ≡ cell_behind r.desc (guests_of r) (plan_of r) (first_states r) 0
+  pub cell_0 : slice_index new.state.cells old_psw_cell ≡ cell_behind r.desc (guests_of r) (plan_of r) (first_states r) 0
   pub outside : (at : ℕ) → kept_cells ≤ at → at < r.desc.size → IsOutside (guests_of r) at → slice_get new.state.cells at ≡ Some 0
   -- the program status word is the one composed for the guest that had the last turn, or else that of switching on
   pub psw : new.state.psw ≡ psw_behind r.desc (guests_of r) (plan_of r) (first_states r) (power_on_psw r.desc.size)

@@ -1,7 +1,7 @@
 -- The current guest: the one that the hardware runs.
 use Rattle.std.specs.Prelude.{◌≡◌, ℕ, Bool, false, length, Option, None, Some, ◌==◌, slice_get}
 use Rattle.pg_word.specs.declared.psw.Psw.{Psw}
-use Rattle.pg_word.specs.Psw.{packed, power_on_psw}
+use Rattle.pg_word.specs.Psw.{new_psw_cell, packed, power_on_psw}
 use Rattle.pg_ast.specs.declared.tree.Desc.{Desc}
 use Rattle.pg_meaning.specs.States.{State, IsState}
 use Rattle.pg_meaning.specs.Steps.{step, steps}
@@ -18,7 +18,7 @@ use Rattle.pg_monitor.specs.Turns.{storage_after, CountsTurns, BottomTurns}
 pub record Holds (d : Desc) (real : State) (g : Guest) : Type 0 where
   pub size : length real.cells ≡ d.size
   pub grant : IsGrant d.size g
-  pub control : slice_get real.cells 1 ≡ Some (packed d.address (power_on_psw d.size))
+  pub control : slice_get real.cells new_psw_cell ≡ Some (packed d.address (power_on_psw d.size))
   pub real_state : IsState d real
   pub virtual_state : IsState d (virtual real.cells g)
 

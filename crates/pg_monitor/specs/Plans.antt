@@ -1,6 +1,7 @@
 -- Turns by a plan: which guest is to have how many turns, in order.
 use Rattle.std.specs.Prelude.{◌≡◌, ℕ, ◌+◌, ◌<◌, ◌≤◌, ◌⊎◌, ◌==◌, if◌then◌else◌, List, [], ◌∷◌, All, Option, None, Some, slice_get, slice_index}
 use Rattle.pg_word.specs.declared.psw.Psw.{Psw}
+use Rattle.pg_word.specs.Psw.{old_psw_cell}
 use Rattle.pg_ast.specs.declared.tree.Desc.{Desc}
 use Rattle.pg_meaning.specs.States.{State}
 use Rattle.pg_hw.specs.Machinery.{Machinery}
@@ -81,7 +82,7 @@ pub record Followed (d : Desc) (plan : List (ℕ × ℕ)) (old new : Machinery) 
   pub current : new_current ≡ current_of plan old_current
   -- no cell outside the grants and cell 0 changes
   pub outside : (at : ℕ) → 1 ≤ at → IsOutside old_guests at → slice_get new.state.cells at ≡ slice_get old.state.cells at
-  pub cell_0 : slice_index new.state.cells 0 ≡ cell_behind d old_guests plan (virtuals old.state.cells old_guests) (slice_index old.state.cells 0)
+  pub cell_0 : slice_index new.state.cells old_psw_cell ≡ cell_behind d old_guests plan (virtuals old.state.cells old_guests) (slice_index old.state.cells old_psw_cell)
   pub psw : new.state.psw ≡ psw_behind d old_guests plan (virtuals old.state.cells old_guests) old.state.psw
   pub tally : CountsTurns (turns_of plan) (direct_of d old_guests plan (virtuals old.state.cells old_guests)) (changes_of plan old_current) old.tally new.tally
   pub bottom : BottomTurns (turns_of plan) (direct_of d old_guests plan (virtuals old.state.cells old_guests)) old.bottom new.bottom

@@ -1,6 +1,6 @@
 -- What a hardware under a monitor stands for.
 use Rattle.std.specs.Prelude.{◌≡◌, ℕ, List, length, All, Option, None, Some, IsSomeAnd, slice_get}
-use Rattle.pg_word.specs.Psw.{packed, power_on_psw}
+use Rattle.pg_word.specs.Psw.{new_psw_cell, packed, power_on_psw}
 use Rattle.pg_ast.specs.declared.tree.Desc.{Desc}
 use Rattle.pg_meaning.specs.States.{State, IsState}
 use Rattle.pg_routine.specs.Composing.{composed}
@@ -19,7 +19,7 @@ pub record StandsFor (d : Desc) (real : State) (gs : List Guest) (current : Opti
   pub grants : All (IsGrant d.size) gs
   pub disjoint : AreDisjoint gs
   pub guests : virtuals real.cells gs ≡ states
-  pub control : slice_get real.cells 1 ≡ Some (packed d.address (power_on_psw d.size))
+  pub control : slice_get real.cells new_psw_cell ≡ Some (packed d.address (power_on_psw d.size))
   pub under : IsUnder real gs current
 
 -- they stand for the states that the guests believe in, and all of these, and the hardware's own, are states of the machine

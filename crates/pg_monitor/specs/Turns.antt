@@ -1,7 +1,7 @@
 -- Turns of guests: what they leave of the states, the storage and the counts.
 use Rattle.std.specs.Prelude.{◌≡◌, ℕ, zero, suc, ◌+◌, ◌-◌, ◌*◌, ◌==◌, if◌then◌else◌, List, [], ◌∷◌, length, map, Option, None, Some, slice_get, slice_set, slice_index}
 use Rattle.pg_word.specs.declared.psw.Psw.{Psw}
-use Rattle.pg_word.specs.Psw.{packed_trap}
+use Rattle.pg_word.specs.Psw.{old_psw_cell, packed_trap}
 use Rattle.pg_ast.specs.declared.tree.Desc.{Desc}
 use Rattle.pg_meaning.specs.States.{State, shape_of}
 use Rattle.pg_meaning.specs.Steps.{Ending, ByMemTrap, ByTrap, ByNoPattern, Done, memory_cause, trap_cause, no_pattern_cause, steps}
@@ -39,7 +39,7 @@ trap_cell d base (suc n) s held =
 
 -- the storage after n turns of a guest from a state: its grant, and cell 0; no other cell changes
 abbrev pub storage_after : Desc → ℕ → ℕ → State → List ℕ → List ℕ
-storage_after d base n s cells = slice_set (with_grant cells base (steps d n s).cells) 0 (trap_cell d base n s (slice_index cells 0))
+storage_after d base n s cells = slice_set (with_grant cells base (steps d n s).cells) old_psw_cell (trap_cell d base n s (slice_index cells old_psw_cell))
 
 -- the PSW of the hardware after n turns of a guest from a state: composed of the guest's own; before its first turn, what it was
 abbrev pub psw_after : Desc → Guest → ℕ → State → Psw → Psw

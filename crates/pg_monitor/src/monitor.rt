@@ -1,7 +1,7 @@
 //! The monitor: what it keeps, and how it takes a storage.
 
 ghost use Rattle.std.specs.Prelude.{◌≡◌, ℕ, ◌+◌, ◌<◌, ◌≤◌, [], length, None, Some, OnOk, OnErr, IfOk, slice_get};
-ghost use Rattle.pg_word.specs.Psw.{packed, power_on_psw};
+ghost use Rattle.pg_word.specs.Psw.{new_psw_cell, packed, power_on_psw};
 ghost use Rattle.pg_meaning.specs.States.{State, IsState};
 ghost use Rattle.pg_hw.specs.Machinery.{poked_at};
 ghost use Rattle.pg_hw.specs.Serving.{IsServed};
@@ -16,7 +16,7 @@ use pg_hw::Hardware;
 use pg_interp::Frame;
 use pg_machine::Machine;
 use pg_type::Accepted;
-use pg_word::{Psw, pack};
+use pg_word::{NEW_PSW_CELL, Psw, pack};
 use sqlite_items::Items;
 use std::alloc::{AllocError, Global};
 
@@ -51,7 +51,7 @@ impl<'m> Monitor<'m> {
         ensures current { IfOk result (λ m. m.current ≡ None) }
         ensures stands { OnOk result (Stands accepted.entry.machine.now.desc (H.machinery hw.new).state [] None) }
         ensures taken { let d = accepted.entry.machine.now.desc in
-            OnOk result (H.machinery hw.new ≡ poked_at 1 (packed d.address (power_on_psw d.size)) (H.machinery hw.old)) }
+            OnOk result (H.machinery hw.new ≡ poked_at new_psw_cell (packed d.address (power_on_psw d.size)) (H.machinery hw.old)) }
         ensures refused { OnErr result (H.machinery hw.new ≡ H.machinery hw.old) }
         ensures fixed { H.fixed hw.new ≡ H.fixed hw.old }
 
@@ -106,10 +106,10 @@ pub(crate) fn take_storage<H: Hardware>(m: &Machine, hw: &mut H)
     requires size { length (H.machinery hw.old).state.cells ≡ m.now.desc.size }
     requires state { IsState m.now.desc (H.machinery hw.old).state }
     ensures stands { Stands m.now.desc (H.machinery hw.new).state [] None }
-    ensures taken { H.machinery hw.new ≡ poked_at 1 (packed m.now.desc.address (power_on_psw m.now.desc.size)) (H.machinery hw.old) }
+    ensures taken { H.machinery hw.new ≡ poked_at new_psw_cell (packed m.now.desc.address (power_on_psw m.now.desc.size)) (H.machinery hw.old) }
     ensures fixed { H.fixed hw.new ≡ H.fixed hw.old }
 {
     let shape = m.shape();
     let word = pack(shape, Psw::power_on(shape.q));
-    hw.poke(1, word);
+    hw.poke(NEW_PSW_CELL, word);
 }

@@ -1,7 +1,7 @@
 //! A monitor whose memory was taken before there is a hardware for it.
 
 ghost use Rattle.std.specs.Prelude.{◌≡◌, ◌+◌, ◌<◌, ◌≤◌, ◌∷◌, [], replicate, IfOk, IfErr};
-ghost use Rattle.pg_word.specs.Psw.{packed, power_on_psw};
+ghost use Rattle.pg_word.specs.Psw.{new_psw_cell, packed, power_on_psw};
 ghost use Rattle.pg_meaning.specs.Steps.{power_on};
 ghost use Rattle.pg_hw.specs.Machinery.{poked_at};
 ghost use Rattle.pg_hw.specs.Serving.{IsServed, blank};
@@ -69,7 +69,7 @@ impl<'m> Prepared<'m> {
         ensures stands { Stands (desc_of self.entry.monitor) (H.machinery hw.new).state result.guests result.current }
         ensures states { virtuals (H.machinery hw.new).state.cells result.guests ≡ power_on (replicate self.entry.size 0) self.entry.size ∷ [] }
         ensures taken { let d = desc_of self.entry.monitor in
-            H.machinery hw.new ≡ poked_at 1 (packed d.address (power_on_psw d.size)) (H.machinery hw.old) }
+            H.machinery hw.new ≡ poked_at new_psw_cell (packed d.address (power_on_psw d.size)) (H.machinery hw.old) }
         ensures fixed { H.fixed hw.new ≡ H.fixed hw.old }
     {
         let Prepared { monitor, .. } = self;

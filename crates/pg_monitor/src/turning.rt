@@ -23,7 +23,7 @@ use pg_hw::Hardware;
 use pg_interp::Frame;
 use pg_machine::Machine;
 use pg_routine::{compose, emulate_told};
-use pg_word::{Mode, unpack};
+use pg_word::{Mode, OLD_PSW_CELL, unpack};
 
 /// Enters a guest: loads the program status word that is composed of its virtual one.
 pub(crate) fn enter<H: Hardware>(hw: &mut H, guest: Guest)
@@ -99,7 +99,7 @@ fn turn_on<H: Hardware>(
     match psw.mode {
         Mode::U => guest.psw.p = psw.p,
         Mode::S => {
-            guest.psw.p = unpack(m.shape(), hw.peek(0)).p;
+            guest.psw.p = unpack(m.shape(), hw.peek(OLD_PSW_CELL)).p;
             interpret(m, hw, guest, frame);
         }
     }

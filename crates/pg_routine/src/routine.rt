@@ -13,7 +13,7 @@ use crate::window::{Span, Window, span_of};
 use pg_hw::Hardware;
 use pg_interp::{Ended, Frame, Write, step_in};
 use pg_machine::Machine;
-use pg_word::{Cause, Psw, pack_trap, unpack};
+use pg_word::{Cause, NEW_PSW_CELL, OLD_PSW_CELL, Psw, pack_trap, unpack};
 
 /// One step of a guest's machine.
 ///
@@ -103,8 +103,8 @@ fn trap<H: Hardware>(
     ensures fixed { H.fixed hw.new ≡ H.fixed hw.old }
 {
     let shape = m.shape();
-    let loaded = unpack(shape, hw.peek(base + 1));
-    hw.poke(base, pack_trap(shape, *psw, cause.number()));
+    let loaded = unpack(shape, hw.peek(base + NEW_PSW_CELL));
+    hw.poke(base + OLD_PSW_CELL, pack_trap(shape, *psw, cause.number()));
     *psw = loaded;
     true
 }

@@ -9,15 +9,13 @@ use Rattle.pg_routine.proofs.routine.trap.Goals as goal
 pub returns-clause-grant : goal.returns-clause-grant
 returns-clause-grant g c =
     let old = (g.H.Hardware.machinery c.args.hw.now).state in
-    let e : c.args.base + 0 ≡ c.args.base = omega arith in
     let some = guest-length old.cells c.args.base c.args.size c.requires.within in
     let w = packed_trap (shape_of c.args.m.now.desc) c.args.psw.now (cause_number c.args.cause) in
     record {
       state = ap (λ (h : Machinery). h.state) c.poke.ensures.poked
-          ∙ ap (λ k. let t : State = record old { cells = slice_set old.cells c.args.base k } in t)
+          ∙ ap (λ k. let t : State = record old { cells = slice_set old.cells (c.args.base + 0) k } in t)
           (c.pack_trap.ensures.word ∙ ap (λ s. packed_trap s c.args.psw.now c.number.result) c.shape-shape.ensures.numbers
           ∙ ap (packed_trap (shape_of c.args.m.now.desc) c.args.psw.now) c.number.ensures.number)
-          ∙ ap (λ k. let t : State = record old { cells = slice_set old.cells k w } in t) (sym e)
           ∙ ap (λ cs. let t : State = record old { cells = cs } in t)
           (sym (guest-set old.cells c.args.base c.args.size 0 w c.requires.within (omega (arith, some, c.requires.guest.size_least))));
       tally = PokedWithin-one 8 _ _ (omega arith) (ap (λ (h : Machinery). h.tally) c.poke.ensures.poked);
