@@ -36,7 +36,7 @@ use Rattle.pg_word.specs.Sparse.{IsCellList}
 use Rattle.pg_cert.proofs.Fits.{shown_fit}
 use Rattle.pg_cert.specs.Texts.{instr_of, kind_of, cert_text, AreListed}
 use Rattle.pg_cert.specs.Validity.{IsValidFinding, IsValidCert}
-use Rattle.pg_drawn.specs.Drawn.{drawn_of}
+use Rattle.pg_drawn.specs.Drawn.{Drawn, drawn_of}
 use Rattle.pg_verify.specs.Reader.{Progress, Mark as KeptMark}
 use Rattle.pg_verify.specs.Reader as reader
 use Rattle.pg_verify.specs.Feeding.{verified, kept, IsReportOf}
@@ -513,7 +513,7 @@ drawn_listed (finding.Refuted acts) s t e h = absurd (cc)
 drawn_listed (finding.Shown x y) s t e h =
     let first : drawn_of x ≡ drawn_of s = cc in
     let second : drawn_of y ≡ drawn_of t = cc in
-    (subst IsCellList (ap (λ (z : reader.Drawn). z.cells) first) h.0, subst IsCellList (ap (λ (z : reader.Drawn). z.cells) second) h.1)
+    (subst IsCellList (ap (λ (z : Drawn). z.cells) first) h.0, subst IsCellList (ap (λ (z : Drawn). z.cells) second) h.1)
 drawn_listed (finding.Spent k steps) s t e h = absurd (cc)
 
 module _ (d : Desc) (family : Family) (bytes : List ℕ) (p : Progress) (report : Report) (valid : IsValid d)

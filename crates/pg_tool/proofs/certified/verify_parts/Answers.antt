@@ -78,7 +78,7 @@ returns-in-Ok-finish-clause-comes g c =
     let counted : vec_len c.in-Ok.part ≡ length part = search rules in
     let empty : part ≡ [] = no_bytes part (sym counted ∙ eqb-true (vec_len c.in-Ok.part) 0 (sym c.is_empty.ensures ∙ c.if-is_empty.true)) in
     ok_came d told c.args.name.now c.parts.at c.parts.verifier c.in-Ok-finish.report 0 0 c.parts.invariant.some c.parts.invariant.fed
-    (subst (λ bs. HoldsPart told c.args.name.now c.parts.at bs) empty held) c.in-Ok-finish.ensures
+    (subst (λ bs. HoldsPart told c.args.name.now c.parts.at bs) empty held) c.in-Ok-finish.ensures.due
 
 pub returns-in-Err-finish-clause-comes : goal.returns-in-Err-finish-clause-comes
 returns-in-Err-finish-clause-comes g c =
@@ -89,4 +89,4 @@ returns-in-Err-finish-clause-comes g c =
     let counted : vec_len c.in-Ok.part ≡ length part = search rules in
     let empty : part ≡ [] = no_bytes part (sym counted ∙ eqb-true (vec_len c.in-Ok.part) 0 (sym c.is_empty.ensures ∙ c.if-is_empty.true)) in
     ok_stops d told c.args.name.now c.parts.at c.parts.verifier c.in-Err-finish.fault c.stop_of_text-in-Err-finish.result _ _ c.parts.invariant.some c.parts.invariant.fed
-    (subst (λ bs. HoldsPart told c.args.name.now c.parts.at bs) empty held) c.in-Err-finish.ensures c.stop_of_text-in-Err-finish.ensures
+    (subst (λ bs. HoldsPart told c.args.name.now c.parts.at bs) empty held) c.in-Err-finish.ensures.due c.stop_of_text-in-Err-finish.ensures
