@@ -1,5 +1,5 @@
 -- What several puts one after another do: the same as one put of all their pieces.
-use Rattle.std.proofs.Common.{◌≡◌, ℕ, ◌+◌, ◌≤◌, min, List, [], ◌++◌, length, take, Option, Some, None, Result, Ok, Err, sym, ◌∙◌, ap, arith}
+use Rattle.std.proofs.Common.{◌≡◌, ℕ, ◌+◌, ◌≤◌, min, List, [], ◌++◌, length, take, Option, Some, None, Result, Ok, Err, refl, sym, ◌∙◌, ap, arith}
 use Rattle.std.proofs.lemmas.List.{append-nil, append_assoc, take-append-le, take_min}
 use Rattle.std.proofs.Math.Seq.{take-append-add}
 use Rattle.pg_edge.proofs.CountLaws.{Rose-earlier}
@@ -42,7 +42,7 @@ AddsFront-longer (Some was) (Some now) piece rest a =
 
 -- nothing put is the empty piece put
 pub Puts-none : {T E : Type 0} (told : Option (List ℕ)) (faults : ℕ) (done : T) → Puts {E = E} told told faults faults [] (Ok done)
-Puts-none told faults done = record { whole = Adds-nil told; front = tt; later = omega arith; cause = tt }
+Puts-none told faults done = record { whole = Adds-nil told; front = tt; later = omega arith; quiet = refl; cause = tt }
 
 -- after a put that went through comes another, which may fail
 pub Puts-then : {T U D E : Type 0} (was mid now : Option (List ℕ)) (before between after : ℕ) (first next : List ℕ) (done : T) (result : Result U E) → Puts {E = D} was mid before between first (Ok done) → Puts mid now between after next result → Puts was now before after (first ++ next) result
@@ -50,12 +50,14 @@ Puts-then was mid now before between after first next done (Ok x) a b = record {
   whole = Adds-append was mid now first next a.whole b.whole;
   front = tt;
   later = omega arith;
+  quiet = b.quiet ∙ a.quiet;
   cause = tt;
 }
 Puts-then was mid now before between after first next done (Err e) a b = record {
   whole = tt;
   front = AddsFront-append was mid now first next a.whole b.front;
   later = omega arith;
+  quiet = tt;
   cause = Rose-earlier before between after a.later b.cause;
 }
 
@@ -65,5 +67,6 @@ Puts-stopped was now before after piece rest fault error a = record {
   whole = tt;
   front = AddsFront-longer was now piece rest a.front;
   later = a.later;
+  quiet = tt;
   cause = a.cause;
 }

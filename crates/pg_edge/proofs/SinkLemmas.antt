@@ -20,5 +20,6 @@ Puts-failed was now room failing piece before after fault left counted fits = re
   front = let P : List ℕ → Type 0 = λ bytes. AddsFront piece was bytes in
       subst P (sym left) (AddsFront-cond (nat_le (length was + length piece) room) was failing piece);
   later = omega arith;
+  quiet = tt;
   cause = omega arith;
 }

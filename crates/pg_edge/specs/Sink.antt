@@ -16,4 +16,5 @@ pub record Puts {T E : Type 0} (was now : Option (List ℕ)) (before after : ℕ
   pub whole : OnOk result (BothTold was now (Adds piece))
   pub front : OnErr result (BothTold was now (AddsFront piece))
   pub later : before ≤ after
+  pub quiet : OnOk result (after ≡ before)
   pub cause : OnErr result (Rose before after)

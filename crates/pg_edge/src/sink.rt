@@ -5,8 +5,8 @@
 //! of them all, by the laws on `Puts`: it stops at the first piece that is refused, and what was written is
 //! then a front of the whole. So each text above is one `Puts`, however it is cut into pieces.
 //!
-//! `written` is none for a sink that does not tell its bytes, as standard output. The count of faults never
-//! falls, and rises at each put that fails until it stands at `2^64 - 1`.
+//! `written` is none for a sink that does not tell its bytes, as standard output. The count of faults rises at
+//! each put that fails, until it stands at `2^64 - 1`, and at no other.
 ghost use Rattle.std.specs.Prelude.{ℕ, List, Option};
 ghost use Rattle.pg_edge.specs.Sink.{Puts};
 

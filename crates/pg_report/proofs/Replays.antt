@@ -25,21 +25,21 @@ use Rattle.pg_report.proofs.Verdicts.{name_read}
 
 -- nothing put is the empty piece put
 pub nothing_starves : {T : Type 0} (told : Option (List ℕ)) (faults : ℕ) (done : T) → PutsOrStarves told told faults faults [] (Ok done)
-nothing_starves told faults done = record { whole = Adds-nil told; front = tt; later = omega arith; cause = λ h. absurd (cc h) }
+nothing_starves told faults done = record { whole = Adds-nil told; front = tt; later = omega arith; quiet = λ no. refl; cause = λ h. absurd (cc h) }
 
 -- a put that went through
 pub put_whole : {T U E : Type 0} (was now : Option (List ℕ)) (before after : ℕ) (piece : List ℕ) (x : T) (y : U) →
     Puts {E = E} was now before after piece (Ok x) → PutsOrStarves was now before after piece (Ok y)
-put_whole was now before after piece x y p = record { whole = p.whole; front = tt; later = p.later; cause = λ h. absurd (cc h) }
+put_whole was now before after piece x y p = record { whole = p.whole; front = tt; later = p.later; quiet = λ no. p.quiet; cause = λ h. absurd (cc h) }
 
 -- and one that failed
 pub put_failed : {T U E : Type 0} (was now : Option (List ℕ)) (before after : ℕ) (piece : List ℕ) (fault : E) →
     Puts {T = T} was now before after piece (Err fault) → PutsOrStarves {T = U} was now before after piece (Err Failed)
-put_failed was now before after piece fault p = record { whole = tt; front = p.front; later = p.later; cause = λ h. p.cause }
+put_failed was now before after piece fault p = record { whole = tt; front = p.front; later = p.later; quiet = λ no. absurd (no refl); cause = λ h. p.cause }
 
 -- no memory, before anything was put
 pub starved : {T : Type 0} (told : Option (List ℕ)) (faults : ℕ) → PutsOrStarves {T = T} told told faults faults [] (Err Memory)
-starved told faults = record { whole = tt; front = none told; later = omega arith; cause = λ h. absurd (cc h) }
+starved told faults = record { whole = tt; front = none told; later = omega arith; quiet = λ no. refl; cause = λ h. absurd (cc h) }
   where
     none : (t : Option (List ℕ)) → BothTold t t (AddsFront [])
     none None = tt
@@ -52,19 +52,21 @@ starves_then was mid now before between after first next done (Ok x) a b = recor
   whole = Adds-append was mid now first next a.whole b.whole;
   front = tt;
   later = omega (arith, a.later, b.later);
+  quiet = λ no. b.quiet (λ h. absurd (cc h)) ∙ a.quiet (λ h. absurd (cc h));
   cause = λ h. absurd (cc h);
 }
 starves_then was mid now before between after first next done (Err e) a b = record {
   whole = tt;
   front = AddsFront-append was mid now first next a.whole b.front;
   later = omega (arith, a.later, b.later);
+  quiet = λ no. b.quiet no ∙ a.quiet (λ h. absurd (cc h));
   cause = λ h. Rose-earlier before between after a.later (b.cause h);
 }
 
 -- a front of a piece is one of the piece with more behind it
 front_longer : (was now : Option (List ℕ)) (piece rest : List ℕ) → BothTold was now (AddsFront piece) → BothTold was now (AddsFront (piece ++ rest))
 front_longer was now piece rest f =
-    let failed : Puts {T = Unit {0}} was now 0 (2 ^ 64 - 1) piece (Err Failed) = record { whole = tt; front = f; later = omega arith; cause = omega arith } in
+    let failed : Puts {T = Unit {0}} was now 0 (2 ^ 64 - 1) piece (Err Failed) = record { whole = tt; front = f; later = omega arith; quiet = tt; cause = omega arith } in
     let more : Puts {T = Unit {0}} was now 0 (2 ^ 64 - 1) (piece ++ rest) (Err Failed) = Puts-stopped was now 0 (2 ^ 64 - 1) piece rest Failed Failed failed in
     more.front
 
@@ -75,6 +77,7 @@ starves_stopped was now before after piece rest fault a = record {
   whole = tt;
   front = front_longer was now piece rest a.front;
   later = a.later;
+  quiet = λ no. a.quiet (λ h. no (ap failed h));
   cause = λ h. a.cause (ap failed h);
 }
   where

@@ -1,5 +1,5 @@
 -- The text of `replay`: of each finding that is shown its two states, each with the step that the machine makes from it.
-use Rattle.std.specs.Prelude.{◌≤◌, ⊤, ℕ, zero, suc, List, [], ◌∷◌, ◌++◌, length, codes, slice_index_or, Option, None, Some, Result, OnOk, OnErr, IsErrOf}
+use Rattle.std.specs.Prelude.{◌≡◌, ◌≤◌, ⊤, ℕ, zero, suc, List, [], ◌∷◌, ◌++◌, length, codes, slice_index_or, Option, None, Some, Result, OnOk, OnErr, IsErrOf}
 use Rattle.pg_edge.specs.Count.{Rose}
 use Rattle.pg_edge.specs.Told.{BothTold}
 use Rattle.pg_edge.specs.Sink.{Adds, AddsFront}
@@ -83,4 +83,5 @@ pub record PutsOrStarves {T : Type 0} (was now : Option (List ℕ)) (before afte
   pub whole : OnOk result (BothTold was now (Adds piece))
   pub front : OnErr result (BothTold was now (AddsFront piece))
   pub later : before ≤ after
+  pub quiet : ¬ IsErrOf result Failed → after ≡ before
   pub cause : IsErrOf result Failed → Rose before after

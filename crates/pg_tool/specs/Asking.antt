@@ -2,26 +2,35 @@
 use Rattle.std.specs.Prelude.{◌≡◌, ℕ, List, Option, None, Some}
 use Rattle.pg_cert.specs.declared.cert.Family.TheVariants.{Plain, Hybrid}
 use Rattle.pg_command.specs.Asked.{request_of}
+use Rattle.pg_command.specs.declared.ask.Fault.{Fault}
+use Rattle.pg_command.specs.declared.ask.Fault.TheVariants as words
 use Rattle.pg_command.specs.declared.ask.Request.{Request}
 use Rattle.pg_command.specs.declared.ask.Request.TheVariants as request
-use Rattle.pg_tool.specs.declared.refusal.Refusal.{Refusal}
-use Rattle.pg_tool.specs.declared.refusal.Refusal.TheVariants.{Words}
-use Rattle.pg_tool.specs.Commands.{Command}
-use Rattle.pg_tool.specs.Steps.{Step, Came, Refused, Misread}
-use Rattle.pg_tool.specs.Bare.{bare_command}
-use Rattle.pg_tool.specs.Run.{run_command}
-use Rattle.pg_tool.specs.Print.{print_command}
-use Rattle.pg_tool.specs.Verify.{verify_command}
-use Rattle.pg_tool.specs.Replay.{replay_command}
-use Rattle.pg_tool.specs.Migrate.{migrate_command}
-use Rattle.pg_tool.specs.Check.{check_command}
-use Rattle.pg_tool.specs.Generating.{gen_command}
+use Rattle.pg_steps.specs.declared.refusal.Refusal.{Refusal}
+use Rattle.pg_steps.specs.declared.refusal.Refusal.TheVariants.{Words}
+use Rattle.pg_steps.specs.declared.refusal.Stop.{Stop}
+use Rattle.pg_steps.specs.declared.refusal.Stop.TheVariants as stop
+use Rattle.pg_steps.specs.Commands.{Command}
+use Rattle.pg_steps.specs.Steps.{Step, Came, Refused, Misread}
+use Rattle.pg_tool_plain.specs.Bare.{bare_command}
+use Rattle.pg_tool_run.specs.Run.{run_command}
+use Rattle.pg_tool_plain.specs.Print.{print_command}
+use Rattle.pg_tool_judging.specs.Verify.{verify_command}
+use Rattle.pg_tool_judging.specs.Replay.{replay_command}
+use Rattle.pg_tool_judging.specs.Migrate.{migrate_command}
+use Rattle.pg_tool_judging.specs.Check.{check_command}
+use Rattle.pg_tool_gen.specs.Generating.{gen_command}
 
 -- words that are refused come to that and nothing else
 abbrev pub WordsRefused : Step Refusal ⊥
 WordsRefused (Came x) = ⊥
 WordsRefused (Refused why) = why ≡ Words
 WordsRefused Misread = ⊥
+
+-- why a command goes no further of whose words nothing was made
+abbrev pub stop_of_words : Fault → Stop
+stop_of_words words.Refused = stop.Refused Words
+stop_of_words words.Memory = stop.Memory
 
 abbrev pub no_command : Command
 no_command = record {

@@ -5,66 +5,37 @@
 //! given is seen through the traits `Shelf`, `Sink` and `Hardware` alone. The program `pgv` makes one call, `tool_watched`, which
 //! tells a watcher besides of each question that is asked.
 //!
-//! A command has a module of its own, in `src`, `specs` and `proofs` alike, and one line in each of three places: the words
-//! (`pg_command`), the definition (`command_of`, `specs/Asking.antt`) and `carry` below. Its definition is a `Command`
-//! (`specs/Commands.antt`): what its steps come to by the told files, and what its work may leave. `Carries` says, for any
-//! command, what is then left of files, sink and hardware, by the class of the status; and `Exactly` that what is due comes.
+//! What a command is, and how its steps join, stands in `pg_steps`; the commands stand in families, crates of their own
+//! (`pg_tool_plain`, `pg_tool_judging`, `pg_tool_run`, `pg_tool_gen`). Here a command has one line in each of three places: the
+//! definition (`command_of`, `specs/Asking.antt`), `carry` below, and the proof that it comes to one thing (`proofs/OnlyOne.antt`).
 //!
-//! - `status`: how a command ends. `refusal`, `stop`: why one goes no further, and how that is told.
-//! - `described`, `imaged`, `load`: bytes and files to machines and images. `certified`: files to certificates. `room`: more
-//!   cells than there are.
-//! - `judged`: a description and a certificate of it.
-//! - `bare`, `check` (and `hcheck`), `verify`, `replay`, `run`, `print`, `generating` (the command `gen`), `migrate`: the
-//!   commands.
 //! - `laws`: what is due for told files is one thing.
 #![tactic(auto)]
 
 ghost use Rattle.std.specs.Prelude.{◌≡◌, ◌≤◌, Some, map, string_bytes};
 ghost use Rattle.pg_ast.specs.declared.tree.Desc.{Desc};
 ghost use Rattle.pg_edge.specs.Shelf.{Files};
-ghost use Rattle.pg_tool.specs.Asking.{command_for, command_of};
+ghost use Rattle.pg_guests.specs.Runs.{CanCount};
+ghost use Rattle.pg_steps.specs.Able.{IsAble};
+ghost use Rattle.pg_steps.specs.Commands.{Carries, Exactly};
+ghost use Rattle.pg_steps.specs.World.{Keeps, SavesOnly, around};
+ghost use Rattle.pg_tool.specs.Asking.{command_for, command_of, stop_of_words};
 ghost use Rattle.pg_valid.specs.Valid.{IsValid};
-ghost use Rattle.pg_tool.specs.Commands.{Carries, Exactly};
-ghost use Rattle.pg_tool.specs.Answering.{stop_of_words};
-ghost use Rattle.pg_tool.specs.World.{CanCount, SavesOnly, around, output};
 
-mod bare;
-mod certified;
-mod check;
-mod described;
-mod generating;
-mod imaged;
-mod judged;
 pub mod laws;
-mod load;
-mod migrate;
-mod print;
-mod refusal;
-mod replay;
-mod room;
-mod run;
-mod status;
-mod stop;
-mod verify;
 
-use crate::bare::carry_bare;
-use crate::check::carry_check;
-use crate::generating::carry_gen;
-use crate::migrate::carry_migrate;
-use crate::print::carry_print;
-use crate::refusal::Stop;
-use crate::replay::carry_replay;
-use crate::run::carry_run;
-use crate::stop::stopped;
-use crate::verify::carry_verify;
 use pg_cert::Family;
 pub use pg_classify::{Silent, Watcher};
 use pg_command::{Fault, Request, request};
 use pg_edge::{Shelf, Sink};
 use pg_hw::Hardware;
+use pg_steps::{Stop, stopped};
+pub use pg_steps::{Refusal, Status};
+use pg_tool_gen::carry_gen;
+use pg_tool_judging::{carry_check, carry_migrate, carry_replay, carry_verify};
+use pg_tool_plain::{carry_bare, carry_print};
+use pg_tool_run::carry_run;
 pub use pg_type::Kind;
-pub use refusal::Refusal;
-pub use status::Status;
 use std::alloc::Global;
 
 /// Does what the words ask for, of which the first is the program's name.
@@ -84,13 +55,13 @@ pub fn tool<F: Shelf, S: Sink, H: Hardware>(
     requires room { 1048575 ≤ H.room (H.fixed hw.old) }
     requires counts { CanCount (H.machinery hw.old).tally }
     // What is left of files, sink and hardware, by the status.
-    ensures carries { Carries (command_for (map string_bytes words.now)) (around (F.files shelf.old) (F.reads shelf.old) (F.saves shelf.old) (output (S.written out.old) (S.faults out.old)) (H.machinery hw.old))
-        (around (F.files shelf.new) (F.reads shelf.new) (F.saves shelf.new) (output (S.written out.new) (S.faults out.new)) (H.machinery hw.new)) result }
+    ensures carries { Carries (command_for (map string_bytes words.now)) (around F.Shelf S.Sink H.Hardware shelf.old out.old hw.old)
+        (around F.Shelf S.Sink H.Hardware shelf.new out.new hw.new) result }
 
     // Where the files are told: a refusal that is due comes, and where work is due none does, but for faults and memory.
     ensures exactly { (files : Files) → F.files shelf.old ≡ Some files → Exactly (command_for (map string_bytes words.now))
-        (around (F.files shelf.old) (F.reads shelf.old) (F.saves shelf.old) (output (S.written out.old) (S.faults out.old)) (H.machinery hw.old))
-        (around (F.files shelf.new) (F.reads shelf.new) (F.saves shelf.new) (output (S.written out.new) (S.faults out.new)) (H.machinery hw.new)) result }
+        (around F.Shelf S.Sink H.Hardware shelf.old out.old hw.old)
+        (around F.Shelf S.Sink H.Hardware shelf.new out.new hw.new) result }
 
     // On every status.
     ensures files { SavesOnly (command_for (map string_bytes words.now)).saved (F.files shelf.old) (F.files shelf.new) }
@@ -115,13 +86,13 @@ pub fn tool_watched<F: Shelf, S: Sink, H: Hardware, W: Watcher>(
     requires room { 1048575 ≤ H.room (H.fixed hw.old) }
     requires counts { CanCount (H.machinery hw.old).tally }
     // What is left of files, sink and hardware, by the status.
-    ensures carries { Carries (command_for (map string_bytes words.now)) (around (F.files shelf.old) (F.reads shelf.old) (F.saves shelf.old) (output (S.written out.old) (S.faults out.old)) (H.machinery hw.old))
-        (around (F.files shelf.new) (F.reads shelf.new) (F.saves shelf.new) (output (S.written out.new) (S.faults out.new)) (H.machinery hw.new)) result }
+    ensures carries { Carries (command_for (map string_bytes words.now)) (around F.Shelf S.Sink H.Hardware shelf.old out.old hw.old)
+        (around F.Shelf S.Sink H.Hardware shelf.new out.new hw.new) result }
 
     // Where the files are told: a refusal that is due comes, and where work is due none does, but for faults and memory.
     ensures exactly { (files : Files) → F.files shelf.old ≡ Some files → Exactly (command_for (map string_bytes words.now))
-        (around (F.files shelf.old) (F.reads shelf.old) (F.saves shelf.old) (output (S.written out.old) (S.faults out.old)) (H.machinery hw.old))
-        (around (F.files shelf.new) (F.reads shelf.new) (F.saves shelf.new) (output (S.written out.new) (S.faults out.new)) (H.machinery hw.new)) result }
+        (around F.Shelf S.Sink H.Hardware shelf.old out.old hw.old)
+        (around F.Shelf S.Sink H.Hardware shelf.new out.new hw.new) result }
 
     // On every status.
     ensures files { SavesOnly (command_for (map string_bytes words.now)).saved (F.files shelf.old) (F.files shelf.new) }
@@ -145,15 +116,11 @@ fn carry<F: Shelf, S: Sink, H: Hardware, W: Watcher>(
     hw: &mut H,
     watcher: &mut W,
 ) -> Status
-    requires serves { (d : Desc) → IsValid d → H.serves (H.fixed hw.old) d }
-    requires room { 1048575 ≤ H.room (H.fixed hw.old) }
-    requires counts { CanCount (H.machinery hw.old).tally }
-    ensures carries { Carries (command_of request.now) (around (F.files shelf.old) (F.reads shelf.old) (F.saves shelf.old) (output (S.written out.old) (S.faults out.old)) (H.machinery hw.old))
-        (around (F.files shelf.new) (F.reads shelf.new) (F.saves shelf.new) (output (S.written out.new) (S.faults out.new)) (H.machinery hw.new)) result }
-    ensures files { SavesOnly (command_of request.now).saved (F.files shelf.old) (F.files shelf.new) }
-    ensures reads { F.reads shelf.old ≤ F.reads shelf.new }
-    ensures saves { F.saves shelf.old ≤ F.saves shelf.new }
-    ensures faults { S.faults out.old ≤ S.faults out.new }
+    requires able { IsAble H.Hardware hw.old }
+    ensures carries { Carries (command_of request.now) (around F.Shelf S.Sink H.Hardware shelf.old out.old hw.old)
+        (around F.Shelf S.Sink H.Hardware shelf.new out.new hw.new) result }
+    ensures keeps { Keeps (command_of request.now).saved (around F.Shelf S.Sink H.Hardware shelf.old out.old hw.old)
+        (around F.Shelf S.Sink H.Hardware shelf.new out.new hw.new) }
     ensures fixed { H.fixed hw.new ≡ H.fixed hw.old }
 {
     match request {

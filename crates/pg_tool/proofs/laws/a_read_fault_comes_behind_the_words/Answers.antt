@@ -1,4 +1,4 @@
-use Rattle.pg_tool.proofs.CarryLemmas.{misread_words}
+use Rattle.pg_tool.proofs.AskedLemmas.{misread_words}
 use Rattle.pg_tool.proofs.laws.a_read_fault_comes_behind_the_words.Goals as goal
 
 pub returns : goal.returns

@@ -1,0 +1,6 @@
+pub mod PartLemmas
+pub mod VerdictMeanings
+pub mod JudgedLemmas
+pub mod TellingLemmas
+pub mod OneCertificate
+pub mod OneJudged

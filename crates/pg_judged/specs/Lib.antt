@@ -1,0 +1,6 @@
+pub mod Certificates
+pub mod Parts
+pub mod Meaning
+pub mod Judged
+pub mod Telling
+pub mod Views

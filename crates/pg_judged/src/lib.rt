@@ -1,0 +1,18 @@
+//! Certificates from files, and what a command leaves that judges by one.
+//!
+//! A certificate is of a description and of a family of kinds: those of Theorem 1, or those of Theorem 3. What its verdict means
+//! for the machine is `VerdictMeans` (`specs/Meaning.antt`).
+//!
+//! - `certified`: a file to what is kept of a certificate. `machine`, `judged`: a machine with that.
+//! - `telling`: the verdict told, and its status.
+#![tactic(auto)]
+
+mod certified;
+mod judged;
+mod machine;
+mod telling;
+
+pub use certified::{load_certificate, stop_of_text};
+pub use judged::load_judged;
+pub use machine::JudgedMachine;
+pub use telling::{is_accepted, status_of, tell_verdict};

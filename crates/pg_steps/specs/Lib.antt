@@ -1,0 +1,10 @@
+pub mod Codes
+pub mod Classes
+pub mod Steps
+pub mod FileSteps
+pub mod Refusals
+pub mod Rooms
+pub mod World
+pub mod Able
+pub mod Commands
+pub mod Answering

@@ -1,0 +1,24 @@
+//! What a command is, and how its steps join: the base of every family of commands.
+//!
+//! A command (`specs/Commands.antt`) is what its steps come to by the told files, and what its work may leave. `Carries` says, of
+//! any command, what is then left of files, sink and hardware, by the class of the status; `Exactly`, that what is due comes.
+//! Nothing here names a command, a certificate or a reader.
+//!
+//! - `status`: how a command ends. `refusal`, `stop`: why one goes no further, and how that is told.
+//! - `loading`: files to bytes. `room`: more cells than there are.
+//!
+//! What surrounds a command, shelf, sink and hardware, is one `World` in the contracts (`specs/World.antt`): a shelf `F`, a sink
+//! `S` and a hardware `H` as they are lent are `around F.Shelf S.Sink H.Hardware shelf out hw`.
+#![tactic(auto)]
+
+mod loading;
+mod refusal;
+mod room;
+mod status;
+mod stop;
+
+pub use loading::{load_file, stop_of};
+pub use refusal::{Refusal, Stop};
+pub use room::no_room;
+pub use status::Status;
+pub use stop::stopped;

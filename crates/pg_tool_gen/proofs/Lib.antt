@@ -1,0 +1,2 @@
+pub mod GeneratingLemmas
+pub mod OneGenerated

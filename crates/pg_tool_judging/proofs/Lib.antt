@@ -1,0 +1,4 @@
+pub mod SavingLemmas
+pub mod CheckLemmas
+pub mod MigrateLemmas
+pub mod ReplayLemmas

@@ -1,0 +1,6 @@
+pub mod Saving
+pub mod Verify
+pub mod Replay
+pub mod Check
+pub mod Migrate
+pub mod Views

@@ -1,0 +1,94 @@
+//! `check` and `hcheck`: each question of a description, with evidence for what is found, and the verdict of it.
+//!
+//! They differ in the family of kinds that is asked about alone: those of Theorem 1, or those of Theorem 3.
+//!
+//! The description is loaded, and its certificate is found and its text made whole: memory is refused before any of it is
+//! saved. Then the text is saved, and after that the text of the verdict is put. No more memory is taken for either.
+
+ghost use Rattle.std.specs.Prelude.{◌≡◌, ◌≤◌, IfOk};
+ghost use Rattle.pg_steps.specs.Answering.{Comes, OnlyReads};
+ghost use Rattle.pg_steps.specs.Commands.{Carries};
+ghost use Rattle.pg_steps.specs.World.{Keeps, around};
+ghost use Rattle.pg_tool_judging.specs.Check.{IsChecked, CheckDue, check_command};
+
+use crate::saving::save_and_tell;
+use crate::written::WrittenCert;
+use pg_cert::{Family, report_of, write};
+use pg_classify::{Watcher, classify_watched};
+use pg_command::CheckWords;
+use pg_edge::{Shelf, Sink};
+use pg_hw::Hardware;
+use pg_inputs::load_machine;
+use pg_judged::JudgedMachine;
+use pg_machine::Machine;
+use pg_steps::{Status, Stop, stopped};
+use std::alloc::{AllocError, Global};
+
+/// Carries out `check`, or over the kinds of Theorem 3 `hcheck`. The hardware is lent, and stays as it is. The watcher is told
+/// of each question.
+pub fn carry_check<F: Shelf, S: Sink, H: Hardware, W: Watcher>(
+    alloc: Global,
+    family: Family,
+    words: &CheckWords,
+    shelf: &mut F,
+    out: &mut S,
+    hw: &H,
+    watcher: &mut W,
+) -> Status
+    ensures carries { Carries (check_command family words.now) (around F.Shelf S.Sink H.Hardware shelf.old out.old hw.now)
+        (around F.Shelf S.Sink H.Hardware shelf.new out.new hw.now) result }
+    ensures keeps { Keeps (check_command family words.now).saved (around F.Shelf S.Sink H.Hardware shelf.old out.old hw.now)
+        (around F.Shelf S.Sink H.Hardware shelf.new out.new hw.now) }
+{
+    match prepare_check(alloc, family, words, shelf, watcher) {
+        Ok(found) => save_and_tell(shelf, out, hw, &words.cert, &found),
+        Err(stop) => stopped(&stop, out),
+    }
+}
+
+/// The certificate that is to be saved, and whose verdict is to be put; or why there is none.
+fn prepare_check<F: Shelf, W: Watcher>(
+    alloc: Global,
+    family: Family,
+    words: &CheckWords,
+    shelf: &mut F,
+    watcher: &mut W,
+) -> Result<WrittenCert, Stop>
+    ensures comes { Comes (λ p. p.judged.machine.desc) (CheckDue words.now (F.files shelf.old)) (F.reads shelf.old) (F.reads shelf.new) result }
+    ensures checked { IfOk result (λ p. IsChecked p.judged.machine.desc family words.now.budget p.text.items p.judged.report) }
+    ensures reads { OnlyReads F.Shelf shelf.old shelf.new }
+{
+    let machine = match load_machine(alloc, &words.desc, shelf) {
+        Ok(machine) => machine,
+        Err(stop) => return Err(stop),
+    };
+    match checked(alloc, machine, family, words.budget.clauses(), watcher) {
+        Ok(found) => Ok(found),
+        Err(_) => Err(Stop::Memory),
+    }
+}
+
+/// A certificate of a machine, found within a budget from 1 to 1,000,000: its text, and what is kept of it.
+///
+/// # Errors
+/// Only for want of memory.
+pub fn checked<W: Watcher>(
+    alloc: Global,
+    machine: Machine,
+    family: Family,
+    budget: u32,
+    watcher: &mut W,
+) -> Result<WrittenCert, AllocError>
+    requires least { 1 ≤ budget }
+    requires most { budget ≤ 1000000 }
+    ensures machine { IfOk result (λ p. p.judged.machine.desc ≡ machine.desc) }
+    ensures checked { IfOk result (λ p. IsChecked p.judged.machine.desc family budget p.text.items p.judged.report) }
+{
+    let cert = classify_watched(alloc, &machine, family, budget, watcher)?;
+    let report = report_of(alloc, &cert)?;
+    let text = write(alloc, &machine, &cert)?;
+    Ok(WrittenCert {
+        judged: JudgedMachine { machine, report },
+        text,
+    })
+}

@@ -1,0 +1,4 @@
+pub mod CanRuns
+pub mod Bare
+pub mod Print
+pub mod Plans

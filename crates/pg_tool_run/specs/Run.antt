@@ -1,0 +1,73 @@
+-- `run`: images as guests of one monitor, where a certificate says that a monitor may run the machine.
+use Rattle.std.specs.Prelude.{◌≡◌, ℕ, ◌-◌, ◌*◌, List, All, length, Option, None}
+use Rattle.pg_alloc.specs.Fit.{kept_cells}
+use Rattle.pg_cert.specs.declared.cert.Family.TheVariants.{Plain}
+use Rattle.pg_cert.specs.declared.report.Report.{Report}
+use Rattle.pg_cert.specs.declared.report.Verdict.TheVariants as verdict
+use Rattle.pg_command.specs.declared.run.RunWords.{RunWords}
+use Rattle.pg_edge.specs.Shelf.{Files}
+use Rattle.pg_type.specs.Accepting.{IsAccepted}
+use Rattle.pg_guests.specs.Runs.{GuestRun, RanGuests, SetUp, text_of}
+use Rattle.pg_steps.specs.declared.status.Status.{Status}
+use Rattle.pg_steps.specs.declared.status.Status.TheVariants as status
+use Rattle.pg_steps.specs.declared.refusal.Refusal.{Refusal}
+use Rattle.pg_judged.specs.Certificates.{CertDue}
+use Rattle.pg_steps.specs.Commands.{Command}
+use Rattle.pg_inputs.specs.Descriptions.{DescDue}
+use Rattle.pg_inputs.specs.Images.{ImagesDue}
+use Rattle.pg_judged.specs.Judged.{Judged, verdict_on}
+use Rattle.pg_steps.specs.Rooms.{RoomDue}
+use Rattle.pg_steps.specs.Steps.{Step, Then, Gives}
+use Rattle.pg_judged.specs.Telling.{EndsBy}
+use Rattle.pg_steps.specs.World.{World}
+
+-- a run that is asked for, how many cells each guest is granted, and what is kept of the certificate by which it may be done
+pub record JudgedRun : Type 0 where
+  pub run : GuestRun
+  pub grant : ℕ
+  pub report : Report
+
+-- the description, the room beside the cells that a monitor keeps, the images, the certificate, and then the run
+unfoldable pub RunDue : RunWords → Option Files → Step Refusal JudgedRun
+RunDue r told =
+    Then (DescDue told r.desc) (λ d. Then (RoomDue (length r.images * r.grant) (d.size - kept_cells)) (λ cells. Then (ImagesDue told 0 r.images d.word r.grant) (λ images.
+    Then (CertDue d Plain told r.cert) (λ report. Gives (record { run = record { desc = d; images = images; slice = r.slice; steps = r.steps }; grant = r.grant; report = report })))))
+
+-- the description, and what is kept of the certificate of it
+abbrev pub judged_by : JudgedRun → Judged
+judged_by j = record { desc = j.run.desc; report = j.report }
+
+-- the guests ran: every sensitive instruction of the machine is privileged, each image has the granted size, and the text is
+-- that of the states that bare machines reach, and of the counts of turns; no file was saved
+pub record GuestsEnd (j : JudgedRun) (old new : World) (given : Status) (text : List ℕ) : Type 0 where
+  pub status : given ≡ status.Done
+  pub accepted : IsAccepted j.run.desc
+  pub granted : All (λ image. length image ≡ j.grant) j.run.images
+  pub wording : text ≡ text_of j.run
+  pub ran : RanGuests j.run old.hw new.hw
+  pub files : new.files ≡ old.files
+  pub saves : new.save_faults ≡ old.save_faults
+
+-- by the verdict of the certificate: the guests ran where it accepts the machine; else it is told, as `verify` tells it, and
+-- nothing ran
+pub record RunEnds (j : JudgedRun) (old new : World) (given : Status) (text : List ℕ) : Type 0 where
+  pub by_verdict : EndsBy (verdict_on (judged_by j)) (GuestsEnd j) Plain (judged_by j) old new given text
+
+-- without memory for the storage, the monitor or a guest nothing was put, no file saved and no turn made; it is taken only where
+-- the verdict accepts the machine
+pub record RunStarves (j : JudgedRun) (old new : World) : Type 0 where
+  pub accepted : verdict_on (judged_by j) ≡ verdict.Accepted
+  pub silent : new.out ≡ old.out
+  pub files : new.files ≡ old.files
+  pub saves : new.save_faults ≡ old.save_faults
+  pub set_up : SetUp j.run old.hw new.hw
+
+abbrev pub run_command : RunWords → Command
+run_command r = record {
+  Work = JudgedRun;
+  due = RunDue r;
+  saved = None;
+  ends = RunEnds;
+  unsaved = λ j old new. ⊥;
+  starved = RunStarves;
+}
