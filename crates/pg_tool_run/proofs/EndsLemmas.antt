@@ -1,5 +1,5 @@
 -- `run`: what it leaves, by the verdict of its certificate.
-use Rattle.std.proofs.Common.{◌≡◌, ◌∙◌, List, All, length, ℕ, Option, refl, sym, ap, subst}
+use Rattle.std.proofs.Common.{◌≡◌, ◌∙◌, All, length, Option, refl, sym, ap, subst}
 use Rattle.pg_ast.specs.declared.tree.Desc.{Desc}
 use Rattle.pg_cert.specs.declared.cert.Family.TheVariants.{Plain}
 use Rattle.pg_cert.specs.declared.report.Verdict.TheVariants.{Accepted}
@@ -14,17 +14,17 @@ use Rattle.pg_report.specs.Runs.{run_text}
 use Rattle.pg_type.specs.Accepting.{IsAccepted}
 use Rattle.pg_steps.specs.declared.status.Status.TheVariants.{Done}
 use Rattle.pg_judged.specs.Judged.{verdict_on, verdict_status, verdict_told}
-use Rattle.pg_tool_run.specs.Run.{JudgedRun, RunDue, GuestsEnd, RunEnds, judged_by}
+use Rattle.pg_tool_run.specs.Run.{JudgedRun, RunDue, GuestsEnd, RunEnds, files_of, judged_by}
+use Rattle.pg_tool_run.proofs.LoadingLemmas.{guests-read}
 use Rattle.pg_steps.specs.Steps.{Came}
 use Rattle.pg_steps.specs.World.{World, IsUntouched}
-use Rattle.pg_judged.proofs.JudgedLemmas.{IsRead, certificate-read, desc-valid}
+use Rattle.pg_judged.proofs.JudgedLemmas.{IsRead}
 use Rattle.pg_judged.proofs.TellingLemmas.{ends-told, ends-left, verdict-ends}
 
 -- the certificate was read
 pub run-read : (told : Option Files) (r : RunWords) (j : JudgedRun) → RunDue r told (Came j) → IsRead Plain (judged_by j)
 unfolding RunDue
-run-read told r j h =
-    subst (λ (x : JudgedRun). IsRead Plain (judged_by x)) (sym h.2.2.2.2) (certificate-read h.0 Plain told r.cert h.2.2.2.0 (desc-valid told r.desc h.0 h.1) h.2.2.2.1)
+run-read told r j h = subst (λ (x : JudgedRun). IsRead Plain (judged_by x)) (sym h.2) (guests-read Plain (files_of r) told h.0 h.1)
 
 -- the verdict was told, and nothing ran
 pub run-told : (told : Option Files) (r : RunWords) (j : JudgedRun) (old new : World) → RunDue r told (Came j) → ¬ (verdict_on (judged_by j) ≡ Accepted) → IsUntouched old new →

@@ -1,3 +1,4 @@
+pub mod LoadingLemmas
 pub mod RunLemmas
 pub mod EndsLemmas
 pub mod OneRun

@@ -1,2 +1,4 @@
+pub mod Loading
 pub mod Run
+pub mod Views
 pub mod Plans

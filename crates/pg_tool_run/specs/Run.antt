@@ -1,5 +1,5 @@
 -- `run`: images as guests of one monitor, where a certificate says that a monitor may run the machine.
-use Rattle.std.specs.Prelude.{◌≡◌, ℕ, ◌-◌, ◌*◌, List, All, length, Option, None}
+use Rattle.std.specs.Prelude.{◌≡◌, ℕ, List, All, length, Option, None}
 use Rattle.pg_alloc.specs.Fit.{kept_cells}
 use Rattle.pg_cert.specs.declared.cert.Family.TheVariants.{Plain}
 use Rattle.pg_cert.specs.declared.report.Report.{Report}
@@ -11,15 +11,12 @@ use Rattle.pg_guests.specs.Runs.{GuestRun, RanGuests, SetUp, text_of}
 use Rattle.pg_steps.specs.declared.status.Status.{Status}
 use Rattle.pg_steps.specs.declared.status.Status.TheVariants as status
 use Rattle.pg_steps.specs.declared.refusal.Refusal.{Refusal}
-use Rattle.pg_judged.specs.Certificates.{CertDue}
 use Rattle.pg_steps.specs.Commands.{Command}
-use Rattle.pg_inputs.specs.Descriptions.{DescDue}
-use Rattle.pg_inputs.specs.Images.{ImagesDue}
 use Rattle.pg_judged.specs.Judged.{Judged, verdict_on}
-use Rattle.pg_steps.specs.Rooms.{RoomDue}
 use Rattle.pg_steps.specs.Steps.{Step, Then, Gives}
 use Rattle.pg_judged.specs.Telling.{EndsBy}
 use Rattle.pg_steps.specs.World.{World}
+use Rattle.pg_tool_run.specs.Loading.{GuestFiles, Loaded, GuestsDue}
 
 -- a run that is asked for, how many cells each guest is granted, and what is kept of the certificate by which it may be done
 pub record JudgedRun : Type 0 where
@@ -27,11 +24,17 @@ pub record JudgedRun : Type 0 where
   pub grant : ℕ
   pub report : Report
 
--- the description, the room beside the cells that a monitor keeps, the images, the certificate, and then the run
+-- the files that the words name
+abbrev pub files_of : RunWords → GuestFiles
+files_of r = record { desc = r.desc; images = r.images; cert = r.cert; grant = r.grant; kept = kept_cells }
+
+-- the run of what they hold
+abbrev pub judged_run_of : RunWords → Loaded → JudgedRun
+judged_run_of r l = record { run = record { desc = l.desc; images = l.images; slice = r.slice; steps = r.steps }; grant = r.grant; report = l.report }
+
+-- description, room, images and certificate, and then the run
 unfoldable pub RunDue : RunWords → Option Files → Step Refusal JudgedRun
-RunDue r told =
-    Then (DescDue told r.desc) (λ d. Then (RoomDue (length r.images * r.grant) (d.size - kept_cells)) (λ cells. Then (ImagesDue told 0 r.images d.word r.grant) (λ images.
-    Then (CertDue d Plain told r.cert) (λ report. Gives (record { run = record { desc = d; images = images; slice = r.slice; steps = r.steps }; grant = r.grant; report = report })))))
+RunDue r told = Then (GuestsDue Plain (files_of r) told) (λ l. Gives (judged_run_of r l))
 
 -- the description, and what is kept of the certificate of it
 abbrev pub judged_by : JudgedRun → Judged

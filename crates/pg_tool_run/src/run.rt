@@ -1,37 +1,34 @@
 //! `run`: images as guests under a monitor.
 //!
-//! The description is loaded, the room beside the monitor's own cells is tried, the images are loaded, and then the
-//! certificate (`prepare_run`), in the order of its definition (`RunDue`, `specs/Run.antt`). Where its verdict does not accept
+//! Description, room, images and certificate are loaded (`load_guests`), in the order of the definition (`RunDue`,
+//! `specs/Run.antt`). Where its verdict does not accept
 //! the machine it is told, and nothing runs. Else the images run as guests of one monitor (`pg_guests`), and their text is
 //! put. Memory is taken before the first turn; where it is refused no turn was made, but the hardware may be set up (`SetUp`).
 
-ghost use Rattle.std.specs.Prelude.{◌≡◌, ◌≤◌, ◌*◌, ◌-◌, ◌+◌, ℕ, None, length, IfOk, OnOk};
-ghost use Rattle.pg_alloc.specs.Fit.{kept_cells};
+ghost use Rattle.std.specs.Prelude.{◌≡◌, None, IfOk};
 ghost use Rattle.pg_cert.specs.declared.report.Verdict.TheVariants.{Accepted};
 ghost use Rattle.pg_judged.specs.Judged.{verdict_on};
 ghost use Rattle.pg_judged.specs.Views.{judged};
 ghost use Rattle.pg_steps.specs.Able.{IsAble};
 ghost use Rattle.pg_steps.specs.Answering.{Comes, OnlyReads};
 ghost use Rattle.pg_steps.specs.Commands.{Carries};
-ghost use Rattle.pg_steps.specs.Rooms.{RoomDue};
 ghost use Rattle.pg_steps.specs.World.{Keeps, around};
 ghost use Rattle.pg_tool_run.specs.Plans.{judged_run};
 ghost use Rattle.pg_tool_run.specs.Run.{RunDue, run_command};
 ghost use Rattle.pg_type.specs.Accepting.{IsAccepted};
-ghost use Rattle.pg_word.specs.Shape.{IsShape};
 
 mod plan;
 
+use crate::files::GuestFiles;
+use crate::loading::load_guests;
 use pg_cert::Family;
-use pg_command::{Grant, Images, RunWords};
+use pg_command::RunWords;
 use pg_edge::{Shelf, Sink};
 use pg_guests::{put_guests, run_guests};
 use pg_hw::Hardware;
-use pg_inputs::{load_images, load_machine};
-use pg_judged::{JudgedMachine, is_accepted, load_certificate, tell_verdict};
+use pg_judged::{is_accepted, tell_verdict};
 use pg_monitor::KEPT_CELLS;
-use pg_steps::{Status, Stop, no_room, stopped};
-use pg_word::Shape;
+use pg_steps::{Status, Stop, stopped};
 use plan::RunPlan;
 use std::alloc::Global;
 
@@ -75,43 +72,21 @@ fn prepare_run<F: Shelf>(alloc: Global, words: &RunWords, shelf: &mut F) -> Resu
     ensures accepts { IfOk result (λ p. verdict_on (judged p.judged) ≡ Accepted → IsAccepted p.judged.machine.desc) }
     ensures reads { OnlyReads F.Shelf shelf.old shelf.new }
 {
-    let machine = match load_machine(alloc, &words.desc, shelf) {
-        Ok(machine) => machine,
-        Err(stop) => return Err(stop),
+    let files = GuestFiles {
+        desc: &words.desc,
+        images: words.images.as_slice(),
+        cert: &words.cert,
+        grant: words.grant.cells(),
+        kept: KEPT_CELLS,
     };
-    match try_room(&words.images, &words.grant, machine.shape()) {
-        Ok(()) => {}
-        Err(stop) => return Err(stop),
+    match load_guests(alloc, Family::Plain, &files, shelf) {
+        Ok(loaded) => Ok(RunPlan {
+            judged: loaded.judged,
+            images: loaded.images,
+            grant: files.grant,
+            slice: words.slice.steps(),
+            steps: words.steps.count(),
+        }),
+        Err(stop) => Err(stop),
     }
-    let (names, grant) = (words.images.as_slice(), words.grant.cells());
-    let images = match load_images(alloc, names, machine.shape(), grant, shelf) {
-        Ok(images) => images,
-        Err(stop) => return Err(stop),
-    };
-    let report = match load_certificate(alloc, Family::Plain, &machine, &words.cert, shelf) {
-        Ok(report) => report,
-        Err(stop) => return Err(stop),
-    };
-    Ok(RunPlan {
-        judged: JudgedMachine { machine, report },
-        images,
-        grant,
-        slice: words.slice.steps(),
-        steps: words.steps.count(),
-    })
-}
-
-/// That images find room beside the cells that a monitor keeps, each in a grant of this size; or why a command goes no further.
-fn try_room(images: &Images, grant: &Grant, shape: &Shape) -> Result<(), Stop>
-    requires { IsShape shape.now }
-    ensures comes { (reads : ℕ) → Comes (λ done. length images.now * grant.now) (RoomDue (length images.now * grant.now) (shape.now.q - kept_cells)) reads reads result }
-    ensures fits { OnOk result (kept_cells + length images.now * grant.now ≤ shape.now.q) }
-{
-    // At most 8 * 1,048,575.
-    let wanted = images.len() as u32 * grant.cells();
-    let free = shape.q - KEPT_CELLS;
-    if wanted > free {
-        return Err(no_room(wanted, free));
-    }
-    Ok(())
 }
