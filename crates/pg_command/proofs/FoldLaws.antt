@@ -1,6 +1,6 @@
 -- What the loops over the table build.
-use Rattle.std.proofs.Common.{◌≡◌, ◌∙◌, ◌++◌, ◌+◌, ◌<◌, ap, sym, ℕ, suc, List, [], ◌∷◌, map, drop, drop-cons, length, slice_index_or, arith}
-use Rattle.std.proofs.lemmas.List.{append-nil, append_assoc}
+use Rattle.std.proofs.Common.{◌≡◌, ◌∙◌, ◌++◌, ◌+◌, ◌<◌, ap, sym, ℕ, List, [], ◌∷◌, map, drop, length, slice_index_or}
+use Rattle.std.proofs.lemmas.List.{append-nil, append_assoc, drop_more}
 use Rattle.std.specs.Prelude.{fold}
 use Rattle.clap.specs.Walk.{Rule}
 use Rattle.clap.specs.Simple.{App, with_rule, with_subcommand}
@@ -25,11 +25,6 @@ with_rules_none a = ap (λ (rs : List Rule). record a { top = record a.top { rul
 abbrev pub rules_of : List Argument → List Rule
 rules_of arguments = map rule (map argument_of arguments)
 
-split : {X : Type 0} (xs : List X) (i : ℕ) (d : X) → i < length xs → drop i xs ≡ slice_index_or xs i d ∷ drop (i + 1) xs
-split xs i d within =
-    let next : suc i ≡ i + 1 = omega arith in
-    drop-cons xs i d within ∙ ap (λ k. slice_index_or xs i d ∷ drop k xs) next
-
 -- one argument more has joined
 pub rule_joined : (arguments : List Argument) (i : ℕ) (d : Argument) (old new : App) (r : Rule) → i < length arguments
     → r ≡ rule (argument_of (slice_index_or arguments i d)) → new ≡ with_rule old r
@@ -37,7 +32,7 @@ pub rule_joined : (arguments : List Argument) (i : ℕ) (d : Argument) (old new 
 rule_joined arguments i d old new r within is joined =
     let rest = rules_of (drop (i + 1) arguments) in
     ap (λ (a : App). with_rules a rest) joined ∙ with_rule_first old r rest ∙ ap (λ (x : Rule). with_rules old (x ∷ rest)) is
-    ∙ ap (λ (xs : List Argument). with_rules old (rules_of xs)) (sym (split arguments i d within))
+    ∙ ap (λ (xs : List Argument). with_rules old (rules_of xs)) (sym (drop_more arguments i d within))
 
 -- a line with these commands in turn
 abbrev pub with_commands : App → List CommandName → App
@@ -50,4 +45,4 @@ pub command_joined : (cs : List CommandName) (i : ℕ) (d : CommandName) (old ne
 command_joined cs i d old new s within is joined =
     let rest = drop (i + 1) cs in
     ap (λ (a : App). with_commands a rest) joined ∙ ap (λ (x : Synopsis). with_commands (with_subcommand old (shape x)) rest) is
-    ∙ ap (λ (xs : List CommandName). with_commands old xs) (sym (split cs i d within))
+    ∙ ap (λ (xs : List CommandName). with_commands old xs) (sym (drop_more cs i d within))
