@@ -1,6 +1,6 @@
 -- What the loops over the table build.
 use Rattle.std.proofs.Common.{◌≡◌, ◌∙◌, ◌++◌, ◌+◌, ◌<◌, ap, sym, ℕ, List, [], ◌∷◌, map, drop, length, slice_index_or}
-use Rattle.std.proofs.lemmas.List.{append-nil, append_assoc, drop_more}
+use Rattle.std.proofs.lemmas.List.{append_assoc, drop_more}
 use Rattle.std.specs.Prelude.{fold}
 use Rattle.clap.specs.Walk.{Rule}
 use Rattle.clap.specs.Simple.{App, with_rule, with_subcommand}
@@ -17,9 +17,6 @@ with_rules a rules = record a { top = record a.top { rules = a.top.rules ++ rule
 
 pub with_rule_first : (a : App) (r : Rule) (rules : List Rule) → with_rules (with_rule a r) rules ≡ with_rules a (r ∷ rules)
 with_rule_first a r rules = ap (λ (rs : List Rule). record a { top = record a.top { rules = rs } }) (append_assoc a.top.rules (r ∷ []) rules)
-
-pub with_rules_none : (a : App) → with_rules a [] ≡ a
-with_rules_none a = ap (λ (rs : List Rule). record a { top = record a.top { rules = rs } }) (append-nil a.top.rules)
 
 -- the rules of these arguments
 abbrev pub rules_of : List Argument → List Rule
@@ -45,4 +42,4 @@ pub command_joined : (cs : List CommandName) (i : ℕ) (d : CommandName) (old ne
 command_joined cs i d old new s within is joined =
     let rest = drop (i + 1) cs in
     ap (λ (a : App). with_commands a rest) joined ∙ ap (λ (x : Synopsis). with_commands (with_subcommand old (shape x)) rest) is
-    ∙ ap (λ (xs : List CommandName). with_commands old xs) (sym (drop_more cs i d within))
+    ∙ ap (with_commands old) (sym (drop_more cs i d within))
