@@ -1,28 +1,26 @@
 -- What the words ask for, by whether the line has a fault at them.
-use Rattle.std.proofs.Common.{◌≡◌, ◌≢◌, ◌∙◌, ◌⊎◌, ap, sym, subst, refl, Bool, true, false, true≢false, List, [], ◌∷◌, Option, Some, None, codes, cond, inl, inr}
-use Rattle.std.specs.Prelude.{◌↔◌, Err, IsErrOf, Ok, Result, option_and_then}
+use Rattle.std.proofs.Common.{◌≡◌, ◌≢◌, ◌∙◌, ◌⊎◌, ap, sym, subst, refl, Bool, true, false, true≢false, List, [], ◌∷◌, Option, Some, None, codes, inl, inr}
+use Rattle.std.specs.Prelude.{◌↔◌, Err, IsErrOf, Ok, Result}
 use Rattle.std.specs.Option.{is_some}
-use Rattle.std.specs.Str.{bytes_eq}
-use Rattle.std.proofs.lemmas.Slice.Eq.{bytes_eq-Decides}
 use Rattle.clap.specs.Walk.{Row, Text}
 use Rattle.clap.specs.Simple.{subcommand_of}
 use Rattle.clap.specs.Kinds.{IsAmong, Kinds}
 use Rattle.clap.specs.Faults.{fault_of}
 use Rattle.clap.specs.declared.error.kind.ErrorKind.{ErrorKind}
 use Rattle.clap.specs.declared.error.kind.ErrorKind.TheVariants.{OutOfMemory}
-use Rattle.pg_command.specs.Asked.{NamesTooManyImages, asked_of, named_as, request_of, unless_fault}
-use Rattle.pg_command.specs.Entries.{Entry}
-use Rattle.pg_command.specs.Reads.{HoldsCommand, HoldsOne, WhereTrue}
+use Rattle.pg_command.specs.Asked.{NamesTooManyImages, named_as, request_of, unless_fault}
+use Rattle.pg_command.specs.Entered.{HoldsCommand}
 use Rattle.pg_command.specs.Run.{HasTooManyImages}
-use Rattle.pg_command.proofs.CommandLaws.{AllAsk, AsksTooMuch, all_ask}
+use Rattle.pg_command.proofs.AskLaws.{AsksTooMuch, all_ask, run_asks_nothing}
+use Rattle.pg_command.proofs.EnteredLaws.{asks_of}
 use Rattle.pg_command.proofs.LineLaws.{line_holds}
 use Rattle.pg_command.proofs.RowLaws.{fault_absurd}
-use Rattle.pg_command.proofs.RunLaws.{run_asks_nothing}
-use Rattle.pg_command.specs.Line.{commands, line}
-use Rattle.pg_command.specs.declared.ask.Request.{Request}
-use Rattle.pg_command.specs.declared.ask.Request.TheVariants as request
-use Rattle.pg_command.specs.declared.ask.Fault.{Fault}
-use Rattle.pg_command.specs.declared.ask.Fault.TheVariants.{Memory, Refused}
+use Rattle.pg_command.specs.Line.{line}
+use Rattle.pg_asked.specs.Commands.{synopsis}
+use Rattle.pg_asked.specs.declared.ask.Request.{Request}
+use Rattle.pg_asked.specs.declared.names.CommandName.{CommandName}
+use Rattle.pg_asked.specs.declared.ask.Fault.{Fault}
+use Rattle.pg_asked.specs.declared.ask.Fault.TheVariants.{Memory, Refused}
 
 -- without a fault the command that was named says it
 pub asks_by_name : (words : List Text) → fault_of line words ≡ [] → request_of words ≡ named_as (subcommand_of line words)
@@ -38,30 +36,19 @@ pub asks_nothing : (words : List Text) → fault_of line words ≢ [] → reques
 unfolding request_of
 asks_nothing words some = hidden (fault_of line words) (named_as (subcommand_of line words)) some
 
-one_asks : (es : List Entry) (name : Text) (rows : List Row) → AllAsk es → HoldsOne es name rows
-    → (is_some (asked_of es name rows) ≡ true) ⊎ AsksTooMuch name rows
-one_asks [] name rows each holds = absurd holds
-one_asks (e ∷ more) name rows each holds = go (bytes_eq name e.shape.name) refl holds (one_asks more name rows each.1)
-  where
-    go : (b : Bool) → bytes_eq name e.shape.name ≡ b → WhereTrue b (e.Holds rows) (HoldsOne more name rows)
-        → (HoldsOne more name rows → (is_some (asked_of more name rows) ≡ true) ⊎ AsksTooMuch name rows)
-        → (is_some (cond b (e.asks rows) (asked_of more name rows)) ≡ true) ⊎ AsksTooMuch name rows
-    go true is h rest =
-        let same : name ≡ e.shape.name = (bytes_eq-Decides name e.shape.name).0 is in
-        subst (λ (n : Text). (is_some (e.asks rows) ≡ true) ⊎ AsksTooMuch n rows) (sym same) (each.0 rows h)
-    go false is h rest = rest h
-
 -- what a command that was named holds is something to ask for, or asks too much
-holds_request : (named : Option (Text × List Row)) (held : HoldsCommand named)
-    → (is_some (named_as named) ≡ true) ⊎ AsksTooMuch held.name held.rows
-holds_request named held = elim (one_asks commands held.name held.rows all_ask held.holds) [
-  | inl some ↦ inl (ap (λ (o : Option (Text × List Row)). is_some (named_as o)) held.is_named ∙ some)
-  | inr much ↦ inr much
-]
+holds_request : (entered : Option (Text × List Row)) (held : HoldsCommand entered)
+    → (is_some (named_as entered) ≡ true) ⊎ AsksTooMuch held.command held.rows
+holds_request entered held =
+    let asks = asks_of entered held in
+    elim (all_ask held.command held.rows held.holds) [
+      | inl some ↦ inl (ap is_some asks ∙ some)
+      | inr much ↦ inr much
+    ]
 
 -- of too many images `run` asks for nothing
-run_refuses : (named : Option (Text × List Row)) (rows : List Row) → named ≡ Some (codes "run", rows) → HasTooManyImages rows → named_as named ≡ None
-run_refuses named rows is many = ap named_as is ∙ ap (option_and_then (λ words. Some (request.Run words))) (run_asks_nothing rows many)
+run_refuses : (entered : Option (Text × List Row)) (rows : List Row) → entered ≡ Some (codes "run", rows) → HasTooManyImages rows → named_as entered ≡ None
+run_refuses entered rows is many = ap named_as is ∙ run_asks_nothing rows many
 
 hides_nothing : {X : Type 0} (ks : Kinds) (asked : Option X) → asked ≡ None → unless_fault ks asked ≡ None
 hides_nothing [] asked none = none
@@ -83,7 +70,7 @@ nothing_without_fault words nothing none =
       | inl some ↦ absurd (true≢false (sym (ap is_some (asks_by_name words none) ∙ some) ∙ ap is_some nothing))
       | inr much ↦ record {
         rows = held.rows;
-        is_run = held.is_named ∙ ap (λ (name : Text). Some (name, held.rows)) much.0;
+        is_run = held.is_entered ∙ ap (λ (command : CommandName). Some ((synopsis command).name, held.rows)) much.0;
         are_too_many = much.1;
       }
     ]

@@ -1,22 +1,39 @@
 -- What the words of a command line ask for.
-use Rattle.std.specs.Prelude.{◌≡◌, List, [], ◌∷◌, Option, Some, None, codes, cond, option_and_then}
-use Rattle.std.specs.Str.{bytes_eq}
+use Rattle.std.specs.Prelude.{◌≡◌, List, [], ◌∷◌, Option, Some, None, codes, option_and_then, option_map}
 use Rattle.clap.specs.Walk.{Row, Text}
 use Rattle.clap.specs.Simple.{subcommand_of}
 use Rattle.clap.specs.Faults.{fault_of}
 use Rattle.clap.specs.Kinds.{Kinds}
-use Rattle.pg_command.specs.Entries.{Entry}
-use Rattle.pg_command.specs.Line.{commands, line}
-use Rattle.pg_command.specs.Run.{HasTooManyImages}
-use Rattle.pg_command.specs.declared.ask.Request.{Request}
+use Rattle.pg_asked.specs.Commands.{commands, named}
+use Rattle.pg_asked.specs.declared.ask.Request.{Request}
+use Rattle.pg_asked.specs.declared.ask.Request.TheVariants as request
+use Rattle.pg_asked.specs.declared.names.CommandName.{CommandName}
+use Rattle.pg_asked.specs.declared.names.CommandName.TheVariants.{Bare, Check, Gen, Hcheck, Migrate, Print, Replay, Run, Verify}
+use Rattle.pg_command.specs.Line.{line}
+use Rattle.pg_command.specs.Bare.{bare_of}
+use Rattle.pg_command.specs.Check.{check_of}
+use Rattle.pg_command.specs.Verify.{verify_of}
+use Rattle.pg_command.specs.Replay.{replay_of}
+use Rattle.pg_command.specs.Run.{HasTooManyImages, run_of}
+use Rattle.pg_command.specs.Print.{print_of}
+use Rattle.pg_command.specs.Generating.{gen_of}
+use Rattle.pg_command.specs.Migrate.{migrate_of}
 
--- what the command of a name asks for, by the values of its arguments
-abbrev pub asked_of : List Entry → Text → List Row → Option Request
-asked_of [] name rows = None
-asked_of (e ∷ more) name rows = cond (bytes_eq name e.shape.name) (e.asks rows) (asked_of more name rows)
+-- what a command asks for, by the values of its arguments
+abbrev pub asked_of : CommandName → List Row → Option Request
+asked_of Bare rows = option_map request.Bare (bare_of rows)
+asked_of Check rows = option_map request.Check (check_of rows)
+asked_of Verify rows = option_map request.Verify (verify_of rows)
+asked_of Replay rows = option_map request.Replay (replay_of rows)
+asked_of Run rows = option_map request.Run (run_of rows)
+asked_of Print rows = option_map request.Print (print_of rows)
+asked_of Gen rows = option_map request.Gen (gen_of rows)
+asked_of Migrate rows = option_map request.Migrate (migrate_of rows)
+asked_of Hcheck rows = option_map request.Hcheck (check_of rows)
 
+-- what the command of a name asks for
 abbrev pub named_as : Option (Text × List Row) → Option Request
-named_as = option_and_then (λ p. asked_of commands p.0 p.1)
+named_as = option_and_then (λ p. option_and_then (λ command. asked_of command p.1) (named commands p.0))
 
 -- nothing, where there is a fault
 abbrev pub unless_fault : {X : Type 0} → Kinds → Option X → Option X

@@ -2,14 +2,11 @@ pub mod Arguments
 pub mod Asked
 pub mod Bare
 pub mod Check
-pub mod Entries
+pub mod Entered
 pub mod Generating
-pub mod Hcheck
 pub mod Line
 pub mod Migrate
 pub mod Print
-pub mod Reads
 pub mod Replay
 pub mod Run
-pub mod Running
 pub mod Verify

@@ -1,30 +1,13 @@
--- The command line of the program, as plain data: its commands, and the whole line.
-use Rattle.std.specs.Prelude.{List, [], ◌∷◌, map, true, false, codes}
+-- The command line of the program, as plain data: each command as its synopsis says, and the whole line.
+use Rattle.std.specs.Prelude.{map, true, false, codes}
 use Rattle.clap.specs.Simple.{App, Shape, new_shape}
-use Rattle.pg_command.specs.Entries.{Entry}
-use Rattle.pg_command.specs.Bare.{bare}
-use Rattle.pg_command.specs.Check.{check}
-use Rattle.pg_command.specs.Verify.{verify}
-use Rattle.pg_command.specs.Replay.{replay}
-use Rattle.pg_command.specs.Run.{run}
-use Rattle.pg_command.specs.Print.{print}
-use Rattle.pg_command.specs.Generating.{gen}
-use Rattle.pg_command.specs.Migrate.{migrate}
-use Rattle.pg_command.specs.Hcheck.{hcheck}
+use Rattle.pg_asked.specs.Commands.{commands, synopsis}
+use Rattle.pg_asked.specs.Synopses.{Synopsis}
+use Rattle.pg_command.specs.Arguments.{rule}
 
--- the commands, a row for each
-abbrev pub commands : List Entry
-commands =
-    bare
-    ∷ check
-    ∷ verify
-    ∷ replay
-    ∷ run
-    ∷ print
-    ∷ gen
-    ∷ migrate
-    ∷ hcheck
-    ∷ []
+-- a command with its arguments
+abbrev pub shape : Synopsis → Shape
+shape s = record (new_shape s.name) { rules = map rule s.arguments }
 
 -- the program: a command has to be named, and there is no word for help or the version
 abbrev pub program : Shape
@@ -38,4 +21,4 @@ program = record (new_shape (codes "pgv")) {
 
 -- the whole command line
 abbrev pub line : App
-line = record { top = program; subs = map (λ e. e.shape) commands }
+line = record { top = program; subs = map (λ command. shape (synopsis command)) commands }

@@ -1,24 +1,9 @@
 -- The command `verify DESC CERT`.
-use Rattle.std.specs.Prelude.{List, [], ◌∷◌, Option, Some, codes, option_and_then}
+use Rattle.std.specs.Prelude.{List, Option, Some, codes}
 use Rattle.clap.specs.Walk.{Row}
-use Rattle.clap.specs.Simple.{new_shape}
-use Rattle.pg_command.specs.Arguments.{HasText, place, with_text}
-use Rattle.pg_command.specs.Entries.{Entry}
-use Rattle.pg_command.specs.declared.verify.VerifyWords.{VerifyWords}
-use Rattle.pg_command.specs.declared.ask.Request.TheVariants as request
+use Rattle.pg_command.specs.Arguments.{with_text}
+use Rattle.pg_asked.specs.declared.verify.VerifyWords.{VerifyWords}
 
 -- what the arguments ask for
 abbrev pub verify_of : List Row → Option VerifyWords
 verify_of rows = with_text (codes "DESC") rows (λ desc. with_text (codes "CERT") rows (λ cert. Some (record { desc = desc; cert = cert })))
-
--- what the arguments hold once their words were taken
-pub record HoldsVerify (rows : List Row) : Type 0 where
-  pub desc : HasText (codes "DESC") rows
-  pub cert : HasText (codes "CERT") rows
-
-abbrev pub verify : Entry
-verify = record {
-  shape = record (new_shape (codes "verify")) { rules = place (codes "DESC") ∷ place (codes "CERT") ∷ [] };
-  Holds = HoldsVerify;
-  asks = λ rows. option_and_then (λ words. Some (request.Verify words)) (verify_of rows);
-}

@@ -11,17 +11,17 @@
 //! within their bounds, is proved of `clap`'s rules and not tested again, so the only other answer is that there was no
 //! memory.
 //!
-//! A command is a module of its own, as [`print`](PrintWords): what it adds to the line, and what its arguments ask for. A
-//! command more is such a module in the code, in the definitions and among the laws, each named in its `Lib.antt`; a variant
-//! of [`Request`]; and a line in each place where commands are told apart: `command_line` and `asked` (`line.rt`), `commands`
-//! (`specs/Line.antt`), and the two laws of each command (`proofs/CommandLaws.antt`).
+//! The line is built of the table of commands (`pg_asked`): a row of it is a command of the line, and each of its arguments a
+//! rule. What its arguments ask for is a small module a command here, as `print`. A command more is such a module in the code
+//! and in the definitions, each named in its list of modules; and a line in each place where commands are told apart: `asked_of`
+//! (`entered.rt`, `specs/Asked.antt`), and two laws (`named_by` of `proofs/LineLaws.antt`, `all_ask` of `proofs/AskLaws.antt`).
 //!
 //! # Modules
 //!
-//! - `line`: the whole line. `ask`: what it asks for, and why there is nothing that it asks for.
-//! - `bare`, `check`, `verify`, `replay`, `run`, `print`, `generating` (the command `gen`), `migrate`, `hcheck`: the commands.
-//! - `arguments`: the arguments that commands are made of. `running`: those of commands that run images. `values`: what arguments
-//!   give.
+//! - `line`: the whole line. `entered`: the command that was named, and what it asks for.
+//! - `bare`, `check`, `verify`, `replay`, `run`, `print`, `generating` (the command `gen`), `migrate`, `hcheck`: what each command
+//!   asks for. `running`: what the arguments of commands that run images give.
+//! - `arguments`: how `clap` is told of an argument, and how its value is read.
 #![tactic(auto)]
 
 ghost use Rattle.std.specs.Prelude.{◌≡◌, ◌≢◌, ◌↔◌, ◌⊎◌, IfOk, IsErrOf, Some, None, [], map, string_bytes};
@@ -29,12 +29,12 @@ ghost use Rattle.clap.specs.Faults.{fault_of};
 ghost use Rattle.clap.specs.declared.error.kind.ErrorKind.TheVariants.{OutOfMemory};
 ghost use Rattle.pg_command.specs.Asked.{NamesTooManyImages, request_of};
 ghost use Rattle.pg_command.specs.Line.{line};
-ghost use Rattle.pg_command.specs.declared.ask.Fault.TheVariants.{Memory, Refused};
+ghost use Rattle.pg_asked.specs.declared.ask.Fault.TheVariants.{Memory, Refused};
 
 mod arguments;
-mod ask;
 mod bare;
 mod check;
+mod entered;
 mod generating;
 mod hcheck;
 mod line;
@@ -43,22 +43,16 @@ mod print;
 mod replay;
 mod run;
 mod running;
-mod values;
 mod verify;
 
-pub use ask::{Fault, Request};
-pub use bare::BareWords;
-pub use check::CheckWords;
 use clap::error::ErrorKind;
-pub use generating::GenWords;
-use line::{asked, command_line};
-pub use migrate::MigrateWords;
-pub use print::PrintWords;
-pub use replay::ReplayWords;
-pub use run::RunWords;
+use entered::asked;
+use line::command_line;
+pub use pg_asked::{
+    BareWords, Budget, CheckWords, Count, Fault, FileName, GenWords, Grant, Images, MigrateWords,
+    PrintWords, ReplayWords, Request, RunWords, Slice, Steps, VerifyWords,
+};
 use std::alloc::Global;
-pub use values::{Budget, Count, FileName, Grant, Images, Slice, Steps};
-pub use verify::VerifyWords;
 
 /// What the words ask for, of which the first is the program's name.
 ///

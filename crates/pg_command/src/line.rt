@@ -1,32 +1,26 @@
-//! The whole command line: one line for each command.
-//!
-//! Each command has a module of its own, which adds it to the program and reads what its arguments ask for. Here they are
-//! joined, in the order of the definitions: a command more is a line in each of the two functions.
-ghost use Rattle.std.specs.Prelude.{◌≡◌, IfOk, Some, [], true};
-ghost use Rattle.clap.specs.Words.{app_of, subcommand_rows_of};
+//! The whole command line, made of the table of commands.
+ghost use Rattle.std.specs.Prelude.{◌≡◌, IfOk, [], false, true};
+ghost use Rattle.clap.specs.Words.{app_of};
+ghost use Rattle.clap.specs.declared.builder.command.Command.TheViews.{out-Command};
+ghost use Rattle.pg_asked.specs.Synopses.{synopsis_of};
 ghost use Rattle.pg_command.specs.Line as spec;
-ghost use Rattle.pg_command.specs.Line.{line};
-ghost use Rattle.pg_command.specs.Asked.{named_as};
-ghost use Rattle.pg_command.specs.Reads.{HoldsCommand};
+ghost use Rattle.pg_command.specs.Line.{line, shape};
 
-use crate::ask::Request;
-use crate::{bare, check, generating, hcheck, migrate, print, replay, run, verify};
-use clap::{ArgMatches, Command};
+use crate::arguments::rule;
+use clap::Command;
+use pg_asked::{Synopsis, commands};
 use std::alloc::{AllocError, Global};
 
-/// The whole command line, as `clap` builds it.
+/// The whole command line, as `clap` builds it: a row of the table after another.
 pub(crate) fn command_line<'a>(alloc: Global) -> Result<Command<'a>, AllocError>
     ensures { IfOk result (λ c. app_of c ≡ line) }
 {
-    let with_bare = bare::added(alloc, program(alloc))?;
-    let with_check = check::added(alloc, with_bare)?;
-    let with_verify = verify::added(alloc, with_check)?;
-    let with_replay = replay::added(alloc, with_verify)?;
-    let with_run = run::added(alloc, with_replay)?;
-    let with_print = print::added(alloc, with_run)?;
-    let with_gen = generating::added(alloc, with_print)?;
-    let with_migrate = migrate::added(alloc, with_gen)?;
-    hcheck::added(alloc, with_migrate)
+    let mut whole = program(alloc);
+    for command in commands() {
+        let next = subcommand(alloc, command.synopsis())?;
+        whole = whole.subcommand(next)?;
+    }
+    Ok(whole)
 }
 
 /// The program without a command: one has to be named, and there is no word for help or the version.
@@ -40,37 +34,14 @@ fn program<'a>(alloc: Global) -> Command<'a>
         .subcommand_required(true)
 }
 
-/// What the command that was named asks for, if the program does not refuse its arguments.
-pub(crate) fn asked(alloc: Global, matches: &ArgMatches<'_>) -> Result<Option<Request>, AllocError>
-    requires { HoldsCommand (subcommand_rows_of matches.now) }
-    ensures { IfOk result (λ r. named_as (subcommand_rows_of matches.now) ≡ r) }
+/// A command with its arguments.
+fn subcommand<'a>(alloc: Global, synopsis: Synopsis) -> Result<Command<'a>, AllocError>
+    ensures app { IfOk result (λ c. app_of c ≡ record { top = shape (synopsis_of synopsis); subs = [] }) }
+    ensures local { IfOk result (λ c. (out-Command c).has_globals ≡ false) }
 {
-    if let Some(found) = matches.subcommand_matches("bare") {
-        return Ok(Some(bare::asked(alloc, found)?));
+    let mut command = Command::new(alloc, synopsis.name);
+    for argument in synopsis.arguments {
+        command = command.arg(rule(alloc, *argument))?;
     }
-    if let Some(found) = matches.subcommand_matches("check") {
-        return Ok(Some(check::asked(alloc, found)?));
-    }
-    if let Some(found) = matches.subcommand_matches("verify") {
-        return Ok(Some(verify::asked(alloc, found)?));
-    }
-    if let Some(found) = matches.subcommand_matches("replay") {
-        return Ok(Some(replay::asked(alloc, found)?));
-    }
-    if let Some(found) = matches.subcommand_matches("run") {
-        return run::asked(alloc, found);
-    }
-    if let Some(found) = matches.subcommand_matches("print") {
-        return Ok(Some(print::asked(alloc, found)?));
-    }
-    if let Some(found) = matches.subcommand_matches("gen") {
-        return Ok(Some(generating::asked(alloc, found)?));
-    }
-    if let Some(found) = matches.subcommand_matches("migrate") {
-        return Ok(Some(migrate::asked(alloc, found)?));
-    }
-    if let Some(found) = matches.subcommand_matches("hcheck") {
-        return Ok(Some(hcheck::asked(alloc, found)?));
-    }
-    unreachable!()
+    Ok(command)
 }

@@ -12,7 +12,7 @@ ghost use Rattle.pg_steps.specs.Answering.{Comes, OnlyReads};
 
 use crate::described::machine_of;
 use crate::imaged::image_of;
-use pg_command::FileName;
+use pg_asked::FileName;
 use pg_edge::Shelf;
 use pg_image::{IMAGE_BYTES, Image};
 use pg_machine::Machine;

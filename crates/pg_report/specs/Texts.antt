@@ -1,4 +1,4 @@
--- The texts of refusals and of usage: what is put where a command is refused. Every line ends with LF; numbers are decimal.
+-- The texts of refusals: what is put where a command is refused. Every line ends with LF; numbers are decimal.
 use Rattle.std.specs.Prelude.{ℕ, List, [], ◌∷◌, ◌++◌, take, codes}
 use Rattle.std.specs.Fmt.{decimal}
 use Rattle.pg_token.specs.Words.{most_name_bytes}
@@ -73,35 +73,3 @@ refusal_text (Description line) = codes "description: " ++ description_text line
 refusal_text (Image number line) = codes "image " ++ decimal number ++ codes ": " ++ image_text line ++ 10 ∷ []
 refusal_text (Certificate line) = codes "certificate: " ++ certificate_text line ++ 10 ∷ []
 refusal_text (Room wanted free) = codes "room " ++ two_numbers wanted free ++ 10 ∷ []
-
--- how each command is called
-abbrev pub usage_bare : List ℕ
-usage_bare = codes "pgv bare DESC IMAGE --grant G --steps N" ++ 10 ∷ []
-
-abbrev pub usage_check : List ℕ
-usage_check = codes "pgv check DESC --cert FILE [--budget K]" ++ 10 ∷ []
-
-abbrev pub usage_verify : List ℕ
-usage_verify = codes "pgv verify DESC CERT" ++ 10 ∷ []
-
-abbrev pub usage_replay : List ℕ
-usage_replay = codes "pgv replay DESC CERT" ++ 10 ∷ []
-
-abbrev pub usage_run : List ℕ
-usage_run = codes "pgv run DESC CERT IMAGE.. --grant G --steps N [--slice K]" ++ 10 ∷ []
-
-abbrev pub usage_print : List ℕ
-usage_print = codes "pgv print DESC" ++ 10 ∷ []
-
-abbrev pub usage_gen : List ℕ
-usage_gen = codes "pgv gen NUMBER SIZE --cert FILE" ++ 10 ∷ []
-
-abbrev pub usage_migrate : List ℕ
-usage_migrate = codes "pgv migrate DESC CERT FILE" ++ 10 ∷ []
-
-abbrev pub usage_hcheck : List ℕ
-usage_hcheck = codes "pgv hcheck DESC --cert FILE [--budget K]" ++ 10 ∷ []
-
--- one line for each command
-unfoldable pub usage_text : List ℕ
-usage_text = usage_bare ++ usage_check ++ usage_verify ++ usage_replay ++ usage_run ++ usage_print ++ usage_gen ++ usage_migrate ++ usage_hcheck

@@ -2,17 +2,18 @@
 //!
 //! `pg_tool` puts one of these where it refuses a command, and then nothing else. A refusal is one line, made whole before
 //! it is put: each function that pushes says how many bytes it may need, 72 for the whole, so that the line fits its buffer.
-//! The texts, byte for byte, are in `specs/Texts.antt`.
+//! The texts of refusals, byte for byte, are in `specs/Texts.antt`. The lines of usage stand in the table of commands.
 
 ghost use Rattle.std.specs.Prelude.{◌≡◌, ◌+◌, ◌≤◌, ◌++◌};
 ghost use Rattle.arrayvec.specs.ArrayVec.{array_vec_len};
+ghost use Rattle.pg_asked.specs.Commands.{usage_text};
 ghost use Rattle.pg_edge.specs.Sink.{Puts};
 ghost use Rattle.pg_image.specs.Lines.{most_line_bytes};
-ghost use Rattle.pg_report.specs.Texts.{limit_number, description_text, image_text, certificate_text, refusal_text, usage_text};
+ghost use Rattle.pg_report.specs.Texts.{limit_number, description_text, image_text, certificate_text, refusal_text};
 
 use crate::line::{CertificateLine, DescriptionLine, ImageLine, RefusalLine};
 use crate::push::{push_at, push_kind, push_name, push_pair};
-use crate::text::put_text;
+use pg_asked::commands;
 use pg_edge::{Failed, Sink};
 use pg_image::{Line, push};
 use pg_valid::Limit;
@@ -28,23 +29,18 @@ pub fn put_refusal<S: Sink>(out: &mut S, line: &RefusalLine) -> Result<(), Faile
     out.put(refusal_line(line).as_slice())
 }
 
-/// Puts the lines that say how the program is called, one for each command.
+/// Puts the lines that say how the program is called, one for each command, in the order of their table.
 ///
 /// # Errors
 /// `Failed` where not all of them went through. A front of them may have.
-#[tactic(auto, unfolding(crate::specs::Texts::usage_text))]
 pub fn put_usage<S: Sink>(out: &mut S) -> Result<(), Failed>
     ensures { Puts (S.written out.old) (S.written out.new) (S.faults out.old) (S.faults out.new)
         usage_text result }
 {
-    put_text(
-        out,
-        b"pgv bare DESC IMAGE --grant G --steps N\n\
-          pgv check DESC --cert FILE [--budget K]\npgv verify DESC CERT\n\
-          pgv replay DESC CERT\npgv run DESC CERT IMAGE.. --grant G --steps N [--slice K]\n\
-          pgv print DESC\npgv gen NUMBER SIZE --cert FILE\npgv migrate DESC CERT FILE\n\
-          pgv hcheck DESC --cert FILE [--budget K]\n",
-    )
+    for command in commands() {
+        out.put(command.synopsis().usage.as_bytes())?;
+    }
+    Ok(())
 }
 
 /// The line of a refusal, with its LF.

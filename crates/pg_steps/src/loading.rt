@@ -11,7 +11,7 @@ ghost use Rattle.pg_steps.specs.Answering.{OnlyReads, stop_as};
 ghost use Rattle.pg_steps.specs.FileSteps.{HoldsWithin};
 
 use crate::refusal::{Refusal, Stop};
-use pg_command::FileName;
+use pg_asked::FileName;
 use pg_edge::{LoadFault, Shelf};
 use pg_report::RefusalLine;
 use std::alloc::Global;

@@ -2,9 +2,9 @@
 use Rattle.std.proofs.Common.{◌≡◌, ◌≢◌, ℕ, List, Option, Some, None, refl, sym, subst}
 use Rattle.pg_edge.specs.Shelf.{Files}
 use Rattle.pg_command.specs.Asked.{request_of}
-use Rattle.pg_command.specs.declared.ask.Request.{Request}
-use Rattle.pg_command.specs.declared.ask.Fault.{Fault}
-use Rattle.pg_command.specs.declared.ask.Fault.TheVariants as fault
+use Rattle.pg_asked.specs.declared.ask.Request.{Request}
+use Rattle.pg_asked.specs.declared.ask.Fault.{Fault}
+use Rattle.pg_asked.specs.declared.ask.Fault.TheVariants as fault
 use Rattle.pg_steps.specs.declared.status.Status.{Status}
 use Rattle.pg_steps.specs.declared.status.Status.TheVariants as status
 use Rattle.pg_steps.specs.Answering.{Stops}

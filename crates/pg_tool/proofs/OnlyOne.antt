@@ -2,8 +2,8 @@
 use Rattle.std.proofs.Common.{List, ℕ, Option, Some, None, Ok, Err, sym, ◌∙◌, ap}
 use Rattle.pg_cert.specs.declared.cert.Family.TheVariants.{Plain}
 use Rattle.pg_command.specs.Asked.{request_of}
-use Rattle.pg_command.specs.declared.ask.Request.{Request}
-use Rattle.pg_command.specs.declared.ask.Request.TheVariants as request
+use Rattle.pg_asked.specs.declared.ask.Request.{Request}
+use Rattle.pg_asked.specs.declared.ask.Request.TheVariants as request
 use Rattle.pg_edge.specs.Shelf.{Files}
 use Rattle.pg_inputs.proofs.OneInput.{one-desc}
 use Rattle.pg_judged.proofs.OneJudged.{one-judged}

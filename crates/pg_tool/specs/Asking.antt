@@ -2,10 +2,10 @@
 use Rattle.std.specs.Prelude.{◌≡◌, ℕ, List, Option, None, Some}
 use Rattle.pg_cert.specs.declared.cert.Family.TheVariants.{Plain, Hybrid}
 use Rattle.pg_command.specs.Asked.{request_of}
-use Rattle.pg_command.specs.declared.ask.Fault.{Fault}
-use Rattle.pg_command.specs.declared.ask.Fault.TheVariants as words
-use Rattle.pg_command.specs.declared.ask.Request.{Request}
-use Rattle.pg_command.specs.declared.ask.Request.TheVariants as request
+use Rattle.pg_asked.specs.declared.ask.Fault.{Fault}
+use Rattle.pg_asked.specs.declared.ask.Fault.TheVariants as words
+use Rattle.pg_asked.specs.declared.ask.Request.{Request}
+use Rattle.pg_asked.specs.declared.ask.Request.TheVariants as request
 use Rattle.pg_steps.specs.declared.refusal.Refusal.{Refusal}
 use Rattle.pg_steps.specs.declared.refusal.Refusal.TheVariants.{Words}
 use Rattle.pg_steps.specs.declared.refusal.Stop.{Stop}

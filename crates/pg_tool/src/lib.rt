@@ -26,7 +26,8 @@ pub mod laws;
 
 use pg_cert::Family;
 pub use pg_classify::{Silent, Watcher};
-use pg_command::{Fault, Request, request};
+use pg_asked::{Fault, Request};
+use pg_command::request;
 use pg_edge::{Shelf, Sink};
 use pg_hw::Hardware;
 use pg_steps::{Stop, stopped};

@@ -10,7 +10,7 @@ use Rattle.pg_cert.specs.declared.report.Report.{Report}
 use Rattle.pg_cert.specs.declared.report.Verdict.{Verdict}
 use Rattle.pg_cert.specs.declared.report.Verdict.TheVariants as verdict
 use Rattle.pg_cert.specs.Verdicts.{verdict_of}
-use Rattle.pg_command.specs.declared.generating.GenWords.{GenWords}
+use Rattle.pg_asked.specs.declared.generating.GenWords.{GenWords}
 use Rattle.pg_edge.specs.Told.{BothTold}
 use Rattle.pg_generate.specs.Generated.{IsGenerated}
 use Rattle.pg_generate.specs.Images.{image_cells, image_count, images_of, IsFilled}

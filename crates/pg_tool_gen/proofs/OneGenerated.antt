@@ -1,6 +1,6 @@
 -- `gen` comes to one thing.
 use Rattle.std.proofs.Common.{Some, Ok, Err, ap}
-use Rattle.pg_command.specs.declared.generating.GenWords.{GenWords}
+use Rattle.pg_asked.specs.declared.generating.GenWords.{GenWords}
 use Rattle.pg_edge.specs.Shelf.{Files}
 use Rattle.pg_generate.proofs.OneDescription.{one-generated}
 use Rattle.pg_steps.specs.Steps.{IsOne}

@@ -24,7 +24,7 @@ mod plan;
 
 use pg_cert::Family;
 use pg_classify::Watcher;
-use pg_command::GenWords;
+use pg_asked::GenWords;
 use pg_edge::{Failed, Shelf, Sink};
 use pg_generate::generate;
 use pg_guests::{Ran, put_summaries, run_guests};

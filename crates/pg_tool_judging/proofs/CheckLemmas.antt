@@ -8,7 +8,7 @@ use Rattle.pg_cert.specs.declared.report.Report.{Report}
 use Rattle.pg_cert.specs.Texts.{heading_of, cert_text}
 use Rattle.pg_cert.specs.Verdicts.{mark_of}
 use Rattle.pg_classify.specs.Classified.{IsClassified}
-use Rattle.pg_command.specs.declared.check.CheckWords.{CheckWords}
+use Rattle.pg_asked.specs.declared.check.CheckWords.{CheckWords}
 use Rattle.pg_edge.specs.Told.{BothTold}
 use Rattle.pg_tool_judging.specs.Check.{IsChecked, CheckEnds, CheckUnsaved}
 use Rattle.pg_judged.specs.Judged.{Judged, verdict_on, verdict_status, verdict_told}

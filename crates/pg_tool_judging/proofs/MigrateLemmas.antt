@@ -9,7 +9,7 @@ use Rattle.pg_cert.specs.declared.cert.Family.TheVariants.{Plain}
 use Rattle.pg_cert.specs.declared.report.Report.{Report}
 use Rattle.pg_cert.specs.Texts.{heading_of, cert_text}
 use Rattle.pg_cert.specs.Verdicts.{mark_of}
-use Rattle.pg_command.specs.declared.migrate.MigrateWords.{MigrateWords}
+use Rattle.pg_asked.specs.declared.migrate.MigrateWords.{MigrateWords}
 use Rattle.pg_edge.specs.Shelf.{Files}
 use Rattle.pg_edge.specs.Told.{BothTold}
 use Rattle.pg_report.specs.declared.line.RefusalLine.TheVariants.{Certificate}

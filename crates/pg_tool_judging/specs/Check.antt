@@ -5,7 +5,7 @@ use Rattle.pg_ast.specs.declared.tree.Desc.{Desc}
 use Rattle.pg_cert.specs.declared.cert.Family.{Family}
 use Rattle.pg_cert.specs.declared.report.Report.{Report}
 use Rattle.pg_classify.specs.Classified.{AreSearched}
-use Rattle.pg_command.specs.declared.check.CheckWords.{CheckWords}
+use Rattle.pg_asked.specs.declared.check.CheckWords.{CheckWords}
 use Rattle.pg_edge.specs.Shelf.{Files}
 use Rattle.pg_steps.specs.declared.status.Status.{Status}
 use Rattle.pg_steps.specs.declared.refusal.Refusal.{Refusal}

@@ -4,7 +4,7 @@ use Rattle.pg_ast.specs.declared.tree.Desc.{Desc}
 use Rattle.pg_cert.specs.declared.cert.Cert.{Cert}
 use Rattle.pg_cert.specs.declared.cert.Family.TheVariants.{Plain}
 use Rattle.pg_cert.specs.declared.report.Report.{Report}
-use Rattle.pg_command.specs.declared.migrate.MigrateWords.{MigrateWords}
+use Rattle.pg_asked.specs.declared.migrate.MigrateWords.{MigrateWords}
 use Rattle.pg_edge.specs.Shelf.{Files}
 use Rattle.pg_migrate.specs.Migrated.{IsMigrated}
 use Rattle.pg_verify.specs.Feeding.{most_bytes}

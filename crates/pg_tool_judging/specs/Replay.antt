@@ -1,7 +1,7 @@
 -- `replay`: the states that a certificate shows, and what one step makes of each.
 use Rattle.std.specs.Prelude.{◌≡◌, ℕ, List, None}
 use Rattle.pg_cert.specs.declared.cert.Family.TheVariants.{Plain}
-use Rattle.pg_command.specs.declared.replay.ReplayWords.{ReplayWords}
+use Rattle.pg_asked.specs.declared.replay.ReplayWords.{ReplayWords}
 use Rattle.pg_edge.specs.Sink.{AddsFront}
 use Rattle.pg_edge.specs.Told.{BothTold}
 use Rattle.pg_report.specs.Replays.{replay_text}

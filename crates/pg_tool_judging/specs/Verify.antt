@@ -1,7 +1,7 @@
 -- `verify`: a certificate of a description, and its verdict.
 use Rattle.std.specs.Prelude.{None}
 use Rattle.pg_cert.specs.declared.cert.Family.TheVariants.{Plain}
-use Rattle.pg_command.specs.declared.verify.VerifyWords.{VerifyWords}
+use Rattle.pg_asked.specs.declared.verify.VerifyWords.{VerifyWords}
 use Rattle.pg_judged.specs.Judged.{Judged, JudgedDue}
 use Rattle.pg_judged.specs.Telling.{VerdictEnds}
 use Rattle.pg_steps.specs.Commands.{Command}

@@ -15,7 +15,7 @@ use crate::saving::save_and_tell;
 use crate::written::WrittenCert;
 use pg_cert::{Family, report_of, write};
 use pg_classify::{Watcher, classify_watched};
-use pg_command::CheckWords;
+use pg_asked::CheckWords;
 use pg_edge::{Shelf, Sink};
 use pg_hw::Hardware;
 use pg_inputs::load_machine;

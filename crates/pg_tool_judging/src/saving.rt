@@ -9,7 +9,7 @@ ghost use Rattle.pg_steps.specs.World.{Keeps, around};
 ghost use Rattle.pg_tool_judging.specs.Saving.{HoldsAtMost, HoldsNow, SavedAs};
 
 use crate::written::WrittenCert;
-use pg_command::FileName;
+use pg_asked::FileName;
 use pg_edge::{Failed, Shelf, Sink};
 use pg_hw::Hardware;
 use pg_judged::tell_verdict;

@@ -9,7 +9,7 @@ ghost use Rattle.pg_steps.specs.World.{Keeps, around};
 ghost use Rattle.pg_tool_judging.specs.Verify.{verify_command};
 
 use pg_cert::Family;
-use pg_command::VerifyWords;
+use pg_asked::VerifyWords;
 use pg_edge::{Shelf, Sink};
 use pg_hw::Hardware;
 use pg_judged::{load_judged, tell_verdict};

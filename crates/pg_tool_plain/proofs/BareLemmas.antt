@@ -16,7 +16,7 @@ use Rattle.pg_hw.specs.Serving.{blank}
 use Rattle.pg_hw.specs.Tallies.{after_load}
 use Rattle.pg_image.specs.Lines.{state_text}
 use Rattle.pg_report.specs.Spans.{span}
-use Rattle.pg_command.specs.declared.bare.BareWords.{BareWords}
+use Rattle.pg_asked.specs.declared.bare.BareWords.{BareWords}
 use Rattle.pg_edge.specs.Shelf.{Files}
 use Rattle.pg_steps.specs.declared.refusal.Refusal.{Refusal}
 use Rattle.pg_steps.specs.declared.refusal.Stop.{Stop}

@@ -2,8 +2,8 @@
 use Rattle.std.proofs.Common.{ℕ, List, Some, Result, Ok}
 use Rattle.pg_ast.specs.declared.tree.Desc.{Desc}
 use Rattle.pg_edge.specs.Shelf.{Files}
-use Rattle.pg_command.specs.declared.bare.BareWords.{BareWords}
-use Rattle.pg_command.specs.declared.print.PrintWords.{PrintWords}
+use Rattle.pg_asked.specs.declared.bare.BareWords.{BareWords}
+use Rattle.pg_asked.specs.declared.print.PrintWords.{PrintWords}
 use Rattle.pg_steps.specs.declared.refusal.Refusal.{Refusal}
 use Rattle.pg_steps.specs.Rooms.{of_room, RoomDue}
 use Rattle.pg_steps.specs.Steps.{IsOne}

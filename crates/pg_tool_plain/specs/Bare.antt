@@ -1,7 +1,7 @@
 -- `bare`: a run of a bare machine.
 use Rattle.std.specs.Prelude.{◌≡◌, ℕ, ◌+◌, List, Option, None}
 use Rattle.pg_ast.specs.declared.tree.Desc.{Desc}
-use Rattle.pg_command.specs.declared.bare.BareWords.{BareWords}
+use Rattle.pg_asked.specs.declared.bare.BareWords.{BareWords}
 use Rattle.pg_edge.specs.Shelf.{Files}
 use Rattle.pg_hw.specs.Bursts.{untrapped_among, BottomRises}
 use Rattle.pg_image.specs.Lines.{state_text}

@@ -1,7 +1,7 @@
 -- `print`: a description in one layout.
 use Rattle.std.specs.Prelude.{◌≡◌, ℕ, List, Option, None}
 use Rattle.pg_ast.specs.declared.tree.Desc.{Desc}
-use Rattle.pg_command.specs.declared.print.PrintWords.{PrintWords}
+use Rattle.pg_asked.specs.declared.print.PrintWords.{PrintWords}
 use Rattle.pg_edge.specs.Shelf.{Files}
 use Rattle.pg_print.specs.Layout.{printed}
 use Rattle.pg_steps.specs.declared.status.Status.{Status}

@@ -17,7 +17,7 @@ ghost use Rattle.pg_steps.specs.World.{Keeps, around};
 
 mod plan;
 
-use pg_command::BareWords;
+use pg_asked::BareWords;
 use pg_edge::{Failed, Shelf, Sink};
 use pg_hw::{Hardware, bare, power_on};
 use pg_inputs::{load_image, load_machine};

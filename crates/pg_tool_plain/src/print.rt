@@ -11,7 +11,7 @@ ghost use Rattle.pg_steps.specs.World.{Keeps, around};
 
 mod plan;
 
-use pg_command::PrintWords;
+use pg_asked::PrintWords;
 use pg_edge::{Shelf, Sink};
 use pg_hw::Hardware;
 use pg_inputs::load_machine;

@@ -3,7 +3,7 @@ use Rattle.std.proofs.Common.{◌≡◌, ◌∙◌, All, length, Option, refl, s
 use Rattle.pg_ast.specs.declared.tree.Desc.{Desc}
 use Rattle.pg_cert.specs.declared.cert.Family.TheVariants.{Plain}
 use Rattle.pg_cert.specs.declared.report.Verdict.TheVariants.{Accepted}
-use Rattle.pg_command.specs.declared.run.RunWords.{RunWords}
+use Rattle.pg_asked.specs.declared.run.RunWords.{RunWords}
 use Rattle.pg_edge.specs.Shelf.{Files}
 use Rattle.pg_hw.specs.Machinery.{Machinery}
 use Rattle.pg_guests.specs.declared.running.Ran.{Ran}

@@ -1,7 +1,7 @@
 -- `run` comes to one thing, for told files.
 use Rattle.std.proofs.Common.{Some}
 use Rattle.pg_cert.specs.declared.cert.Family.TheVariants.{Plain}
-use Rattle.pg_command.specs.declared.run.RunWords.{RunWords}
+use Rattle.pg_asked.specs.declared.run.RunWords.{RunWords}
 use Rattle.pg_edge.specs.Shelf.{Files}
 use Rattle.pg_steps.specs.Steps.{Gives, IsOne}
 use Rattle.pg_steps.proofs.OneSteps.{one-gives, one-then}

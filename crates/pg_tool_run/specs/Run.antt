@@ -4,7 +4,7 @@ use Rattle.pg_alloc.specs.Fit.{kept_cells}
 use Rattle.pg_cert.specs.declared.cert.Family.TheVariants.{Plain}
 use Rattle.pg_cert.specs.declared.report.Report.{Report}
 use Rattle.pg_cert.specs.declared.report.Verdict.TheVariants as verdict
-use Rattle.pg_command.specs.declared.run.RunWords.{RunWords}
+use Rattle.pg_asked.specs.declared.run.RunWords.{RunWords}
 use Rattle.pg_edge.specs.Shelf.{Files}
 use Rattle.pg_type.specs.Accepting.{IsAccepted}
 use Rattle.pg_guests.specs.Runs.{GuestRun, RanGuests, SetUp, text_of}

@@ -2,7 +2,7 @@
 
 ghost use Rattle.std.specs.Prelude.{◌≤◌, length};
 
-use pg_command::FileName;
+use pg_asked::FileName;
 use pg_image::Image;
 use pg_judged::JudgedMachine;
 use sqlite_items::Items;

@@ -22,7 +22,7 @@ mod plan;
 use crate::files::GuestFiles;
 use crate::loading::load_guests;
 use pg_cert::Family;
-use pg_command::RunWords;
+use pg_asked::RunWords;
 use pg_edge::{Shelf, Sink};
 use pg_guests::{put_guests, run_guests};
 use pg_hw::Hardware;

@@ -3,7 +3,7 @@ use Rattle.std.proofs.Common.{◌≡◌, ◌∙◌, ap, sym, subst, [], map, str
 use Rattle.clap.specs.Words.{App, fault_of, is_simple, is_simple_and_free, subcommand_of, subcommand_rows_of}
 use Rattle.pg_command.specs.Asked.{named_as}
 use Rattle.pg_command.specs.Line.{line}
-use Rattle.pg_command.specs.Reads.{HoldsCommand}
+use Rattle.pg_command.specs.Entered.{HoldsCommand}
 use Rattle.pg_command.proofs.AnswerLaws.{asks_by_name, asks_nothing, nothing_at_fault, refusal_has_fault}
 use Rattle.pg_command.proofs.LineLaws.{line_holds, line_plain, line_simple}
 use Rattle.pg_command.proofs.request.Goals as goal

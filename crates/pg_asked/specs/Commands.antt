@@ -1,0 +1,44 @@
+-- The commands of the program: how each is called, and the text that says it of all.
+use Rattle.std.specs.Prelude.{List, [], ◌∷◌, ◌++◌, Option, find}
+use Rattle.std.specs.Str.{bytes_eq}
+use Rattle.pg_asked.specs.Synopses.{Synopsis, Text, usage}
+use Rattle.pg_asked.specs.Bare.{bare}
+use Rattle.pg_asked.specs.Check.{check}
+use Rattle.pg_asked.specs.Verify.{verify}
+use Rattle.pg_asked.specs.Replay.{replay}
+use Rattle.pg_asked.specs.Run.{run}
+use Rattle.pg_asked.specs.Print.{print}
+use Rattle.pg_asked.specs.Generating.{gen}
+use Rattle.pg_asked.specs.Migrate.{migrate}
+use Rattle.pg_asked.specs.Hcheck.{hcheck}
+use Rattle.pg_asked.specs.declared.names.CommandName.{CommandName}
+use Rattle.pg_asked.specs.declared.names.CommandName.TheVariants.{Bare, Check, Gen, Hcheck, Migrate, Print, Replay, Run, Verify}
+
+-- the commands, in the order in which they are told
+abbrev pub commands : List CommandName
+commands = Bare ∷ Check ∷ Verify ∷ Replay ∷ Run ∷ Print ∷ Gen ∷ Migrate ∷ Hcheck ∷ []
+
+-- how a command is called
+abbrev pub synopsis : CommandName → Synopsis
+synopsis Bare = bare
+synopsis Check = check
+synopsis Verify = verify
+synopsis Replay = replay
+synopsis Run = run
+synopsis Print = print
+synopsis Gen = gen
+synopsis Migrate = migrate
+synopsis Hcheck = hcheck
+
+-- the command of a name, among these
+abbrev pub named : List CommandName → Text → Option CommandName
+named cs name = find (λ c. bytes_eq (synopsis c).name name) cs
+
+-- the lines of usage of these commands
+abbrev pub usages : List CommandName → Text
+usages [] = []
+usages (c ∷ more) = usage (synopsis c) ++ usages more
+
+-- one line for each command
+unfoldable pub usage_text : Text
+usage_text = usages commands

@@ -1,0 +1,12 @@
+pub mod Bare
+pub mod Check
+pub mod Commands
+pub mod Generating
+pub mod Hcheck
+pub mod Migrate
+pub mod Print
+pub mod Replay
+pub mod Run
+pub mod Running
+pub mod Synopses
+pub mod Verify

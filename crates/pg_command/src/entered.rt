@@ -1,0 +1,42 @@
+//! The command that a parse entered, and what it asks for.
+ghost use Rattle.std.specs.Prelude.{◌≡◌, IfOk};
+ghost use Rattle.clap.specs.Words.{found_of, rows_of, subcommand_rows_of};
+ghost use Rattle.pg_command.specs.Asked.{asked_of, named_as};
+ghost use Rattle.pg_command.specs.Entered.{HoldsCommand, HoldsRows};
+
+use crate::{bare, check, generating, hcheck, migrate, print, replay, run, verify};
+use clap::ArgMatches;
+use pg_asked::{CommandName, Request};
+use std::alloc::{AllocError, Global};
+
+/// What the command that was named asks for, if the program does not refuse its arguments.
+pub(crate) fn asked(alloc: Global, matches: &ArgMatches<'_>) -> Result<Option<Request>, AllocError>
+    requires { HoldsCommand (subcommand_rows_of matches.now) }
+    ensures { IfOk result (λ r. named_as (subcommand_rows_of matches.now) ≡ r) }
+{
+    let entered = matches.subcommand().unwrap();
+    let command = CommandName::named(entered.0).unwrap();
+    asked_of(alloc, command, entered.1)
+}
+
+/// What this command asks for, by the values of its arguments.
+fn asked_of(
+    alloc: Global,
+    command: CommandName,
+    matches: &ArgMatches<'_>,
+) -> Result<Option<Request>, AllocError>
+    requires { HoldsRows command (rows_of (found_of matches.now)) }
+    ensures { IfOk result (λ r. asked_of command (rows_of (found_of matches.now)) ≡ r) }
+{
+    match command {
+        CommandName::Bare => bare::asked(alloc, matches),
+        CommandName::Check => check::asked(alloc, matches),
+        CommandName::Verify => verify::asked(alloc, matches),
+        CommandName::Replay => replay::asked(alloc, matches),
+        CommandName::Run => run::asked(alloc, matches),
+        CommandName::Print => print::asked(alloc, matches),
+        CommandName::Gen => generating::asked(alloc, matches),
+        CommandName::Migrate => migrate::asked(alloc, matches),
+        CommandName::Hcheck => hcheck::asked(alloc, matches),
+    }
+}
