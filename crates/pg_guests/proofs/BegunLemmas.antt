@@ -12,10 +12,10 @@ use Rattle.pg_hw.specs.Machinery.{Machinery}
 use Rattle.pg_alloc.specs.Fit.{free_base}
 use Rattle.pg_alloc.specs.Grants.{Granted, and_grant}
 use Rattle.pg_monitor.specs.declared.monitor.Monitor.{Monitor}
-use Rattle.pg_monitor.specs.Loading.{with_words}
+use Rattle.pg_control.specs.Loading.{with_words}
 use Rattle.pg_monitor.specs.Monitors.{desc_of, base_for, Admits}
-use Rattle.pg_monitor.specs.Standing.{Stands}
-use Rattle.pg_monitor.proofs.LoadLemmas.{power_on-whole}
+use Rattle.pg_control.specs.Standing.{Stands}
+use Rattle.pg_control.proofs.LoadLemmas.{power_on-whole}
 use Rattle.pg_guests.specs.Runs.{IsImage, HaveRoom, cells_in, loaded_from}
 use Rattle.pg_guests.specs.Begun.{IsBegun}
 use Rattle.pg_guests.proofs.FromLemmas.{cells-push, guests-push, loaded-push, granted-push, free-behind, switched_on}

@@ -8,12 +8,11 @@ use Rattle.pg_routine.proofs.StateLaws.{with_grant-length}
 use Rattle.pg_alloc.specs.Fit.{free_base}
 use Rattle.pg_alloc.specs.Grants.{and_grant}
 use Rattle.pg_alloc.proofs.FitLemmas.{free_base-is}
-use Rattle.pg_monitor.specs.declared.guest.Guest.{Guest}
-use Rattle.pg_monitor.specs.Loading.{with_words}
-use Rattle.pg_monitor.specs.Monitors.{guest_in}
-use Rattle.pg_monitor.specs.Turns.{grants_of}
-use Rattle.pg_monitor.proofs.CellLemmas.{with_grant-before}
-use Rattle.pg_monitor.proofs.PlanLemmas.{granted-outside}
+use Rattle.pg_control.specs.declared.guest.Guest.{Guest}
+use Rattle.pg_control.specs.Loading.{with_words}
+use Rattle.pg_control.specs.Guests.{guest_in, grants_of}
+use Rattle.pg_control.proofs.CellLemmas.{with_grant-before}
+use Rattle.pg_control.proofs.PlanLemmas.{granted-outside}
 use Rattle.pg_guests.specs.Runs.{cells_in, guests_from, loaded_from}
 
 -- ---- one image more

@@ -11,16 +11,19 @@ use Rattle.pg_meaning.specs.States.{State}
 use Rattle.pg_meaning.specs.Steps.{power_on, bare, steps}
 use Rattle.pg_hw.specs.Machinery.{Machinery}
 use Rattle.pg_hw.specs.Serving.{blank}
-use Rattle.pg_monitor.specs.declared.guest.Guest.{Guest}
+use Rattle.pg_control.specs.declared.guest.Guest.{Guest}
 use Rattle.pg_monitor.specs.declared.monitor.Monitor.{Monitor}
-use Rattle.pg_monitor.specs.Guests.{virtuals}
+use Rattle.pg_control.specs.Guests.{virtuals, grants_of}
 use Rattle.pg_monitor.specs.Monitors.{desc_of}
-use Rattle.pg_monitor.specs.Plans.{turns_of, direct_of, cell_behind, psw_behind, changes_of, IsOutside, Followed}
-use Rattle.pg_monitor.specs.Schedules.{schedule}
-use Rattle.pg_monitor.specs.Standing.{Stands}
-use Rattle.pg_monitor.specs.Turns.{grants_of, change_to, changes_in, current_after, CountsTurns, BottomTurns}
-use Rattle.pg_monitor.proofs.PlanLemmas.{direct_of-most}
-use Rattle.pg_monitor.proofs.ScheduleLemmas.{turns_of-schedule, direct_of-schedule}
+use Rattle.pg_control.specs.Plans.{turns_of, IsOutside}
+use Rattle.pg_monitor.specs.Plans.{direct_of, cell_behind, psw_behind, changes_of, Followed}
+use Rattle.pg_control.specs.Schedules.{schedule}
+use Rattle.pg_control.specs.Standing.{Stands}
+use Rattle.pg_monitor.specs.Turns.{change_to, changes_in, current_after, CountsTurns, BottomTurns}
+use Rattle.pg_control.proofs.PlanLemmas.{count_of-most}
+use Rattle.pg_control.proofs.CountLemmas.{direct_among-most, direct-adds}
+use Rattle.pg_control.specs.Direct.{direct_among}
+use Rattle.pg_control.proofs.ScheduleLemmas.{turns_of-schedule, count_of-schedule}
 use Rattle.pg_report.specs.Spans.{span}
 use Rattle.pg_guests.specs.Runs.{GuestRun, CanRun, CanCount, RanGuests, SetUp, Untouched, Installed, Loaded, granted, guests_from, guests_of, first_states, reached_by, plan_of, turns_in, direct_turns_of, loaded_for, taken_for, cells_in, run_of}
 use Rattle.pg_guests.specs.Begun.{IsBegun}
@@ -142,13 +145,13 @@ module _ (machine : Machine) (images : List (List ℕ)) (slice n : ℕ) (old on 
     direct =
         ap (direct_of d (guests_of r) (plan_of r)) first
         ∙ ap (λ k. direct_of d (guests_of r) (schedule k slice n) (first_states r)) (sym (guests-length 2 images))
-        ∙ direct_of-schedule d (guests_of r) slice n (first_states r)
+        ∙ count_of-schedule d (direct_among d) (direct-adds d) (guests_of r) slice n (first_states r)
 
     turns : turns_of (plan_of r) ≡ turns_in r
     turns = turns_of-schedule (length images) slice n
 
     direct-most : direct_turns_of r ≤ turns_in r
-    direct-most = (let most = direct_of-most d (guests_of r) (plan_of r) (virtuals on.state.cells (guests_of r)) in let e = direct in let f = turns in omega (arith, most, e, f))
+    direct-most = (let most = count_of-most d (direct_among d) (guests_of r) (plan_of r) (virtuals on.state.cells (guests_of r)) (direct_among-most d) in let e = direct in let f = turns in omega (arith, most, e, f))
 
     changes : changes_of (plan_of r) None ≤ turns_in r
     changes = (let most = changes-most (plan_of r) None in let f = turns in omega (arith, most, f))

@@ -5,7 +5,7 @@ use Rattle.std.proofs.lemmas.Option.{get_or_from_slice_get, slice_get_within}
 use Rattle.pg_ast.specs.declared.tree.Desc.{Desc}
 use Rattle.pg_meaning.specs.States.{State}
 use Rattle.pg_hw.specs.Machinery.{Machinery}
-use Rattle.pg_monitor.specs.Guests.{virtuals}
+use Rattle.pg_control.specs.Guests.{virtuals}
 use Rattle.pg_report.specs.Summaries.{summary_line, summaries, summary_text}
 use Rattle.pg_guests.specs.declared.running.Ran.{Ran}
 use Rattle.pg_guests.specs.Runs.{GuestRun, reached_by, turns_in, summary_of_run}

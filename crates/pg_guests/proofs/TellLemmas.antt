@@ -4,7 +4,7 @@ use Rattle.std.proofs.lemmas.List.{append-nil, take_more, take-append-drop, leng
 use Rattle.std.proofs.lemmas.Option.{get_or_from_slice_get, slice_get_cases, slice_get_within}
 use Rattle.pg_meaning.specs.States.{State}
 use Rattle.pg_image.specs.Lines.{state_text}
-use Rattle.pg_monitor.specs.declared.guest.Guest.{Guest}
+use Rattle.pg_control.specs.declared.guest.Guest.{Guest}
 use Rattle.pg_report.specs.Runs.{guest_line, guests_text, steps_line, run_text}
 
 text-split : (w j : ℕ) (xs ys : List State) → guests_text w j (xs ++ ys) ≡ guests_text w j xs ++ guests_text w (j + length xs) ys

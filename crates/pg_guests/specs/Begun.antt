@@ -5,10 +5,9 @@ use Rattle.pg_meaning.specs.Steps.{power_on}
 use Rattle.pg_hw.specs.Machinery.{Machinery}
 use Rattle.pg_alloc.specs.Fit.{kept_cells}
 use Rattle.pg_monitor.specs.declared.monitor.Monitor.{Monitor}
-use Rattle.pg_monitor.specs.Guests.{virtuals}
+use Rattle.pg_control.specs.Guests.{virtuals, grants_of}
 use Rattle.pg_monitor.specs.Monitors.{desc_of}
-use Rattle.pg_monitor.specs.Standing.{Stands}
-use Rattle.pg_monitor.specs.Turns.{grants_of}
+use Rattle.pg_control.specs.Standing.{Stands}
 use Rattle.pg_report.specs.Runs.{run_text}
 use Rattle.pg_report.specs.Summaries.{summary_text}
 use Rattle.pg_guests.specs.declared.running.Ran.{Ran}

@@ -9,11 +9,12 @@ use Rattle.pg_hw.specs.declared.counts.Counts.{Counts}
 use Rattle.pg_hw.specs.Machinery.{Machinery, poked_at}
 use Rattle.pg_hw.specs.Serving.{blank}
 use Rattle.pg_alloc.specs.Fit.{kept_cells}
-use Rattle.pg_monitor.specs.declared.guest.Guest.{Guest}
-use Rattle.pg_monitor.specs.Loading.{with_words}
-use Rattle.pg_monitor.specs.Monitors.{guest_in}
-use Rattle.pg_monitor.specs.Plans.{cell_behind, psw_behind, changes_of, IsOutside}
-use Rattle.pg_monitor.specs.Schedules.{schedule, each_direct}
+use Rattle.pg_control.specs.declared.guest.Guest.{Guest}
+use Rattle.pg_control.specs.Loading.{with_words}
+use Rattle.pg_control.specs.Guests.{guest_in}
+use Rattle.pg_monitor.specs.Plans.{cell_behind, psw_behind, changes_of}
+use Rattle.pg_control.specs.Plans.{IsOutside}
+use Rattle.pg_control.specs.Schedules.{schedule, each_direct}
 use Rattle.pg_monitor.specs.Turns.{BottomTurns}
 use Rattle.pg_report.specs.Runs.{run_text}
 use Rattle.pg_report.specs.Spans.{span}

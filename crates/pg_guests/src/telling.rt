@@ -3,10 +3,10 @@
 ghost use Rattle.std.specs.Prelude.{◌≡◌, ◌<◌, ◌++◌, length, Some, slice_get};
 ghost use Rattle.pg_edge.specs.Sink.{Puts};
 ghost use Rattle.pg_image.specs.Lines.{state_text};
-ghost use Rattle.pg_monitor.specs.declared.guest.Guest.{Guest as Guests};
-ghost use Rattle.pg_monitor.specs.Guests.{virtual};
+ghost use Rattle.pg_control.specs.declared.guest.Guest.{Guest as Guests};
+ghost use Rattle.pg_control.specs.Guests.{virtual};
 ghost use Rattle.pg_monitor.specs.Monitors.{desc_of};
-ghost use Rattle.pg_monitor.specs.Standing.{Stands};
+ghost use Rattle.pg_control.specs.Standing.{Stands};
 ghost use Rattle.pg_report.specs.Runs.{guest_line};
 ghost use Rattle.pg_guests.specs.Begun.{told_of};
 

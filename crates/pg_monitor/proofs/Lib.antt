@@ -1,14 +1,7 @@
-pub mod CellLemmas
-pub mod DirectLemmas
-pub mod RunLemmas
 pub mod WentLemmas
-pub mod GuestLemmas
-pub mod LoadLemmas
-pub mod BaseLemmas
+pub mod TurnedLemmas
 pub mod PlanLemmas
-pub mod OwnLemmas
-pub mod AdmitLemmas
+pub mod ScheduleLemmas
 pub mod ReachLemmas
 pub mod ResetLemmas
 pub mod ReadyLemmas
-pub mod ScheduleLemmas

@@ -1,10 +1,6 @@
-pub mod Guests
-pub mod Direct
-pub mod Standing
 pub mod Turns
 pub mod Plans
 pub mod Current
-pub mod Loading
 pub mod Monitors
 pub mod Reaching
 pub mod Schedules

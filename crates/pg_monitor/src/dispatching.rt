@@ -9,18 +9,19 @@ ghost use Rattle.pg_meaning.specs.Steps.{step, steps};
 ghost use Rattle.pg_hw.specs.Bursts.{traps};
 ghost use Rattle.pg_hw.specs.Serving.{IsServed};
 ghost use Rattle.pg_hw.specs.Tallies.{raised_by};
-ghost use Rattle.pg_monitor.specs.declared.guest.Guest.{Guest as Guests};
-ghost use Rattle.pg_monitor.specs.Guests.{virtual, virtuals};
-ghost use Rattle.pg_monitor.specs.Direct.{is_direct};
+ghost use Rattle.pg_control.specs.declared.guest.Guest.{Guest as Guests};
+ghost use Rattle.pg_control.specs.Guests.{virtual, virtuals};
+ghost use Rattle.pg_control.specs.Direct.{is_direct};
 ghost use Rattle.pg_monitor.specs.Monitors.{desc_of};
-ghost use Rattle.pg_monitor.specs.Standing.{Stands};
+ghost use Rattle.pg_control.specs.Standing.{Stands};
 ghost use Rattle.pg_monitor.specs.Turns.{change_to, Turned};
-ghost use Rattle.pg_monitor.specs.Plans.{turns_for, Followed};
-ghost use Rattle.pg_monitor.specs.Current.{Runs, is_current};
+ghost use Rattle.pg_control.specs.Plans.{turns_for};
+ghost use Rattle.pg_monitor.specs.Plans.{Followed};
+ghost use Rattle.pg_control.specs.Current.{Runs, is_current};
 
-use crate::guest::Guest;
 use crate::monitor::Monitor;
-use crate::turning::{enter, turn_often, turn_once};
+use crate::turning::{turn_often, turn_once};
+use pg_control::{Guest, enter, is_current};
 use pg_hw::Hardware;
 
 impl<'m> Monitor<'m> {
@@ -136,15 +137,5 @@ impl<'m> Monitor<'m> {
         enter(hw, guest);
         self.current = Some(k);
         guest
-    }
-}
-
-/// Whether the current guest is the one of this number.
-pub(crate) fn is_current(current: Option<usize>, k: usize) -> bool
-    ensures { result ≡ is_current k current }
-{
-    match current {
-        Some(j) => j == k,
-        None => false,
     }
 }

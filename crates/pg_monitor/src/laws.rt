@@ -3,9 +3,10 @@
 ghost use Rattle.std.specs.Prelude.{◌≡◌, ℕ, ◌*◌, ◌<◌, ◌≤◌, List, length};
 ghost use Rattle.pg_ast.specs.declared.tree.Desc.{Desc};
 ghost use Rattle.pg_meaning.specs.States.{State};
-ghost use Rattle.pg_monitor.specs.declared.guest.Guest.{Guest};
-ghost use Rattle.pg_monitor.specs.Plans.{turns_for, turns_of, direct_of};
-ghost use Rattle.pg_monitor.specs.Schedules.{schedule, each_direct};
+ghost use Rattle.pg_control.specs.declared.guest.Guest.{Guest};
+ghost use Rattle.pg_control.specs.Plans.{turns_for, turns_of};
+ghost use Rattle.pg_monitor.specs.Plans.{direct_of};
+ghost use Rattle.pg_control.specs.Schedules.{schedule, each_direct};
 ghost use Rattle.pg_monitor.specs.WorkedSchedules.{ShorterLast, ChangesAtEachSlice, OneSliceAlone, EmptyLast, NoChangesInEmptyLast};
 
 /// A schedule gives each guest its turns, whatever the slice is, and of these as many are direct as its own steps say,

@@ -14,26 +14,17 @@ ghost use Rattle.pg_hw.specs.Bursts.{traps};
 ghost use Rattle.pg_hw.specs.Serving.{IsServed, IsServedPsw};
 ghost use Rattle.pg_hw.specs.Machinery.{loaded_with};
 ghost use Rattle.pg_routine.specs.Composing.{composed};
-ghost use Rattle.pg_monitor.specs.Guests.{virtual};
-ghost use Rattle.pg_monitor.specs.Direct.{is_direct};
-ghost use Rattle.pg_monitor.specs.Current.{Holds, Runs, Interpreted, Went};
+ghost use Rattle.pg_control.specs.Guests.{virtual};
+ghost use Rattle.pg_control.specs.Direct.{is_direct};
+ghost use Rattle.pg_control.specs.Current.{Holds, Runs};
+ghost use Rattle.pg_monitor.specs.Current.{Interpreted, Went};
 
-use crate::guest::Guest;
+use pg_control::{Guest, enter};
 use pg_hw::Hardware;
 use pg_interp::Frame;
 use pg_machine::Machine;
-use pg_routine::{compose, emulate_told};
+use pg_routine::emulate_told;
 use pg_word::{Mode, OLD_PSW_CELL, unpack};
-
-/// Enters a guest: loads the program status word that is composed of its virtual one.
-pub(crate) fn enter<H: Hardware>(hw: &mut H, guest: Guest)
-    requires addressable { guest.base + guest.size < 2 ^ 32 }
-    requires fits { IsServedPsw (H.serves (H.fixed hw.old)) (composed guest.psw guest.base guest.size) }
-    ensures entered { H.machinery hw.new ≡ loaded_with (composed guest.psw guest.base guest.size) (H.machinery hw.old) }
-    ensures fixed { H.fixed hw.new ≡ H.fixed hw.old }
-{
-    hw.set_psw(compose(guest.psw, guest.base, guest.size));
-}
 
 /// Interprets the step of a guest that trapped, and enters the guest again; whether the guest's own step trapped.
 fn interpret<H: Hardware>(m: &Machine, hw: &mut H, guest: &mut Guest, frame: &mut Frame) -> bool

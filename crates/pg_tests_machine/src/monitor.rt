@@ -3,7 +3,7 @@
 ghost use Rattle.std.specs.Prelude.{◌≡◌, ◌+◌, ◌<◌, ◌≤◌, ◌^◌, [], length, IfOk};
 ghost use Rattle.pg_hw.specs.Serving.{IsServed};
 ghost use Rattle.pg_monitor.specs.Monitors.{desc_of};
-ghost use Rattle.pg_monitor.specs.Standing.{Stands};
+ghost use Rattle.pg_control.specs.Standing.{Stands};
 
 use crate::setting::{counts, has_words, head_alone, psw};
 use pg_hw::{Hardware, Idle};

@@ -8,7 +8,7 @@ use Rattle.pg_hw.specs.Serving.{blank}
 use Rattle.pg_hw.proofs.ServingLaws.{blank-state}
 use Rattle.pg_alloc.specs.Fit.{kept_cells}
 use Rattle.pg_monitor.proofs.ReadyLemmas.{installed-size}
-use Rattle.pg_monitor.proofs.LoadLemmas.{shape-same}
+use Rattle.pg_control.proofs.LoadLemmas.{shape-same}
 use Rattle.pg_guests.specs.Runs.{Loaded, loaded_from}
 use Rattle.pg_guests.proofs.starting.start.Goals as goal
 

@@ -3,8 +3,8 @@ use Rattle.std.proofs.lemmas.List.{length-map, take_all}
 use Rattle.pg_edge.specs.Sink.{Puts}
 use Rattle.pg_edge.specs.declared.shelf.Failed.{Failed}
 use Rattle.pg_edge.proofs.PutsLaws.{Puts-then, Puts-stopped}
-use Rattle.pg_monitor.specs.Guests.{virtual, virtuals}
-use Rattle.pg_monitor.proofs.GuestLemmas.{virtuals-at}
+use Rattle.pg_control.specs.Guests.{virtual, virtuals}
+use Rattle.pg_control.proofs.GuestLemmas.{virtuals-at}
 use Rattle.pg_report.specs.Summaries.{summary_line, summaries}
 use Rattle.pg_guests.proofs.TellLemmas.{some-guest}
 use Rattle.pg_guests.proofs.SummaryLemmas.{summaries-next, summaries-rest}

@@ -1,7 +1,7 @@
 use Rattle.std.proofs.Common.{take, Ok}
 use Rattle.pg_edge.specs.Sink.{Puts}
 use Rattle.pg_edge.specs.declared.shelf.Failed.{Failed}
-use Rattle.pg_monitor.specs.Guests.{virtuals}
+use Rattle.pg_control.specs.Guests.{virtuals}
 use Rattle.pg_monitor.specs.Monitors.{desc_of}
 use Rattle.pg_report.specs.Summaries.{summaries}
 use Rattle.pg_guests.proofs.summing.put_all.Given as goal

@@ -3,10 +3,10 @@ use Rattle.std.proofs.lemmas.Option.{same_Some}
 use Rattle.pg_ast.specs.declared.tree.Desc.{Desc}
 use Rattle.pg_edge.specs.declared.shelf.Failed.{Failed}
 use Rattle.pg_edge.specs.Sink.{Puts}
-use Rattle.pg_monitor.specs.declared.guest.Guest.{Guest}
-use Rattle.pg_monitor.specs.Guests.{virtual}
-use Rattle.pg_monitor.proofs.DirectLemmas.{Holds-within}
-use Rattle.pg_monitor.proofs.GuestLemmas.{Holds-of}
+use Rattle.pg_control.specs.declared.guest.Guest.{Guest}
+use Rattle.pg_control.specs.Guests.{virtual}
+use Rattle.pg_control.proofs.DirectLemmas.{Holds-within}
+use Rattle.pg_control.proofs.GuestLemmas.{Holds-of}
 use Rattle.pg_report.specs.Spans.{span}
 use Rattle.pg_report.specs.Summaries.{summary_line}
 use Rattle.pg_guests.proofs.summing.put_one.Goals as goal

@@ -1,5 +1,5 @@
 use Rattle.pg_edge.proofs.PutsLaws.{Puts-then, Puts-stopped}
-use Rattle.pg_monitor.specs.Guests.{virtuals}
+use Rattle.pg_control.specs.Guests.{virtuals}
 use Rattle.pg_report.specs.Runs.{steps_line}
 use Rattle.pg_report.specs.Summaries.{summaries, summary_text}
 use Rattle.pg_guests.proofs.summing.put_summaries.Goals as goal

@@ -5,8 +5,8 @@ use Rattle.pg_edge.specs.declared.shelf.Failed.{Failed}
 use Rattle.pg_edge.proofs.PutsLaws.{Puts-then, Puts-stopped}
 use Rattle.pg_meaning.specs.States.{State}
 use Rattle.pg_image.specs.Lines.{state_text}
-use Rattle.pg_monitor.specs.Guests.{virtual, virtuals}
-use Rattle.pg_monitor.proofs.GuestLemmas.{virtuals-at}
+use Rattle.pg_control.specs.Guests.{virtual, virtuals}
+use Rattle.pg_control.proofs.GuestLemmas.{virtuals-at}
 use Rattle.pg_report.specs.Runs.{guest_line, guests_text, steps_line, run_text}
 use Rattle.pg_guests.proofs.TellLemmas.{told-next, told-rest, told-whole, some-guest}
 use Rattle.pg_guests.proofs.telling.put_guests.Goals as goal

@@ -5,10 +5,10 @@ use Rattle.pg_edge.specs.declared.shelf.Failed.{Failed}
 use Rattle.pg_edge.specs.Sink.{Puts}
 use Rattle.pg_edge.proofs.PutsLaws.{Puts-then, Puts-stopped}
 use Rattle.pg_image.specs.Lines.{state_text}
-use Rattle.pg_monitor.specs.declared.guest.Guest.{Guest}
-use Rattle.pg_monitor.specs.Guests.{virtual}
-use Rattle.pg_monitor.proofs.DirectLemmas.{Holds-within}
-use Rattle.pg_monitor.proofs.GuestLemmas.{Holds-of}
+use Rattle.pg_control.specs.declared.guest.Guest.{Guest}
+use Rattle.pg_control.specs.Guests.{virtual}
+use Rattle.pg_control.proofs.DirectLemmas.{Holds-within}
+use Rattle.pg_control.proofs.GuestLemmas.{Holds-of}
 use Rattle.pg_report.specs.Runs.{guest_line}
 use Rattle.pg_report.specs.Spans.{span}
 use Rattle.pg_guests.proofs.telling.put_one.Goals as goal

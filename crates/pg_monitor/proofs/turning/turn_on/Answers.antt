@@ -3,8 +3,10 @@ use Rattle.pg_word.specs.declared.psw.Psw.{Psw}
 use Rattle.pg_meaning.specs.States.{State, IsState}
 use Rattle.pg_valid.proofs.StepSound.{steps-state}
 use Rattle.pg_hw.proofs.BurstLaws.{burst_length-most, burst_length-some}
-use Rattle.pg_monitor.specs.Current.{with_psw}
-use Rattle.pg_monitor.proofs.WentLemmas.{Directly-burst, Stopped-burst, Stopped, Halted-of, Went-direct, Went-halted, entry-read}
+use Rattle.pg_control.specs.Current.{with_psw}
+use Rattle.pg_control.proofs.BurstLemmas.{Directly-burst, Stopped-burst, Stopped, Halted-of, entry-read}
+use Rattle.pg_control.proofs.DirectLemmas.{accepted-alike}
+use Rattle.pg_monitor.proofs.WentLemmas.{Went-direct, Went-halted}
 use Rattle.pg_monitor.proofs.turning.turn_on.Goals as goal
 
 pub peek-requires : goal.peek-requires
@@ -17,7 +19,7 @@ pub interpret-requires-clause-holds : goal.interpret-requires-clause-holds
 interpret-requires-clause-holds g c =
     let d = c.args.m.now.desc in
     let stopped : Stopped d c.burst-done.result (g.H.Hardware.machinery c.args.hw.now).state c.args.guest.now =
-    Stopped-burst d _ _ _ c.args.guest.now c.requires.accepted c.args.m.now.valid c.requires.runs c.requires.some c.burst-done.ensures.count
+    Stopped-burst d _ _ _ c.args.guest.now (accepted-alike d c.args.guest.now.psw.mode c.requires.accepted) c.args.m.now.valid c.requires.runs c.requires.some c.burst-done.ensures.count
     (sym (ap (λ (x : Psw). x.mode) (c.psw-psw.ensures ∙ ap (λ (s : State). s.psw) c.burst-done.ensures.state)) ∙ c.in-S.is) in
     (Halted-of d _ _ _ c.args.guest.now _ stopped c.args.m.now.valid c.burst-done.ensures.state
     (ap (λ (x : Psw). with_psw c.args.guest.now (record c.args.guest.now.psw { p = x.p }))
@@ -32,7 +34,7 @@ returns-in-U-clause-most g c = omega (arith, burst_length-most c.args.m.now.desc
 pub returns-in-U-clause-went : goal.returns-in-U-clause-went
 returns-in-U-clause-went g c =
     let d = c.args.m.now.desc in
-    let run = Directly-burst d _ _ _ c.args.guest.now c.requires.accepted c.args.m.now.valid c.requires.runs c.requires.some c.burst-done.ensures.count
+    let run = Directly-burst d _ _ _ c.args.guest.now (accepted-alike d c.args.guest.now.psw.mode c.requires.accepted) c.args.m.now.valid c.requires.runs c.requires.some c.burst-done.ensures.count
     (sym (ap (λ (x : Psw). x.mode) (c.psw-psw.ensures ∙ ap (λ (s : State). s.psw) c.burst-done.ensures.state)) ∙ c.in-U.is) in
     Went-direct d _ _ _ c.args.guest.now _ run
     (record { state = c.burst-done.ensures.state; tally = c.burst-done.ensures.tally; bottom = c.burst-done.ensures.bottom })
@@ -48,7 +50,7 @@ pub returns-in-S-clause-went : goal.returns-in-S-clause-went
 returns-in-S-clause-went g c =
     let d = c.args.m.now.desc in
     let stopped : Stopped d c.burst-done.result (g.H.Hardware.machinery c.args.hw.now).state c.args.guest.now =
-    Stopped-burst d _ _ _ c.args.guest.now c.requires.accepted c.args.m.now.valid c.requires.runs c.requires.some c.burst-done.ensures.count
+    Stopped-burst d _ _ _ c.args.guest.now (accepted-alike d c.args.guest.now.psw.mode c.requires.accepted) c.args.m.now.valid c.requires.runs c.requires.some c.burst-done.ensures.count
     (sym (ap (λ (x : Psw). x.mode) (c.psw-psw.ensures ∙ ap (λ (s : State). s.psw) c.burst-done.ensures.state)) ∙ c.in-S.is) in
     let halted = Halted-of d _ _ _ c.args.guest.now _ stopped c.args.m.now.valid c.burst-done.ensures.state
     (ap (λ (x : Psw). with_psw c.args.guest.now (record c.args.guest.now.psw { p = x.p }))
