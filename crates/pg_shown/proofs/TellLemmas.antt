@@ -1,11 +1,18 @@
 -- The text of guests, put piece by piece.
-use Rattle.std.proofs.Common.{◌≡◌, ℕ, suc, ◌+◌, ◌<◌, ◌≤◌, inl, inr, List, [], ◌∷◌, ◌++◌, length, take, drop, Some, slice_get, refl, sym, ◌∙◌, ap, arith, append_assoc}
+use Rattle.std.proofs.Common.{◌≡◌, ℕ, suc, ◌+◌, ◌<◌, ◌≤◌, List, [], ◌∷◌, ◌++◌, length, take, drop, get_or, Option, Some, slice_get, refl, sym, ◌∙◌, ap, arith, append_assoc}
 use Rattle.std.proofs.lemmas.List.{append-nil, take_more, take-append-drop, length-take-le}
-use Rattle.std.proofs.lemmas.Option.{get_or_from_slice_get, slice_get_cases, slice_get_within}
+use Rattle.std.proofs.lemmas.List.Elements.{All-weaker}
+use Rattle.std.proofs.lemmas.Option.{slice_get-get_or, get_or_from_slice_get, slice_get_within}
 use Rattle.pg_meaning.specs.States.{State}
 use Rattle.pg_image.specs.Lines.{state_text}
+use Rattle.pg_word.specs.declared.psw.Mode.TheVariants.{S}
+use Rattle.pg_ast.specs.declared.tree.Desc.{Desc}
 use Rattle.pg_control.specs.declared.guest.Guest.{Guest}
+use Rattle.pg_control.specs.Guests.{IsGrant, virtual, virtuals}
+use Rattle.pg_control.specs.Standing.{Stands}
+use Rattle.pg_shown.specs.Telling.{AreWithin}
 use Rattle.pg_report.specs.Runs.{guest_line, guests_text, steps_line, run_text}
+use Rattle.pg_control.proofs.GuestLemmas.{virtuals-at}
 
 text-split : (w j : ℕ) (xs ys : List State) → guests_text w j (xs ++ ys) ≡ guests_text w j xs ++ guests_text w (j + length xs) ys
 text-split w j [] ys = let here : j ≡ j + 0 = omega arith in ap (λ i. guests_text w i ys) here
@@ -43,9 +50,16 @@ pub told-whole : (w : ℕ) (states : List State) (turns direct : ℕ) → guests
 unfolding run_text
 told-whole w states turns direct = refl
 
--- the guest of a number
-pub some-guest : (gs : List Guest) (k : ℕ) → k < length gs → (g : Guest) × (slice_get gs k ≡ Some g)
-some-guest gs k within = elim ((slice_get_cases gs k).1) [
-  | inl x ↦ (x.0, x.2)
-  | inr x ↦ absurd (omega (arith, within, x.0))
-]
+-- what an element of guests that is past their end is in a proof
+abbrev pub no_guest : Guest
+no_guest = record { base = 0; size = 0; psw = record { mode = S; p = 0; l = 0; b = 0 } }
+
+-- the state of the guest of a number
+pub virtuals-of : (cells : List ℕ) (gs : List Guest) (k : ℕ) → k < length gs → slice_get (virtuals cells gs) k ≡ Some (virtual cells (get_or gs k no_guest))
+virtuals-of cells gs k within = virtuals-at cells gs k (get_or gs k no_guest) (slice_get-get_or gs k no_guest within)
+
+-- guests that stand lie within the storage
+pub Stands-within : (d : Desc) (real : State) (gs : List Guest) (current : Option ℕ) → Stands d real gs current → AreWithin real gs
+Stands-within d real gs current stands =
+    All-weaker (IsGrant d.size) (λ (g : Guest). g.base + g.size ≤ length real.cells)
+    (λ g grant. (let same = stands.stands.size in let within = grant.within in omega (arith, same, within))) gs stands.stands.grants

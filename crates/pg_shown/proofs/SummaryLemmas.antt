@@ -2,14 +2,8 @@
 use Rattle.std.proofs.Common.{◌≡◌, ℕ, suc, ◌+◌, ◌≤◌, List, [], ◌∷◌, ◌++◌, length, take, drop, Some, slice_get, sym, ◌∙◌, ap, arith, append_assoc}
 use Rattle.std.proofs.lemmas.List.{append-nil, take_more, take-append-drop, length-take-le}
 use Rattle.std.proofs.lemmas.Option.{get_or_from_slice_get, slice_get_within}
-use Rattle.pg_ast.specs.declared.tree.Desc.{Desc}
 use Rattle.pg_meaning.specs.States.{State}
-use Rattle.pg_hw.specs.Machinery.{Machinery}
-use Rattle.pg_control.specs.Guests.{virtuals}
-use Rattle.pg_report.specs.Summaries.{summary_line, summaries, summary_text}
-use Rattle.pg_guests.specs.declared.running.Ran.{Ran}
-use Rattle.pg_guests.specs.Runs.{GuestRun, reached_by, turns_in, summary_of_run}
-use Rattle.pg_guests.specs.Begun.{HaveRun, summary_of}
+use Rattle.pg_report.specs.Summaries.{summary_line, summaries}
 
 summaries-split : (w j : ℕ) (xs ys : List State) → summaries w j (xs ++ ys) ≡ summaries w j xs ++ summaries w (j + length xs) ys
 summaries-split w j [] ys = let here : j ≡ j + 0 = omega arith in ap (λ i. summaries w i ys) here
@@ -36,11 +30,3 @@ module _ (w : ℕ) (states : List State) (k : ℕ) where
       let len : 0 + length (take k states) ≡ k = (let whole = length-take-le k states within in omega (arith, whole)) in
       ap (λ i. summaries w 0 (take k states) ++ summaries w i (drop k states)) (sym len)
       ∙ sym (summaries-split w 0 (take k states) (drop k states)) ∙ ap (summaries w 0) (take-append-drop k states)
-
--- the summary of guests that ran is that of their run
-pub summary-is : (r : GuestRun) (ran : Ran) (h : Machinery) → HaveRun r ran h → summary_of ran h.state ≡ summary_of_run r
-summary-is r ran h have =
-    ap (λ (d : Desc). summary_text d.word (virtuals h.state.cells ran.monitor.guests) ran.turns ran.direct) have.machine
-    ∙ ap (λ ss. summary_text r.desc.word ss ran.turns ran.direct) have.states
-    ∙ ap (λ n. summary_text r.desc.word (reached_by r) n ran.direct) have.turns
-    ∙ ap (summary_text r.desc.word (reached_by r) (turns_in r)) have.direct
