@@ -1,4 +1,5 @@
 pub mod WentLemmas
+pub mod ToldLemmas
 pub mod TurnedLemmas
 pub mod PlanLemmas
 pub mod ScheduleLemmas
