@@ -1,5 +1,3 @@
-pub mod FromLemmas
 pub mod BegunLemmas
 pub mod RanLemmas
-pub mod TellLemmas
-pub mod SummaryLemmas
+pub mod ToldLemmas

@@ -1,25 +1,57 @@
 //! The turns of guests.
 
-ghost use Rattle.std.specs.Prelude.{◌≡◌, ◌≤◌, IfOk, OnOk, OnErr};
+ghost use Rattle.std.specs.Prelude.{◌≡◌, ◌+◌, ◌*◌, ◌<◌, ◌≤◌, ◌^◌, length, map, IfOk, OnOk, OnErr};
+ghost use Rattle.pg_meaning.specs.Steps.{steps as stepped};
 ghost use Rattle.pg_hw.specs.Serving.{IsServed};
-ghost use Rattle.pg_guests.specs.Runs.{CanRun, CanCount, RanGuests, SetUp, run_of};
+ghost use Rattle.pg_control.specs.Counting.{CanCount};
+ghost use Rattle.pg_control.specs.Guests.{virtuals};
+ghost use Rattle.pg_control.specs.Schedules.{schedule};
+ghost use Rattle.pg_control.specs.Standing.{Stands};
+ghost use Rattle.pg_monitor.specs.Monitors.{desc_of};
+ghost use Rattle.pg_monitor.specs.Plans.{Followed};
+ghost use Rattle.pg_shown.specs.Runs.{run_of};
+ghost use Rattle.pg_shown.specs.Setting.{CanRun, SetUp};
+ghost use Rattle.pg_guests.specs.Runs.{RanGuests};
 ghost use Rattle.pg_guests.specs.Begun.{HaveRun};
 
 use crate::starting::start;
 use pg_hw::Hardware;
 use pg_image::Image;
-use pg_monitor::Monitor;
+use pg_monitor::{Guest, Monitor};
 use pg_type::Accepted;
 use std::alloc::{AllocError, Global};
 
 /// Guests that ran: their monitor, and the counts of their turns.
 #[derive(Drop)]
 pub struct Ran<'m> {
-    pub(crate) monitor: Monitor<'m>,
+    monitor: Monitor<'m>,
     /// How many turns they had, all together.
-    pub(crate) turns: u64,
+    turns: u64,
     /// How many of these the hardware executed untrapped.
-    pub(crate) direct: u64,
+    direct: u64,
+}
+
+impl<'m> Ran<'m> {
+    /// The guests, in the order of their numbers, behind their last turn.
+    pub fn guests(&self) -> &[Guest]
+        ensures { result.now ≡ self.now.monitor.guests }
+    {
+        self.monitor.guests()
+    }
+
+    /// How many turns they had, all together.
+    pub fn turns(&self) -> u64
+        ensures { result ≡ self.now.turns }
+    {
+        self.turns
+    }
+
+    /// How many of these the hardware executed untrapped.
+    pub fn direct(&self) -> u64
+        ensures { result ≡ self.now.direct }
+    {
+        self.direct
+    }
 }
 
 /// Runs images as guests of one monitor on the hardware, by slices, until each has had so many turns.
@@ -51,11 +83,29 @@ pub fn run_guests<'m, H: Hardware>(
         Ok(monitor) => monitor,
         Err(refused) => return Err(refused),
     };
+    Ok(run_on(monitor, slice, steps, hw))
+}
+
+/// The turns of a monitor's guests, by slices.
+fn run_on<'m, H: Hardware>(mut monitor: Monitor<'m>, slice: u64, steps: u64, hw: &mut H) -> Ran<'m>
+    requires served { IsServed (H.serves (H.fixed hw.old)) (desc_of monitor) }
+    requires stands { Stands (desc_of monitor) (H.machinery hw.old).state monitor.guests monitor.current }
+    requires some { 1 ≤ slice }
+    requires counted { length monitor.guests * steps ≤ 2 ^ 32 }
+    requires count { (H.machinery hw.old).tally.untrapped < 2 ^ 63 }
+    ensures machine { result.monitor.accepted.machine.now ≡ monitor.entry.accepted.machine.now }
+    ensures stands { Stands (desc_of monitor.entry) (H.machinery hw.new).state result.monitor.guests result.monitor.current }
+    ensures states { virtuals (H.machinery hw.new).state.cells result.monitor.guests ≡ map (stepped (desc_of monitor.entry) steps) (virtuals (H.machinery hw.old).state.cells monitor.entry.guests) }
+    ensures followed { Followed (desc_of monitor.entry) (schedule (length monitor.entry.guests) slice steps) (H.machinery hw.old) (H.machinery hw.new) monitor.entry.guests result.monitor.guests monitor.entry.current result.monitor.current }
+    ensures turns { result.turns ≡ length monitor.entry.guests * steps }
+    ensures direct { (H.machinery hw.old).tally.untrapped + result.direct ≡ (H.machinery hw.new).tally.untrapped }
+    ensures fixed { H.fixed hw.new ≡ H.fixed hw.old }
+{
     let before = hw.counts().untrapped;
     monitor.run_sliced(hw, slice, steps);
-    Ok(Ran {
-        turns: images.len() as u64 * steps,
+    Ran {
+        turns: monitor.len() as u64 * steps,
         direct: hw.counts().untrapped - before,
         monitor,
-    })
+    }
 }

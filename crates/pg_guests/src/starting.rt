@@ -1,11 +1,12 @@
 //! The hardware, the monitor and its guests, before the first turn.
 
-ghost use Rattle.std.specs.Prelude.{◌≡◌, ◌≤◌, [], length, IfOk, OnOk, OnErr};
+ghost use Rattle.std.specs.Prelude.{◌≡◌, ◌≤◌, [], IfOk, OnOk, OnErr};
 ghost use Rattle.pg_hw.specs.Serving.{IsServed};
 ghost use Rattle.pg_alloc.specs.Fit.{kept_cells};
 ghost use Rattle.pg_monitor.specs.Monitors.{desc_of};
-ghost use Rattle.pg_guests.specs.Runs.{HaveRoom, SetUp, loaded_for, loaded_from, run_of};
-ghost use Rattle.pg_guests.specs.Begun.{IsBegun, LoadedSome};
+ghost use Rattle.pg_shown.specs.Runs.{run_of, switched_on};
+ghost use Rattle.pg_shown.specs.Setting.{HaveRoom, SetUp, loaded_for, loaded_from};
+ghost use Rattle.pg_guests.specs.Begun.{HoldsNoMore, IsBegun, LoadedSome};
 
 use pg_hw::Hardware;
 use pg_image::Image;
@@ -22,10 +23,10 @@ pub(crate) fn start<'m, H: Hardware>(
 ) -> Result<Monitor<'m>, AllocError>
     requires served { IsServed (H.serves (H.fixed hw.old)) accepted.machine.now.desc }
     requires room { accepted.machine.now.desc.size ≤ H.room (H.fixed hw.old) }
-    requires fit { HaveRoom accepted.machine.now.desc images.now }
+    requires fit { HaveRoom accepted.machine.now.desc kept_cells (switched_on images.now) }
     ensures machine { IfOk result (λ m. m.accepted.machine.now ≡ accepted.entry.machine.now) }
-    ensures begun { IfOk result (λ m. IsBegun images.now m (H.machinery hw.new)) }
-    ensures made { OnOk result (H.machinery hw.new ≡ loaded_for accepted.entry.machine.now.desc images.now (H.machinery hw.old)) }
+    ensures begun { IfOk result (λ m. IsBegun kept_cells (switched_on images.now) m (H.machinery hw.new)) }
+    ensures made { OnOk result (H.machinery hw.new ≡ loaded_for accepted.entry.machine.now.desc kept_cells (switched_on images.now) (H.machinery hw.old)) }
     ensures set_up { OnErr result (SetUp (run_of accepted.entry.machine.now images.now 1 0) (H.machinery hw.old) (H.machinery hw.new)) }
     ensures fixed { H.fixed hw.new ≡ H.fixed hw.old }
 {
@@ -50,11 +51,12 @@ fn load_all<H: Hardware>(
     hw: &mut H,
 ) -> Result<(), AllocError>
     requires served { IsServed (H.serves (H.fixed hw.old)) (desc_of monitor.old) }
-    requires begun { IsBegun [] monitor.old (H.machinery hw.old) }
-    requires fit { HaveRoom (desc_of monitor.old) images.now }
-    ensures begun { OnOk result (IsBegun images.now monitor.new (H.machinery hw.new)) }
-    ensures made { OnOk result (H.machinery hw.new ≡ loaded_from kept_cells images.now (H.machinery hw.old)) }
-    ensures refused { OnErr result (LoadedSome images.now (H.machinery hw.old) (H.machinery hw.new)) }
+    requires begun { IsBegun kept_cells [] monitor.old (H.machinery hw.old) }
+    requires no_more { HoldsNoMore monitor.old }
+    requires fit { HaveRoom (desc_of monitor.old) kept_cells (switched_on images.now) }
+    ensures begun { OnOk result (IsBegun kept_cells (switched_on images.now) monitor.new (H.machinery hw.new)) }
+    ensures made { OnOk result (H.machinery hw.new ≡ loaded_from kept_cells (switched_on images.now) (H.machinery hw.old)) }
+    ensures refused { OnErr result (LoadedSome (switched_on images.now) (H.machinery hw.old) (H.machinery hw.new)) }
     ensures machine { monitor.new.accepted.machine.now ≡ monitor.old.accepted.machine.now }
     ensures fixed { H.fixed hw.new ≡ H.fixed hw.old }
 {

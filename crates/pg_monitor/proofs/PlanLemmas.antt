@@ -1,109 +1,30 @@
 -- Turns by a plan, one pair after another.
-use Rattle.std.proofs.Common.{◌≡◌, ℕ, zero, suc, ◌+◌, ◌-◌, ◌<◌, ◌≤◌, ◌⊎◌, inl, inr, Bool, true, false, ◌==◌, if◌then◌else◌, List, [], ◌∷◌, ◌++◌, length, take, drop, All, Option, None, Some, slice_set, slice_index, slice_get, get_or, refl, sym, ◌∙◌, ap, subst, arith}
+use Rattle.std.proofs.Common.{◌≡◌, ℕ, zero, suc, ◌+◌, ◌<◌, ◌≤◌, ◌⊎◌, List, [], ◌∷◌, length, drop, Option, None, Some, slice_index, slice_get, get_or, refl, sym, ◌∙◌, ap, subst, arith}
 use Rattle.std.specs.Option.{option_map}
-use Rattle.std.proofs.lemmas.Bool.{eqb-true, eqb-false}
-use Rattle.std.proofs.lemmas.List.{length-take-le, length-append, length-set, length-map, drop_more, drop_all, get_or-set_same, get_or-set_other, get_or_append_left, get_or-append_right, get_or-take, get_or-drop}
-use Rattle.std.proofs.lemmas.List.Elements.{All-nil, All-cons, All-head, All-tail}
-use Rattle.std.proofs.lemmas.Option.{slice_get-get_or, slice_get_past, slice_get_cases}
+use Rattle.std.proofs.lemmas.List.{drop_more, drop_all, get_or-set_same}
 use Rattle.pg_word.specs.declared.psw.Psw.{Psw}
 use Rattle.pg_ast.specs.declared.tree.Desc.{Desc}
 use Rattle.pg_meaning.specs.States.{State}
 use Rattle.pg_meaning.specs.Steps.{steps}
 use Rattle.pg_valid.specs.Valid.{IsValid}
-use Rattle.pg_meaning.proofs.StepLaws.{steps-add}
 use Rattle.pg_valid.proofs.StepSound.{steps-length}
 use Rattle.pg_hw.specs.Machinery.{Machinery}
 use Rattle.pg_routine.specs.Composing.{composed}
 use Rattle.pg_routine.specs.Granting.{with_grant}
 use Rattle.pg_routine.proofs.StateLaws.{with_grant-length}
-use Rattle.pg_monitor.specs.declared.guest.Guest.{Guest}
-use Rattle.pg_monitor.specs.Guests.{virtual, virtuals}
-use Rattle.pg_monitor.specs.Direct.{direct_among}
-use Rattle.pg_monitor.specs.Standing.{Stands}
-use Rattle.pg_monitor.specs.Turns.{moved, trap_cell, psw_after, grants_of, changes_in, CountsTurns, BottomTurns, Turned}
-use Rattle.pg_monitor.specs.Plans.{after_plan, turns_of, turns_for, direct_turns, direct_of, cell_turns, cell_behind, psw_turns, psw_behind, current_of, changes_of, Followed}
-use Rattle.pg_monitor.proofs.DirectLemmas.{Holds-within, Holds-length}
-use Rattle.pg_monitor.proofs.WentLemmas.{CountsTurns-none, BottomTurns-none, CountsTurns-add, BottomTurns-add, direct_among-most}
-use Rattle.pg_monitor.proofs.GuestLemmas.{All-at, virtuals-at, Holds-of}
-
--- ---- cells outside the grants
-
-same_cell : (xs ys : List ℕ) (k : ℕ) → length xs ≡ length ys → ((e : ℕ) → get_or xs k e ≡ get_or ys k e) → slice_get xs k ≡ slice_get ys k
-same_cell xs ys k len same = elim ((slice_get_cases ys k).1) [
-  | inl h ↦ slice_get-get_or xs k h.0 (omega (arith, len, h.1)) ∙ ap Some (same h.0 ∙ h.3) ∙ sym h.2
-  | inr h ↦ slice_get_past xs k (omega (arith, len, h.0)) ∙ sym h.1
-]
-
--- a cell outside a grant is as it was
-pub granted-outside : (cells new : List ℕ) (base k : ℕ) → base + length new ≤ length cells → (k < base) ⊎ (base + length new ≤ k) →
-    slice_get (with_grant cells base new) k ≡ slice_get cells k
-granted-outside cells new base k within place =
-    same_cell (with_grant cells base new) cells k (with_grant-length cells new base within) (λ e. by_place e place)
-  where
-    by_place : (e : ℕ) → (k < base) ⊎ (base + length new ≤ k) → get_or (with_grant cells base new) k e ≡ get_or cells k e
-    by_place e (inl below) =
-        let front = length-take-le base cells (omega arith) in
-        let both = length-append (take base cells) new in
-        get_or_append_left (take base cells ++ new) (drop (base + length new) cells) e k (omega (arith, front, both))
-        ∙ get_or_append_left (take base cells) new e k (omega (arith, front)) ∙ get_or-take base cells k e below
-    by_place e (inr above) =
-        let front = length-take-le base cells (omega arith) in
-        let both : length (take base cells ++ new) ≡ base + length new = length-append (take base cells) new ∙ omega (arith, front) in
-        let at : base + length new + (k - (base + length new)) ≡ k = omega arith in
-        get_or-append_right (take base cells ++ new) (drop (base + length new) cells) (base + length new) k e both above
-        ∙ get_or-drop (base + length new) cells (k - (base + length new)) e ∙ ap (λ i. get_or cells i e) at
-
-first_outside : (xs : List ℕ) (k w : ℕ) → 1 ≤ k → slice_get (slice_set xs 0 w) k ≡ slice_get xs k
-first_outside xs k w some =
-    same_cell (slice_set xs 0 w) xs k (length-set xs 0 w) (λ e. get_or-set_other xs 0 k w e (λ is. absurd (omega arith)))
-
--- ---- the same grants
-
-abbrev outside_of : ℕ → Guest → Type 0
-outside_of at g = (at < g.base) ⊎ (g.base + g.size ≤ at)
-
-grants-outside : (at : ℕ) (gs hs : List Guest) → grants_of hs ≡ grants_of gs → All (outside_of at) gs → All (outside_of at) hs
-grants-outside at [] [] e all = All-nil (outside_of at)
-grants-outside at [] (h ∷ hs) e all = absurd (let wrong : ⊥ = cc in wrong)
-grants-outside at (g ∷ gs) [] e all = All-nil (outside_of at)
-grants-outside at (g ∷ gs) (h ∷ hs) e all =
-    let first : (h.base, h.size) ≡ (g.base, g.size) = cc in
-    let rest : grants_of hs ≡ grants_of gs = cc in
-    let base : h.base ≡ g.base = ap (λ (p : ℕ × ℕ). p.0) first in
-    let size : h.size ≡ g.size = ap (λ (p : ℕ × ℕ). p.1) first in
-    All-cons (outside_of at) h hs
-    (subst (λ n. (at < h.base) ⊎ (h.base + n ≤ at)) (sym size) (subst (λ n. (at < n) ⊎ (n + g.size ≤ at)) (sym base) (All-head (outside_of at) g gs all)))
-    (grants-outside at gs hs rest (All-tail (outside_of at) g gs all))
-
-turns-base : (d : Desc) (g h : Guest) (s : Option State) (n : ℕ) → h.base ≡ g.base → direct_turns d (Some h) s n ≡ direct_turns d (Some g) s n
-turns-base d g h None n e = refl
-turns-base d g h (Some s) n e = ap (λ b. direct_among d b n s) e
-
-direct_turns-grants : (d : Desc) (gs hs : List Guest) (k : ℕ) (s : Option State) (n : ℕ) → grants_of hs ≡ grants_of gs →
-    direct_turns d (slice_get hs k) s n ≡ direct_turns d (slice_get gs k) s n
-direct_turns-grants d [] [] k s n e = refl
-direct_turns-grants d [] (h ∷ hs) k s n e = absurd (let wrong : ⊥ = cc in wrong)
-direct_turns-grants d (g ∷ gs) [] k s n e = absurd (let wrong : ⊥ = cc in wrong)
-direct_turns-grants d (g ∷ gs) (h ∷ hs) zero s n e =
-    let first : (h.base, h.size) ≡ (g.base, g.size) = cc in turns-base d g h s n (ap (λ (p : ℕ × ℕ). p.0) first)
-direct_turns-grants d (g ∷ gs) (h ∷ hs) (suc k) s n e =
-    let rest : grants_of hs ≡ grants_of gs = cc in direct_turns-grants d gs hs k s n rest
-
-direct_of-grants : (d : Desc) (gs hs : List Guest) (plan : List (ℕ × ℕ)) (ss : List State) → grants_of hs ≡ grants_of gs → direct_of d hs plan ss ≡ direct_of d gs plan ss
-direct_of-grants d gs hs [] ss e = refl
-direct_of-grants d gs hs (turn ∷ plan) ss e =
-    ap (λ k. k + direct_of d hs plan (moved d turn.0 turn.1 ss)) (direct_turns-grants d gs hs turn.0 (slice_get ss turn.0) turn.1 e)
-    ∙ ap (λ k. direct_turns d (slice_get gs turn.0) (slice_get ss turn.0) turn.1 + k) (direct_of-grants d gs hs plan (moved d turn.0 turn.1 ss) e)
-
-direct_turns-most : (d : Desc) (g : Option Guest) (s : Option State) (n : ℕ) → direct_turns d g s n ≤ n
-direct_turns-most d None s n = omega arith
-direct_turns-most d (Some g) None n = omega arith
-direct_turns-most d (Some g) (Some s) n = direct_among-most d g.base n s
-
-pub direct_of-most : (d : Desc) (gs : List Guest) (plan : List (ℕ × ℕ)) (ss : List State) → direct_of d gs plan ss ≤ turns_of plan
-direct_of-most d gs [] ss = omega arith
-direct_of-most d gs (turn ∷ plan) ss =
-    omega (arith, direct_turns-most d (slice_get gs turn.0) (slice_get ss turn.0) turn.1, direct_of-most d gs plan (moved d turn.0 turn.1 ss))
+use Rattle.pg_control.specs.declared.guest.Guest.{Guest}
+use Rattle.pg_control.specs.Guests.{virtual, virtuals, grants_of}
+use Rattle.pg_control.specs.Direct.{direct_among}
+use Rattle.pg_control.specs.Standing.{Stands}
+use Rattle.pg_control.specs.Plans.{moved, after_plan, turns_of, turns_for, count_turns}
+use Rattle.pg_control.specs.Traps.{trap_cell}
+use Rattle.pg_monitor.specs.Turns.{psw_after, changes_in, CountsTurns, BottomTurns, Turned}
+use Rattle.pg_monitor.specs.Plans.{direct_of, cell_turns, cell_behind, psw_turns, psw_behind, current_of, changes_of, Followed}
+use Rattle.pg_control.proofs.DirectLemmas.{Holds-within, Holds-length}
+use Rattle.pg_monitor.proofs.WentLemmas.{CountsTurns-none, BottomTurns-none, CountsTurns-add, BottomTurns-add}
+use Rattle.pg_control.proofs.CountLemmas.{direct_among-most}
+use Rattle.pg_control.proofs.GuestLemmas.{All-at, virtuals-at, Holds-of}
+use Rattle.pg_control.proofs.PlanLemmas.{after_plan-at, count_of-grants, count_of-most, first_outside, granted-outside, grants-outside, outside_of}
 
 -- ---- cell 0
 
@@ -156,42 +77,7 @@ psw_behind-grants d gs hs (turn ∷ plan) ss held e =
     ap (psw_behind d hs plan (moved d turn.0 turn.1 ss)) (psw_turns-grants d gs hs turn.0 (slice_get ss turn.0) turn.1 held e)
     ∙ psw_behind-grants d gs hs plan (moved d turn.0 turn.1 ss) (psw_turns d (slice_get gs turn.0) (slice_get ss turn.0) turn.1 held) e
 
--- ---- the turns of one guest
-
-moved-own : (d : Desc) (j n : ℕ) (ss : List State) → slice_get (moved d j n ss) j ≡ option_map (steps d n) (slice_get ss j)
-moved-own d j n [] = refl
-moved-own d zero n (s ∷ ss) = refl
-moved-own d (suc j) n (s ∷ ss) = moved-own d j n ss
-
-moved-other : (d : Desc) (k n j : ℕ) (ss : List State) → (k ≡ j → ⊥) → slice_get (moved d k n ss) j ≡ slice_get ss j
-moved-other d k n j [] other = refl
-moved-other d zero n zero (s ∷ ss) other = absurd (other refl)
-moved-other d zero n (suc j) (s ∷ ss) other = refl
-moved-other d (suc k) n zero (s ∷ ss) other = refl
-moved-other d (suc k) n (suc j) (s ∷ ss) other = moved-other d k n j ss (λ same. other (ap suc same))
-
-on-none : (d : Desc) (o : Option State) → option_map (steps d 0) o ≡ o
-unfolding steps
-on-none d None = refl
-on-none d (Some s) = refl
-
-on-more : (d : Desc) (m n : ℕ) (o : Option State) → option_map (steps d n) (option_map (steps d m) o) ≡ option_map (steps d (m + n)) o
-on-more d m n None = refl
-on-more d m n (Some s) = ap Some (steps-add d m n s)
-
--- the state of each guest is moved by the turns of its own
-moved-at : (d : Desc) (k n j : ℕ) (ss : List State) (b : Bool) → (k == j) ≡ b →
-    slice_get (moved d k n ss) j ≡ option_map (steps d (if b then n else 0)) (slice_get ss j)
-moved-at d k n j ss true e = ap (λ i. slice_get (moved d i n ss) j) (eqb-true k j e) ∙ moved-own d j n ss
-moved-at d k n j ss false e = moved-other d k n j ss (eqb-false k j e) ∙ sym (on-none d (slice_get ss j))
-
--- each guest stands behind a plan at the state of its own number of turns
-pub after_plan-at : (d : Desc) (plan : List (ℕ × ℕ)) (ss : List State) (j : ℕ) → slice_get (after_plan d plan ss) j ≡ option_map (steps d (turns_for j plan)) (slice_get ss j)
-after_plan-at d [] ss j = sym (on-none d (slice_get ss j))
-after_plan-at d (turn ∷ plan) ss j =
-    after_plan-at d plan (moved d turn.0 turn.1 ss) j
-    ∙ ap (option_map (steps d (turns_for j plan))) (moved-at d turn.0 turn.1 j ss (turn.0 == j) refl)
-    ∙ on-more d (if turn.0 == j then turn.1 else 0) (turns_for j plan) (slice_get ss j)
+-- ---- the states of guests
 
 pub Followed-own : (d : Desc) (plan : List (ℕ × ℕ)) (old new : Machinery) (gs hs : List Guest) (c c' : Option ℕ) → Followed d plan old new gs hs c c' →
     (j : ℕ) → slice_get (virtuals new.state.cells hs) j ≡ option_map (steps d (turns_for j plan)) (slice_get (virtuals old.state.cells gs) j)
@@ -242,10 +128,10 @@ Followed-next d turn plan before between after gs hs ks c c' c'' valid stands on
     let under : psw_turns d (slice_get gs k) (slice_get ss k) n old.psw ≡ psw_after d g n v old.psw =
     ap (λ o. psw_turns d o (slice_get ss k) n old.psw) one.is_guest
     ∙ ap (λ o. psw_turns d (Some g) o n old.psw) (virtuals-at old.cells gs k g one.is_guest) in
-    let first : direct_turns d (slice_get gs k) (slice_get ss k) n ≡ direct_among d g.base n v =
-    ap (λ o. direct_turns d o (slice_get ss k) n) one.is_guest ∙ ap (λ o. direct_turns d (Some g) o n) (virtuals-at old.cells gs k g one.is_guest) in
+    let first : count_turns (direct_among d) (slice_get gs k) (slice_get ss k) n ≡ direct_among d g.base n v =
+    ap (λ o. count_turns (direct_among d) o (slice_get ss k) n) one.is_guest ∙ ap (λ o. count_turns (direct_among d) (Some g) o n) (virtuals-at old.cells gs k g one.is_guest) in
     let others : direct_of d hs plan (virtuals mid.cells hs) ≡ direct_of d gs plan (moved d k n ss) =
-    ap (direct_of d hs plan) one.states ∙ direct_of-grants d gs hs plan (moved d k n ss) one.grants in
+    ap (direct_of d hs plan) one.states ∙ count_of-grants d (direct_among d) gs hs plan (moved d k n ss) one.grants in
     let all : direct_of d gs (turn ∷ plan) ss ≡ direct_among d g.base n v + direct_of d hs plan (virtuals mid.cells hs) =
     ap (λ x. x + direct_of d gs plan (moved d k n ss)) first ∙ ap (λ x. direct_among d g.base n v + x) (sym others) in
     let changes : changes_of (turn ∷ plan) c ≡ changes_in k n c + changes_of plan c' = ap (λ o. changes_in k n c + changes_of plan o) (sym one.current) in
@@ -270,7 +156,7 @@ Followed-next d turn plan before between after gs hs ks c c' c'' valid stands on
       tally = subst (λ x. CountsTurns (turns_of (turn ∷ plan)) (direct_of d gs (turn ∷ plan) ss) x t t'') (sym changes)
           (subst (λ x. CountsTurns (n + turns_of plan) x (changes_in k n c + changes_of plan c') t t'') (sym all)
           (CountsTurns-add n (turns_of plan) (direct_among d g.base n v) (direct_of d hs plan (virtuals mid.cells hs)) (changes_in k n c) (changes_of plan c') t t' t''
-          (direct_among-most d g.base n v) (direct_of-most d hs plan (virtuals mid.cells hs)) one.tally rest.tally));
+          (direct_among-most d g.base n v) (count_of-most d (direct_among d) hs plan (virtuals mid.cells hs) (direct_among-most d)) one.tally rest.tally));
       bottom = subst (λ x. BottomTurns (n + turns_of plan) x b b'') (sym all)
           (BottomTurns-add n (turns_of plan) (direct_among d g.base n v) (direct_of d hs plan (virtuals mid.cells hs)) b b' b'' one.bottom rest.bottom);
     }
@@ -290,6 +176,3 @@ Followed-end d plan i h gs current past =
 
 pub Turned-machine : (d e : Desc) (k n : ℕ) (old new : Machinery) (gs hs : List Guest) (c c' : Option ℕ) → e ≡ d → Turned e k n old new gs hs c c' → Turned d k n old new gs hs c c'
 Turned-machine d e k n old new gs hs c c' same one = subst (λ x. Turned x k n old new gs hs c c') same one
-
-pub grants-length : (gs hs : List Guest) → grants_of hs ≡ grants_of gs → length hs ≡ length gs
-grants-length gs hs e = sym (length-map hs (λ (g : Guest). (g.base, g.size))) ∙ ap length e ∙ length-map gs (λ (g : Guest). (g.base, g.size))

@@ -10,16 +10,16 @@ use Rattle.pg_meaning.specs.States.{State, IsState}
 use Rattle.pg_valid.specs.Valid.{IsValid}
 use Rattle.pg_routine.specs.Composing.{composed}
 use Rattle.pg_routine.proofs.GrantLaws.{guest-length, guest-set, guest-changed}
-use Rattle.pg_monitor.specs.declared.guest.Guest.{Guest}
-use Rattle.pg_monitor.specs.Guests.{virtual, virtuals, IsGrant, AreApart, AreDisjoint}
-use Rattle.pg_monitor.specs.Current.{Holds, with_psw}
+use Rattle.pg_control.specs.declared.guest.Guest.{Guest}
+use Rattle.pg_control.specs.Guests.{virtual, virtuals, IsGrant, AreApart, AreDisjoint}
+use Rattle.pg_control.specs.Current.{Holds, with_psw}
 use Rattle.pg_monitor.specs.Reaching.{with_cell, changed_at}
-use Rattle.pg_monitor.specs.Standing.{IsUnder, Stands}
-use Rattle.pg_monitor.proofs.AdmitLemmas.{grant-others}
-use Rattle.pg_monitor.proofs.CellLemmas.{cell_of}
-use Rattle.pg_monitor.proofs.DirectLemmas.{Holds-within}
-use Rattle.pg_monitor.proofs.GuestLemmas.{All-at, LeavesOthers, virtuals-apart, Holds-of}
-use Rattle.pg_monitor.proofs.WentLemmas.{Holds-addressable}
+use Rattle.pg_control.specs.Standing.{IsUnder, Stands}
+use Rattle.pg_control.proofs.AdmitLemmas.{grant-others}
+use Rattle.pg_control.proofs.CellLemmas.{cell_of}
+use Rattle.pg_control.proofs.DirectLemmas.{Holds-within}
+use Rattle.pg_control.proofs.GuestLemmas.{All-at, LeavesOthers, virtuals-apart, Holds-of}
+use Rattle.pg_control.proofs.StateLemmas.{Holds-addressable}
 
 -- ---- the k-th of a list
 

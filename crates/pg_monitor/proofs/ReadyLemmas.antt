@@ -19,12 +19,13 @@ use Rattle.pg_routine.proofs.GrantLaws.{with_grant-same}
 use Rattle.pg_alloc.specs.Fit.{kept_cells, free_base}
 use Rattle.pg_alloc.specs.Grants.{Granted, and_grant}
 use Rattle.pg_alloc.proofs.FitLemmas.{free_base-first, free_base-free}
-use Rattle.pg_monitor.specs.declared.guest.Guest.{Guest}
+use Rattle.pg_control.specs.declared.guest.Guest.{Guest}
 use Rattle.pg_monitor.specs.declared.monitor.Monitor.{Monitor}
-use Rattle.pg_monitor.specs.Standing.{Stands}
-use Rattle.pg_monitor.proofs.AdmitLemmas.{IsPut, IsFreeOf}
-use Rattle.pg_monitor.proofs.LoadLemmas.{power_on-whole}
-use Rattle.pg_monitor.specs.Monitors.{desc_of, base_for, guest_in, GrantsOne, IsReady}
+use Rattle.pg_control.specs.Standing.{Stands}
+use Rattle.pg_control.proofs.AdmitLemmas.{IsPut, IsFreeOf}
+use Rattle.pg_control.proofs.LoadLemmas.{power_on-whole}
+use Rattle.pg_monitor.specs.Monitors.{desc_of, base_for, GrantsOne, IsReady}
+use Rattle.pg_control.specs.Guests.{guest_in}
 
 -- the first base is the one behind the cells that are kept
 first-base : (q size base : ℕ) → free_base q [] size ≡ Some base → base ≡ kept_cells

@@ -9,14 +9,14 @@ use Rattle.pg_meaning.specs.States.{IsState}
 use Rattle.pg_valid.specs.Valid.{IsValid}
 use Rattle.pg_hw.specs.Machinery.{Machinery, loaded_with}
 use Rattle.pg_routine.specs.Composing.{composed}
-use Rattle.pg_monitor.specs.declared.guest.Guest.{Guest}
-use Rattle.pg_monitor.specs.Guests.{virtual, virtuals, IsGrant}
-use Rattle.pg_monitor.specs.Current.{Holds, is_current, with_psw}
+use Rattle.pg_control.specs.declared.guest.Guest.{Guest}
+use Rattle.pg_control.specs.Guests.{virtual, virtuals, IsGrant}
+use Rattle.pg_control.specs.Current.{Holds, is_current, with_psw}
 use Rattle.pg_monitor.specs.Reaching.{under_psw, changed_at, entered_if_current}
-use Rattle.pg_monitor.specs.Standing.{IsUnder, Stands}
+use Rattle.pg_control.specs.Standing.{IsUnder, Stands}
 use Rattle.pg_monitor.proofs.ReachLemmas.{virtuals-changed, changed-all}
-use Rattle.pg_monitor.proofs.GuestLemmas.{disjoint-set, Holds-of}
-use Rattle.pg_monitor.proofs.WentLemmas.{composed-fits}
+use Rattle.pg_control.proofs.GuestLemmas.{disjoint-set, Holds-of}
+use Rattle.pg_control.proofs.StateLemmas.{composed-fits}
 
 -- ---- a program status word
 

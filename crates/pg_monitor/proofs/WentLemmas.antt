@@ -1,120 +1,37 @@
 -- Turns of the current guest: a burst, what is interpreted behind it, and turns after turns.
-use Rattle.std.proofs.Common.{◌≡◌, ℕ, zero, suc, ◌+◌, ◌-◌, ◌<◌, ◌≤◌, ◌^◌, Bool, true, false, not, ◌&&◌, min, nat_lt, if◌then◌else◌, List, ◌++◌, length, take, drop, slice_set, slice_index, slice_get, Some, All, pow_mono, lit<, refl, sym, ◌∙◌, ap, subst, arith, add-zero, add-suc}
-use Rattle.std.proofs.lemmas.Bool.{ltb-true}
-use Rattle.std.proofs.lemmas.List.{set-set, get_or-set_same, length-set}
-use Rattle.std.proofs.lemmas.List.Elements.{All-append, All-take, All-drop}
-use Rattle.std.proofs.lemmas.Option.{get_or_from_slice_get}
-use Rattle.pg_word.specs.declared.shape.Shape.{Shape}
-use Rattle.pg_word.specs.declared.psw.Psw.{Psw}
-use Rattle.pg_word.specs.declared.psw.Mode.TheVariants.{S, U}
-use Rattle.pg_word.specs.Psw.{IsPsw, packed, power_on_psw, unpacked}
+use Rattle.std.proofs.Common.{◌≡◌, ℕ, suc, ◌+◌, ◌<◌, ◌≤◌, Bool, true, false, not, ◌&&◌, if◌then◌else◌, List, length, slice_set, slice_index, refl, sym, ◌∙◌, ap, subst, arith}
+use Rattle.std.proofs.lemmas.List.{set-set, get_or-set_same}
+use Rattle.pg_word.specs.Psw.{IsPsw}
 use Rattle.pg_ast.specs.declared.tree.Desc.{Desc}
-use Rattle.pg_meaning.specs.States.{State, IsState, shape_of}
+use Rattle.pg_meaning.specs.States.{State, IsState}
 use Rattle.pg_meaning.specs.Steps.{step, steps}
 use Rattle.pg_valid.specs.Valid.{IsValid}
-use Rattle.pg_type.specs.Accepting.{IsAccepted}
 use Rattle.pg_meaning.proofs.StepLaws.{steps-add}
 use Rattle.pg_valid.proofs.StepSound.{step-state, step-length}
-use Rattle.pg_valid.proofs.ValidFacts.{IsShape-of_valid}
 use Rattle.pg_hw.specs.declared.counts.Counts.{Counts}
 use Rattle.pg_hw.specs.Tallies.{Bottom, raised_by, after_steps}
 use Rattle.pg_hw.specs.Machinery.{Machinery}
-use Rattle.pg_hw.specs.Bursts.{traps, is_user, one_if, untrapped_at, untrapped_among, supervisor_among, burst_length, BottomRises}
+use Rattle.pg_hw.specs.Bursts.{traps, is_user, one_if, untrapped_at, untrapped_among, supervisor_among, BottomRises}
 use Rattle.pg_hw.specs.Running.{Ran}
 use Rattle.pg_hw.proofs.TallyLaws.{raised_by-zero, RisesWithin-none}
-use Rattle.pg_hw.proofs.BurstLaws.{one_if-most, burst_length-goes_on, burst_length-some, untrapped_among-one}
+use Rattle.pg_hw.proofs.BurstLaws.{untrapped_among-one}
 use Rattle.pg_routine.specs.Composing.{composed}
 use Rattle.pg_routine.specs.Granting.{with_grant}
 use Rattle.pg_routine.proofs.GrantLaws.{with_grant-same}
 use Rattle.pg_routine.proofs.StateLaws.{with_grant-length}
-use Rattle.pg_monitor.specs.declared.guest.Guest.{Guest}
-use Rattle.pg_monitor.specs.Guests.{virtual}
-use Rattle.pg_monitor.specs.Direct.{is_direct, direct_among}
-use Rattle.pg_monitor.specs.Turns.{trap_cell, trap_word, CountsTurns, BottomTurns}
-use Rattle.pg_monitor.specs.Current.{Holds, Runs, with_psw, Interpreted, Went}
-use Rattle.pg_monitor.proofs.CellLemmas.{with_grant-again, with_grant-before, set_first-grant, set_first-guest, set_first-second, set_same, cell_of}
-use Rattle.pg_monitor.proofs.DirectLemmas.{Holds-within, Holds-length, Runs-user, Runs-direct, DirectStep-of, TrapStep, TrapStep-of}
-use Rattle.pg_monitor.proofs.RunLemmas.{Holds-next, virtual-own, Directly, Directly-next, Directly-all, supervisor_at-user}
-
--- ---- what a composed program status word and other cells in a grant leave
-
--- a grant lies within the addresses that a number of 32 bits can have
-pub Holds-addressable : (d : Desc) (real : State) (g : Guest) → IsValid d → Holds d real g → g.base + g.size < 2 ^ 32
-Holds-addressable d real g valid h =
-    let shape = IsShape-of_valid d valid in
-    let most : 2 ^ d.address ≤ 2 ^ 20 = pow_mono shape.address_most in
-    omega (arith, most, shape.size_most, h.grant.within)
-
-composed-fits_by : (a : ℕ) (psw : Psw) (base size : ℕ) (b : Bool) → IsPsw a psw → base + size < 2 ^ a → nat_lt psw.l size ≡ b →
-    IsPsw a (record { mode = U; p = psw.p; l = (if b then psw.l + base else base); b = (if b then min psw.b (size - psw.l) else 0) })
-composed-fits_by a psw base size true h within e =
-    let below : psw.l < size = ltb-true psw.l size e in
-    record { p = h.p; l = omega arith; b = omega (arith, h.b) }
-composed-fits_by a psw base size false h within e = record { p = h.p; l = omega arith; b = omega arith }
-
-pub composed-fits : (d : Desc) (psw : Psw) (base size : ℕ) → IsValid d → base + size ≤ d.size → IsPsw d.address psw → IsPsw d.address (composed psw base size)
-composed-fits d psw base size valid within h =
-    let shape = IsShape-of_valid d valid in
-    composed-fits_by d.address psw base size (nat_lt psw.l size) h (omega (arith, shape.size_most)) refl
-
--- a state with the cells of another state in a grant
-pub granted-state : (d : Desc) (real s : State) (base : ℕ) (now : State) → IsState d real → IsState d s → base + length s.cells ≤ length real.cells →
-    now.cells ≡ with_grant real.cells base s.cells → IsPsw d.address now.psw → IsState d now
-granted-state d real s base now real_state s_state within e fields =
-    let same = ap length e ∙ with_grant-length real.cells s.cells base within in
-    record {
-      size_least = omega (arith, same, real_state.size_least);
-      size_most = omega (arith, same, real_state.size_most);
-      words = subst (All (λ c. c < 2 ^ d.word)) (sym e)
-          (All-append (λ c. c < 2 ^ d.word) (take base real.cells ++ s.cells) (drop (base + length s.cells) real.cells)
-          (All-append (λ c. c < 2 ^ d.word) (take base real.cells) s.cells (All-take (λ c. c < 2 ^ d.word) base real.cells real_state.words) s_state.words)
-          (All-drop (λ c. c < 2 ^ d.word) (base + length s.cells) real.cells real_state.words));
-      fields = fields;
-    }
-
--- ---- a burst
-
-control-mode : (x : Psw) (q : ℕ) → x ≡ power_on_psw q → x.mode ≡ S
-control-mode x q e = ap (λ (y : Psw). y.mode) e
-
--- a burst that ended with a step that traps
-pub record Stopped (d : Desc) (n : ℕ) (real : State) (g : Guest) : Type 0 where
-  pub before : ℕ
-  pub done : n ≡ suc before
-  pub directly : Directly d before real g
-  pub stops : traps d (steps d before real) ≡ true
-
-last_directly : (d : Desc) (k m : ℕ) (real : State) (g : Guest) → ∥ IsAccepted d ∥₁ → IsValid d → Runs d real g → suc m ≡ burst_length d k real → Directly d m real g
-last_directly d k m real g accepted valid r e =
-    Directly-all d m real g accepted valid r (λ j below. burst_length-goes_on d k j real (omega (arith, e)))
-
-user_last : (d : Desc) (m : ℕ) (real : State) (g : Guest) (b : Bool) → ∥ IsAccepted d ∥₁ → IsValid d → Directly d m real g → traps d (steps d m real) ≡ b →
-    (steps d (suc m) real).psw.mode ≡ U → Directly d (suc m) real g
-unfolding steps
-user_last d m real g false accepted valid before is user = Directly-next d m real g accepted valid before is
-user_last d m real g true accepted valid before is user =
-    let left = control-mode _ d.size (TrapStep-of d (steps d m real) _ valid before.runs is).psw in absurd (let wrong : ⊥ = cc in wrong)
-
--- a burst after which the hardware is in user mode was of direct steps
-pub Directly-burst : (d : Desc) (k done : ℕ) (real : State) (g : Guest) → ∥ IsAccepted d ∥₁ → IsValid d → Runs d real g → 0 < k → done ≡ burst_length d k real →
-    (steps d done real).psw.mode ≡ U → Directly d done real g
-Directly-burst d k zero real g accepted valid r some e user = absurd (omega (arith, burst_length-some d k real some))
-Directly-burst d k (suc m) real g accepted valid r some e user =
-    user_last d m real g (traps d (steps d m real)) accepted valid (last_directly d k m real g accepted valid r e) refl user
-
-stopped_last : (d : Desc) (m : ℕ) (real : State) (g : Guest) (b : Bool) → ∥ IsAccepted d ∥₁ → IsValid d → Directly d m real g → traps d (steps d m real) ≡ b →
-    (steps d (suc m) real).psw.mode ≡ S → Stopped d (suc m) real g
-stopped_last d m real g true accepted valid before is control = record { before = m; done = refl; directly = before; stops = is }
-stopped_last d m real g false accepted valid before is control =
-    let after = Directly-next d m real g accepted valid before is in
-    let user = Runs-user d (steps d (suc m) real) _ after.runs in absurd (let wrong : ⊥ = cc in wrong)
-
--- one after which it is in supervisor mode ended with a step that traps
-pub Stopped-burst : (d : Desc) (k done : ℕ) (real : State) (g : Guest) → ∥ IsAccepted d ∥₁ → IsValid d → Runs d real g → 0 < k → done ≡ burst_length d k real →
-    (steps d done real).psw.mode ≡ S → Stopped d done real g
-Stopped-burst d k zero real g accepted valid r some e control = absurd (omega (arith, burst_length-some d k real some))
-Stopped-burst d k (suc m) real g accepted valid r some e control =
-    stopped_last d m real g (traps d (steps d m real)) accepted valid (last_directly d k m real g accepted valid r e) refl control
+use Rattle.pg_control.specs.declared.guest.Guest.{Guest}
+use Rattle.pg_control.specs.Guests.{virtual}
+use Rattle.pg_control.specs.Direct.{is_direct, direct_among}
+use Rattle.pg_control.specs.Traps.{trap_cell, trap_word}
+use Rattle.pg_monitor.specs.Turns.{CountsTurns, BottomTurns}
+use Rattle.pg_control.specs.Current.{Holds, Runs, with_psw}
+use Rattle.pg_monitor.specs.Current.{Interpreted, Went}
+use Rattle.pg_control.proofs.CellLemmas.{with_grant-again, with_grant-before, set_first-grant, set_same}
+use Rattle.pg_control.proofs.DirectLemmas.{Holds-within, Holds-length, Runs-user}
+use Rattle.pg_control.proofs.RunLemmas.{Holds-next, virtual-own, Directly, supervisor_at-user}
+use Rattle.pg_control.proofs.BurstLemmas.{Halted, Stopped, steps-once}
+use Rattle.pg_control.proofs.StateLemmas.{composed-fits, granted-state}
+use Rattle.pg_control.proofs.CountLemmas.{direct_among-add, direct_among-most, trap_cell-add}
 
 -- ---- turns that were direct
 
@@ -146,62 +63,6 @@ Went-direct d n old new g h run ran guest =
     }
 
 -- ---- turns that ended with one that was interpreted
-
--- the hardware behind a burst whose last step trapped, and the guest as it was at that step's entry
-pub record Halted (d : Desc) (m : ℕ) (real mid : State) (g h : Guest) : Type 0 where
-  pub holds : Holds d mid h
-  pub guest : h ≡ with_psw g (steps d m (virtual real.cells g)).psw
-  pub state : virtual mid.cells h ≡ steps d m (virtual real.cells g)
-  pub cells : mid.cells ≡ slice_set (steps d m real).cells 0 (trap_word d g.base (steps d m (virtual real.cells g)))
-  pub turned : is_direct d g.base (steps d m (virtual real.cells g)) ≡ false
-
-steps-last : (d : Desc) (n m : ℕ) (s t : State) → t ≡ steps d n s → n ≡ suc m → t ≡ step d (steps d m s)
-unfolding steps
-steps-last d n m s t is e = is ∙ ap (λ k. steps d k s) e
-
-Holds-trapped : (d : Desc) (now mid : State) (h : Guest) (word : ℕ) → Holds d now h → mid.cells ≡ slice_set now.cells 0 word → IsState d mid → Holds d mid h
-Holds-trapped d now mid h word held e mid_state =
-    let same : length mid.cells ≡ length now.cells = ap length e ∙ length-set now.cells 0 word in
-    let guest : virtual mid.cells h ≡ virtual now.cells h = virtual-trapped now.cells mid.cells h word e (omega (arith, held.grant.above)) in
-    record {
-      size = same ∙ held.size;
-      grant = held.grant;
-      control = cell_of now.cells mid.cells 1 (packed d.address (power_on_psw d.size)) same (ap (λ xs. slice_index xs 1) e ∙ set_first-second now.cells word) held.control;
-      real_state = mid_state;
-      virtual_state = subst (IsState d) (sym guest) held.virtual_state;
-    }
-  where
-    virtual-trapped : (cells after : List ℕ) (h : Guest) (word : ℕ) → after ≡ slice_set cells 0 word → 0 < h.base → virtual after h ≡ virtual cells h
-    virtual-trapped cells after h word e some =
-        ap (λ xs. virtual xs h) e ∙ ap (λ xs. let t : State = record { cells = xs; psw = h.psw } in t) (set_first-guest cells h.base h.size word some)
-
-pub Halted-of : (d : Desc) (n : ℕ) (real mid : State) (g h : Guest) (stopped : Stopped d n real g) → IsValid d → mid ≡ steps d n real →
-    h ≡ with_psw g (record g.psw { p = (unpacked d.address (slice_index mid.cells 0)).p }) → Halted d stopped.before real mid g h
-Halted-of d n real mid g h stopped valid is guest =
-    let m = stopped.before in
-    let v = virtual real.cells g in
-    let vm = steps d m v in
-    let now = steps d m real in
-    let hm = with_psw g vm.psw in
-    let before = stopped.directly in
-    let moved : mid ≡ step d now = steps-last d n m real mid is stopped.done in
-    let trap : TrapStep d now hm vm = subst (TrapStep d now hm) before.state (TrapStep-of d now hm valid before.runs stopped.stops) in
-    let entry : (unpacked d.address (slice_index mid.cells 0)).p ≡ now.psw.p =
-    ap (λ (x : State). (unpacked d.address (slice_index x.cells 0)).p) moved ∙ ap (λ (x : Psw). x.p) trap.entry in
-    let who : h ≡ hm = guest ∙ ap (λ (k : ℕ). with_psw g (record g.psw { p = k })) entry ∙ sym (ap (with_psw g) before.kept) in
-    let cells : mid.cells ≡ slice_set now.cells 0 (trap_word d g.base vm) = ap (λ (x : State). x.cells) moved ∙ trap.cells in
-    let holds : Holds d mid hm = Holds-trapped d now mid hm (trap_word d g.base vm) before.runs.holds cells
-    (subst (IsState d) (sym moved) (step-state d now valid before.runs.holds.real_state)) in
-    let same : virtual mid.cells hm ≡ vm = ap (λ xs. virtual xs hm) cells
-    ∙ ap (λ xs. let t : State = record { cells = xs; psw = vm.psw } in t) (set_first-guest now.cells g.base g.size (trap_word d g.base vm) (omega (arith, before.runs.holds.grant.above)))
-    ∙ before.state in
-    record {
-      holds = subst (Holds d mid) (sym who) holds;
-      guest = who;
-      state = ap (virtual mid.cells) who ∙ same;
-      cells = cells;
-      turned = ap (is_direct d g.base) (sym before.state) ∙ Runs-direct d now hm before.runs ∙ ap not stopped.stops;
-    }
 
 uncounted : (b c : Bool) → b ≡ true → one_if (c && not b) ≡ 0
 uncounted true true e = refl
@@ -308,21 +169,6 @@ Went-none d h g runs =
       bottom = BottomTurns-none h.bottom;
     }
 
-pub direct_among-most : (d : Desc) (base n : ℕ) (s : State) → direct_among d base n s ≤ n
-unfolding direct_among
-direct_among-most d base zero s = omega arith
-direct_among-most d base (suc n) s = omega (arith, direct_among-most d base n s, one_if-most (is_direct d base (steps d n s)))
-
-pub direct_among-add : (d : Desc) (base m n : ℕ) (s : State) → direct_among d base (m + n) s ≡ direct_among d base m s + direct_among d base n (steps d m s)
-unfolding direct_among
-direct_among-add d base m zero s = rw (add-zero, add-zero) refl
-direct_among-add d base m (suc n) s = rw (add-suc, direct_among-add d base m n s, steps-add d m n s) (omega arith)
-
-pub trap_cell-add : (d : Desc) (base m n : ℕ) (s : State) (held : ℕ) → trap_cell d base (m + n) s held ≡ trap_cell d base n (steps d m s) (trap_cell d base m s held)
-unfolding trap_cell
-trap_cell-add d base m zero s held = rw add-zero refl
-trap_cell-add d base m (suc n) s held = rw (add-suc, trap_cell-add d base m n s held, steps-add d m n s) refl
-
 pub CountsTurns-add : (m n x y c k : ℕ) (t t' t'' : Counts) → x ≤ m → y ≤ n → CountsTurns m x c t t' → CountsTurns n y k t' t'' → CountsTurns (m + n) (x + y) (c + k) t t''
 CountsTurns-add m n x y c k t t' t'' few few' a b = record {
   steps = omega (arith, a.steps, b.steps);
@@ -391,74 +237,6 @@ Went-then d m n old between new g h k valid runs one two =
       bottom = subst (λ x. BottomTurns (m + n) x b b'') (sym all)
           (BottomTurns-add m n (direct_among d g.base m v) (direct_among d h.base n (virtual mid.cells h)) b b' b'' one.bottom two.bottom);
     }
-
--- ---- a single step
-
-pub burst-one : (d : Desc) (s : State) → 1 ≡ burst_length d 1 s
-unfolding burst_length
-burst-one d s = by_test (traps d s)
-  where
-    by_test : (b : Bool) → 1 ≡ (if b then 1 else 1 + 0)
-    by_test true = refl
-    by_test false = refl
-
-pub steps-once : (d : Desc) (s : State) → steps d 1 s ≡ step d s
-unfolding steps
-steps-once d s = refl
-
-pub Runs-calm : (d : Desc) (real : State) (g : Guest) → IsValid d → Runs d real g → (step d real).psw.mode ≡ U → traps d real ≡ false
-Runs-calm d real g valid r user = by_test (traps d real) refl
-  where
-    by_test : (b : Bool) → traps d real ≡ b → traps d real ≡ false
-    by_test false e = e
-    by_test true e = let left = control-mode _ d.size (TrapStep-of d real g valid r e).psw in absurd (let wrong : ⊥ = cc in wrong)
-
-pub Stopped-turned : (d : Desc) (real mid : State) (g h : Guest) (stopped : Stopped d 1 real g) → Halted d stopped.before real mid g h → is_direct d g.base (virtual real.cells g) ≡ false
-unfolding steps
-Stopped-turned d real mid g h stopped halted =
-    let none : stopped.before ≡ 0 = omega (arith, stopped.done) in
-    ap (λ k. is_direct d g.base (steps d k (virtual real.cells g))) (sym none) ∙ halted.turned
-
-pub Stopped-state : (d : Desc) (real mid : State) (g h : Guest) (stopped : Stopped d 1 real g) → Halted d stopped.before real mid g h → virtual mid.cells h ≡ virtual real.cells g
-unfolding steps
-Stopped-state d real mid g h stopped halted =
-    let none : stopped.before ≡ 0 = omega (arith, stopped.done) in
-    halted.state ∙ ap (λ k. steps d k (virtual real.cells g)) none
-
-Runs-stops : (d : Desc) (real : State) (g : Guest) → ∥ IsAccepted d ∥₁ → IsValid d → Runs d real g → (step d real).psw.mode ≡ S → traps d real ≡ true
-Runs-stops d real g accepted valid r control = by_test (traps d real) refl
-  where
-    by_test : (b : Bool) → traps d real ≡ b → traps d real ≡ true
-    by_test true e = e
-    by_test false e =
-        let moved = DirectStep-of d real g accepted valid r e in
-        let user : (step d real).psw.mode ≡ U = ap (λ (x : Psw). x.mode) moved.psw in absurd (let wrong : ⊥ = cc in wrong)
-
--- of a single step that traps, the guest has the P of its entry already
-pub entry-own : (d : Desc) (real mid : State) (g : Guest) → ∥ IsAccepted d ∥₁ → IsValid d → Runs d real g → mid ≡ step d real → mid.psw.mode ≡ S →
-    g ≡ with_psw g (record g.psw { p = (unpacked d.address (slice_index mid.cells 0)).p })
-entry-own d real mid g accepted valid r is control =
-    let stops = Runs-stops d real g accepted valid r (ap (λ (x : State). x.psw.mode) (sym is) ∙ control) in
-    let entry = (TrapStep-of d real g valid r stops).entry ∙ r.under in
-    let p : (unpacked d.address (slice_index mid.cells 0)).p ≡ g.psw.p =
-    ap (λ (x : State). (unpacked d.address (slice_index x.cells 0)).p) is ∙ ap (λ (x : Psw). x.p) entry in
-    ap (λ (n : ℕ). with_psw g (record g.psw { p = n })) (sym p)
-
--- a single step of the hardware that enters the control program
-pub Stopped-once : (d : Desc) (old mid : State) (g : Guest) → ∥ IsAccepted d ∥₁ → IsValid d → Runs d old g → mid ≡ step d old → mid.psw.mode ≡ S → Stopped d 1 old g
-Stopped-once d old mid g accepted valid r is control =
-    Stopped-burst d 1 1 old g accepted valid r (lit< tt) (burst-one d old) (ap (λ (x : State). x.psw.mode) (steps-once d old ∙ sym is) ∙ control)
-
-pub Halted-once : (d : Desc) (old mid : State) (g : Guest) (stopped : Stopped d 1 old g) → ∥ IsAccepted d ∥₁ → IsValid d → Runs d old g → mid ≡ step d old → mid.psw.mode ≡ S →
-    Halted d stopped.before old mid g g
-Halted-once d old mid g stopped accepted valid r is control =
-    Halted-of d 1 old mid g g stopped valid (is ∙ sym (steps-once d old)) (entry-own d old mid g accepted valid r is control)
-
--- the program status word at the entry of a step that trapped, as it is read from cell 0
-pub entry-read : (d : Desc) (cells : List ℕ) (shape : Shape) (word : ℕ) (x : Psw) → shape ≡ shape_of d → slice_get cells 0 ≡ Some word → x ≡ unpacked shape.a word →
-    x ≡ unpacked d.address (slice_index cells 0)
-entry-read d cells shape word x same is read =
-    read ∙ ap (λ (s : Shape). unpacked s.a word) same ∙ ap (unpacked d.address) (sym (get_or_from_slice_get cells 0 word 0 is))
 
 -- the same number of turns
 pub Went-count : (d : Desc) (m n : ℕ) (old new : Machinery) (g h : Guest) → m ≡ n → Went d m old new g h → Went d n old new g h

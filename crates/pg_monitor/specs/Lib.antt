@@ -1,10 +1,7 @@
-pub mod Guests
-pub mod Direct
-pub mod Standing
 pub mod Turns
 pub mod Plans
 pub mod Current
-pub mod Loading
+pub mod Bursts
 pub mod Monitors
 pub mod Reaching
 pub mod Schedules

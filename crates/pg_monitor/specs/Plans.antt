@@ -1,41 +1,20 @@
--- Turns by a plan: which guest is to have how many turns, in order.
-use Rattle.std.specs.Prelude.{◌≡◌, ℕ, ◌+◌, ◌<◌, ◌≤◌, ◌⊎◌, ◌==◌, if◌then◌else◌, List, [], ◌∷◌, All, Option, None, Some, slice_get, slice_index}
+-- What turns by a plan leave of a monitor and its hardware.
+use Rattle.std.specs.Prelude.{◌≡◌, ℕ, ◌+◌, ◌≤◌, List, [], ◌∷◌, Option, None, Some, slice_get, slice_index}
 use Rattle.pg_word.specs.declared.psw.Psw.{Psw}
 use Rattle.pg_word.specs.Psw.{old_psw_cell}
 use Rattle.pg_ast.specs.declared.tree.Desc.{Desc}
 use Rattle.pg_meaning.specs.States.{State}
 use Rattle.pg_hw.specs.Machinery.{Machinery}
-use Rattle.pg_monitor.specs.declared.guest.Guest.{Guest}
-use Rattle.pg_monitor.specs.Guests.{virtuals}
-use Rattle.pg_monitor.specs.Direct.{direct_among}
-use Rattle.pg_monitor.specs.Turns.{moved, trap_cell, psw_after, current_after, changes_in, CountsTurns, BottomTurns, grants_of}
-
--- the states after a plan: each pair moves the state of its guest
-abbrev pub after_plan : Desc → List (ℕ × ℕ) → List State → List State
-after_plan d [] ss = ss
-after_plan d (turn ∷ plan) ss = after_plan d plan (moved d turn.0 turn.1 ss)
-
--- all turns of a plan
-abbrev pub turns_of : List (ℕ × ℕ) → ℕ
-turns_of [] = 0
-turns_of (turn ∷ plan) = turn.1 + turns_of plan
-
--- the turns that a plan gives to guest j
-abbrev pub turns_for : ℕ → List (ℕ × ℕ) → ℕ
-turns_for j [] = 0
-turns_for j (turn ∷ plan) = (if turn.0 == j then turn.1 else 0) + turns_for j plan
-
--- the direct ones among n turns of a guest that may be missing
-abbrev pub direct_turns : Desc → Option Guest → Option State → ℕ → ℕ
-direct_turns d None s n = 0
-direct_turns d (Some g) None n = 0
-direct_turns d (Some g) (Some s) n = direct_among d g.base n s
+use Rattle.pg_control.specs.declared.guest.Guest.{Guest}
+use Rattle.pg_control.specs.Guests.{virtuals, grants_of}
+use Rattle.pg_control.specs.Direct.{direct_among}
+use Rattle.pg_control.specs.Plans.{moved, after_plan, turns_of, count_of, IsOutside}
+use Rattle.pg_control.specs.Traps.{trap_cell}
+use Rattle.pg_monitor.specs.Turns.{psw_after, current_after, changes_in, CountsTurns, BottomTurns}
 
 -- the direct turns of a plan, of guests at these states
 abbrev pub direct_of : Desc → List Guest → List (ℕ × ℕ) → List State → ℕ
-direct_of d gs [] ss = 0
-direct_of d gs (turn ∷ plan) ss =
-    direct_turns d (slice_get gs turn.0) (slice_get ss turn.0) turn.1 + direct_of d gs plan (moved d turn.0 turn.1 ss)
+direct_of d gs plan ss = count_of d (direct_among d) gs plan ss
 
 -- what cell 0 holds after n turns of a guest that may be missing
 abbrev pub cell_turns : Desc → Option Guest → Option State → ℕ → ℕ → ℕ
@@ -70,10 +49,6 @@ current_of (turn ∷ plan) current = current_of plan (current_after turn.0 turn.
 abbrev pub changes_of : List (ℕ × ℕ) → Option ℕ → ℕ
 changes_of [] current = 0
 changes_of (turn ∷ plan) current = changes_in turn.0 turn.1 current + changes_of plan (current_after turn.0 turn.1 current)
-
--- a cell of no grant
-pub record IsOutside (gs : List Guest) (at : ℕ) : Type 0 where
-  pub outside : All (λ g. (at < g.base) ⊎ (g.base + g.size ≤ at)) gs
 
 -- a plan that was followed
 pub record Followed (d : Desc) (plan : List (ℕ × ℕ)) (old new : Machinery) (old_guests new_guests : List Guest) (old_current new_current : Option ℕ) : Type 0 where

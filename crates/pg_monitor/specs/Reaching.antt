@@ -4,8 +4,8 @@ use Rattle.pg_word.specs.declared.psw.Psw.{Psw}
 use Rattle.pg_meaning.specs.States.{State}
 use Rattle.pg_hw.specs.Machinery.{Machinery, loaded_with}
 use Rattle.pg_routine.specs.Composing.{composed}
-use Rattle.pg_monitor.specs.declared.guest.Guest.{Guest}
-use Rattle.pg_monitor.specs.Current.{is_current}
+use Rattle.pg_control.specs.declared.guest.Guest.{Guest}
+use Rattle.pg_control.specs.Current.{is_current}
 
 -- a state with another word in a cell
 abbrev pub with_cell : ℕ → ℕ → State → State

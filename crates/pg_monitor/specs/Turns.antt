@@ -1,41 +1,20 @@
 -- Turns of guests: what they leave of the states, the storage and the counts.
-use Rattle.std.specs.Prelude.{◌≡◌, ℕ, zero, suc, ◌+◌, ◌-◌, ◌*◌, ◌==◌, if◌then◌else◌, List, [], ◌∷◌, length, map, Option, None, Some, slice_get, slice_set, slice_index}
+use Rattle.std.specs.Prelude.{◌≡◌, ℕ, zero, suc, ◌+◌, ◌-◌, ◌*◌, ◌==◌, if◌then◌else◌, List, Option, None, Some, slice_get, slice_set, slice_index}
 use Rattle.pg_word.specs.declared.psw.Psw.{Psw}
-use Rattle.pg_word.specs.Psw.{old_psw_cell, packed_trap}
+use Rattle.pg_word.specs.Psw.{old_psw_cell}
 use Rattle.pg_ast.specs.declared.tree.Desc.{Desc}
-use Rattle.pg_meaning.specs.States.{State, shape_of}
-use Rattle.pg_meaning.specs.Steps.{Ending, ByMemTrap, ByTrap, ByNoPattern, Done, memory_cause, trap_cause, no_pattern_cause, steps}
+use Rattle.pg_meaning.specs.States.{State}
+use Rattle.pg_meaning.specs.Steps.{steps}
 use Rattle.pg_hw.specs.declared.counts.Counts.{Counts}
 use Rattle.pg_hw.specs.Tallies.{Bottom, RisesWithin, raised_by}
 use Rattle.pg_hw.specs.Machinery.{Machinery}
 use Rattle.pg_routine.specs.Composing.{composed}
 use Rattle.pg_routine.specs.Granting.{with_grant}
-use Rattle.pg_monitor.specs.declared.guest.Guest.{Guest}
-use Rattle.pg_monitor.specs.Guests.{virtual, virtuals}
-use Rattle.pg_monitor.specs.Direct.{ending_at, is_direct, direct_among}
-
--- the k-th of these states n steps on, and the others as they are
-abbrev pub moved : Desc → ℕ → ℕ → List State → List State
-moved d k n [] = []
-moved d zero n (s ∷ ss) = steps d n s ∷ ss
-moved d (suc k) n (s ∷ ss) = s ∷ moved d k n ss
-
--- the cause of a trap
-abbrev pub cause_of : Ending → ℕ
-cause_of ByMemTrap = memory_cause
-cause_of ByTrap = trap_cause
-cause_of ByNoPattern = no_pattern_cause
-cause_of (Done after) = 0
-
--- what a step that is not direct leaves in cell 0: the composed PSW at its entry, and the hardware's own cause
-abbrev pub trap_word : Desc → ℕ → State → ℕ
-trap_word d base s = packed_trap (shape_of d) (composed s.psw base (length s.cells)) (cause_of (ending_at d base s))
-
--- what cell 0 holds after n turns of a guest from a state: what the last step left there that was not direct, or else what it held
-unfoldable pub trap_cell : Desc → ℕ → ℕ → State → ℕ → ℕ
-trap_cell d base zero s held = held
-trap_cell d base (suc n) s held =
-    (if is_direct d base (steps d n s) then trap_cell d base n s held else trap_word d base (steps d n s))
+use Rattle.pg_control.specs.declared.guest.Guest.{Guest}
+use Rattle.pg_control.specs.Guests.{virtual, virtuals, grants_of}
+use Rattle.pg_control.specs.Direct.{direct_among}
+use Rattle.pg_control.specs.Plans.{moved}
+use Rattle.pg_control.specs.Traps.{trap_cell}
 
 -- the storage after n turns of a guest from a state: its grant, and cell 0; no other cell changes
 abbrev pub storage_after : Desc → ℕ → ℕ → State → List ℕ → List ℕ
@@ -45,10 +24,6 @@ storage_after d base n s cells = slice_set (with_grant cells base (steps d n s).
 abbrev pub psw_after : Desc → Guest → ℕ → State → Psw → Psw
 psw_after d g zero s held = held
 psw_after d g (suc n) s held = composed (steps d (suc n) s).psw g.base g.size
-
--- the same grants
-abbrev pub grants_of : List Guest → List (ℕ × ℕ)
-grants_of gs = map (λ g. (g.base, g.size)) gs
 
 -- the guest that is current after n turns of guest k
 abbrev pub current_after : ℕ → ℕ → Option ℕ → Option ℕ

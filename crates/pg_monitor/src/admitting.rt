@@ -6,11 +6,10 @@ ghost use Rattle.pg_meaning.specs.Steps.{power_on};
 ghost use Rattle.pg_hw.specs.Serving.{IsServed};
 ghost use Rattle.pg_type.specs.Listed.{state_of};
 ghost use Rattle.pg_monitor.specs.Monitors.{desc_of, base_for, Admits, SameMonitor};
-ghost use Rattle.pg_monitor.specs.Standing.{Stands};
+ghost use Rattle.pg_control.specs.Standing.{Stands};
 
-use crate::fault::GuestFault;
-use crate::loading::{put_state, put_words};
 use crate::monitor::Monitor;
+use pg_control::{GuestFault, put_state, put_words};
 use pg_hw::Hardware;
 use pg_image::Image;
 use pg_word::{Psw, Sparse};

@@ -1,12 +1,11 @@
 //! The grants that a monitor makes.
 
 ghost use Rattle.std.specs.Prelude.{◌≡◌, ◌≤◌, [], ◌∷◌, ◌++◌, None, IsSome, OnErr, IfOk, IfErr};
-ghost use Rattle.pg_monitor.specs.Monitors.{base_for, guest_in, GrantsOne, SameMonitor};
+ghost use Rattle.pg_monitor.specs.Monitors.{base_for, GrantsOne, SameMonitor};
+ghost use Rattle.pg_control.specs.Guests.{guest_in};
 
-use crate::fault::GuestFault;
-use crate::guest::Guest;
 use crate::monitor::Monitor;
-use pg_alloc::GrantFault;
+use pg_control::{GuestFault, hold, place};
 use pg_word::Psw;
 
 impl<'m> Monitor<'m> {
@@ -25,11 +24,7 @@ impl<'m> Monitor<'m> {
         ensures memory { IfErr result (λ e. e ≡ GuestFault.Memory → IsSome (base_for self.old size)) }
         ensures refused { OnErr result (SameMonitor self.old self.new) }
     {
-        match self.granted.grant(size) {
-            Ok(base) => Ok(base),
-            Err(GrantFault::NoRoom) => Err(GuestFault::NoRoom),
-            Err(GrantFault::Memory) => Err(GuestFault::Memory),
-        }
+        hold(&mut self.granted, size)
     }
 
     /// A grant with a guest of this program status word, whose cells are the hardware's; its base.
@@ -41,16 +36,6 @@ impl<'m> Monitor<'m> {
         ensures memory { IfErr result (λ e. e ≡ GuestFault.Memory → IsSome (base_for self.old size)) }
         ensures refused { OnErr result (SameMonitor self.old self.new) }
     {
-        let base = match self.hold(size) {
-            Ok(base) => base,
-            Err(fault) => return Err(fault),
-        };
-        match self.guests.push(Guest { base, size, psw }) {
-            Ok(()) => Ok(base),
-            Err(_) => {
-                let _ = self.granted.release(base);
-                Err(GuestFault::Memory)
-            }
-        }
+        place(&mut self.granted, &mut self.guests, size, psw)
     }
 }

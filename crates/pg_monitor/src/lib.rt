@@ -10,33 +10,28 @@
 //!
 //! # Modules
 //!
-//! - `guest`: what is kept of a guest. `fault`: why one was not loaded.
 //! - `monitor`: the monitor, and how it takes a storage. `prepared`: one whose memory was taken before.
-//! - `granting`: the grants that it makes. `admitting`: how it takes images and states as guests. `loading`: words that are
-//!   put into a grant.
+//! - `granting`: the grants that it makes. `admitting`: how it takes images and states as guests.
 //! - `reaching`: what is done to a guest from outside.
-//! - `dispatching`: turns of guests, one, many and by a plan, and what a change of guest is.
+//! - `dispatching`: turns of guests, one, a burst, many and by a plan, and what a change of guest is.
 //! - `turning`: turns of the guest that runs: bursts of direct steps, and steps that are interpreted.
 //! - `slicing`: turns of every guest, by slices, round after round. `laws`: what follows from the definitions alone.
 //!
+//! Guests, grants and what the hardware stands for are those of every control program, and stand in `pg_control`.
 //! Nothing here names a hardware but by its trait, nor rests on more of it than the clauses say.
 #![tactic(auto)]
 
 mod admitting;
 mod dispatching;
-mod fault;
 mod granting;
-mod guest;
 pub mod laws;
-mod loading;
 mod monitor;
 mod prepared;
 mod reaching;
 mod slicing;
 mod turning;
 
-pub use fault::GuestFault;
-pub use guest::Guest;
 pub use monitor::Monitor;
-pub use pg_alloc::KEPT_CELLS;
+pub use pg_control::{Guest, GuestFault, KEPT_CELLS};
 pub use prepared::Prepared;
+pub use turning::BurstTold;

@@ -6,17 +6,15 @@ ghost use Rattle.pg_meaning.specs.States.{State, IsState};
 ghost use Rattle.pg_hw.specs.Machinery.{poked_at};
 ghost use Rattle.pg_hw.specs.Serving.{IsServed};
 ghost use Rattle.pg_alloc.specs.Fit.{kept_cells};
-ghost use Rattle.pg_monitor.specs.Guests.{AreOwned};
-ghost use Rattle.pg_monitor.specs.Direct.{is_direct};
-ghost use Rattle.pg_monitor.specs.Standing.{Stands};
+ghost use Rattle.pg_control.specs.Guests.{AreOwned};
+ghost use Rattle.pg_control.specs.Direct.{is_direct};
+ghost use Rattle.pg_control.specs.Standing.{Stands};
 
-use crate::guest::Guest;
 use pg_alloc::Grants;
+use pg_control::{Guest, take_storage};
 use pg_hw::Hardware;
 use pg_interp::Frame;
-use pg_machine::Machine;
 use pg_type::Accepted;
-use pg_word::{NEW_PSW_CELL, Psw, pack};
 use sqlite_items::Items;
 use std::alloc::{AllocError, Global};
 
@@ -92,24 +90,17 @@ impl<'m> Monitor<'m> {
         self.guests.as_slice()[k]
     }
 
+    /// The guests, in the order of their numbers.
+    pub fn guests(&self) -> &[Guest]
+        ensures { result.now ≡ self.now.guests }
+    {
+        self.guests.as_slice()
+    }
+
     /// How many guests there are.
     pub fn len(&self) -> usize
         ensures { result ≡ length self.now.guests }
     {
         self.guests.len()
     }
-}
-
-/// Takes the storage of a hardware: cell 1 becomes the program status word at which a trap enters the monitor.
-pub(crate) fn take_storage<H: Hardware>(m: &Machine, hw: &mut H)
-    requires served { IsServed (H.serves (H.fixed hw.old)) m.now.desc }
-    requires size { length (H.machinery hw.old).state.cells ≡ m.now.desc.size }
-    requires state { IsState m.now.desc (H.machinery hw.old).state }
-    ensures stands { Stands m.now.desc (H.machinery hw.new).state [] None }
-    ensures taken { H.machinery hw.new ≡ poked_at new_psw_cell (packed m.now.desc.address (power_on_psw m.now.desc.size)) (H.machinery hw.old) }
-    ensures fixed { H.fixed hw.new ≡ H.fixed hw.old }
-{
-    let shape = m.shape();
-    let word = pack(shape, Psw::power_on(shape.q));
-    hw.poke(NEW_PSW_CELL, word);
 }

@@ -6,13 +6,12 @@ ghost use Rattle.pg_meaning.specs.Steps.{power_on};
 ghost use Rattle.pg_hw.specs.Machinery.{poked_at};
 ghost use Rattle.pg_hw.specs.Serving.{IsServed, blank};
 ghost use Rattle.pg_alloc.specs.Fit.{kept_cells};
-ghost use Rattle.pg_monitor.specs.Guests.{virtuals};
+ghost use Rattle.pg_control.specs.Guests.{virtuals};
 ghost use Rattle.pg_monitor.specs.Monitors.{desc_of, IsReady, SameMonitor};
-ghost use Rattle.pg_monitor.specs.Standing.{Stands};
+ghost use Rattle.pg_control.specs.Standing.{Stands};
 
-use crate::fault::GuestFault;
-use crate::monitor::{Monitor, take_storage};
-use pg_alloc::KEPT_CELLS;
+use crate::monitor::Monitor;
+use pg_control::{GuestFault, KEPT_CELLS, take_storage};
 use pg_hw::Hardware;
 use pg_type::Accepted;
 use pg_word::Psw;

@@ -3,7 +3,7 @@
 ghost use Rattle.std.specs.Prelude.{◌≡◌, ◌≤◌, IfOk};
 ghost use Rattle.pg_hw.specs.Serving.{IsServed};
 ghost use Rattle.pg_monitor.specs.Monitors.{desc_of};
-ghost use Rattle.pg_monitor.specs.Standing.{Stands};
+ghost use Rattle.pg_control.specs.Standing.{Stands};
 ghost use Rattle.pg_tests_hostile.specs.Images.{IsImage};
 
 use crate::setting::{CELLS, alone, image};

@@ -8,8 +8,9 @@ use Rattle.pg_hw.specs.Serving.{blank}
 use Rattle.pg_hw.proofs.ServingLaws.{blank-state}
 use Rattle.pg_alloc.specs.Fit.{kept_cells}
 use Rattle.pg_monitor.proofs.ReadyLemmas.{installed-size}
-use Rattle.pg_monitor.proofs.LoadLemmas.{shape-same}
-use Rattle.pg_guests.specs.Runs.{Loaded, loaded_from}
+use Rattle.pg_control.proofs.LoadLemmas.{shape-same}
+use Rattle.pg_shown.specs.Runs.{switched_on}
+use Rattle.pg_shown.specs.Setting.{Loaded, loaded_from}
 use Rattle.pg_guests.proofs.starting.start.Goals as goal
 
 pub new-requires-clause-size : goal.new-requires-clause-size
@@ -34,4 +35,4 @@ returns-clause-set_up g c =
     let of_size : ℕ → Machinery = λ k. record old { state = blank k } in
     let installed = c.in-Ok.ensures.installed ∙ ap of_size q in
     let some = c.in-Err-load_all.ensures.refused in
-    Loaded some.some (some.loaded ∙ ap (loaded_from kept_cells (take some.some c.args.images.now)) (c.in-Ok-new.ensures.taken ∙ ap (poked_at 1 (packed d.address (power_on_psw d.size))) installed))
+    Loaded some.some (some.loaded ∙ ap (loaded_from kept_cells (take some.some (switched_on c.args.images.now))) (c.in-Ok-new.ensures.taken ∙ ap (poked_at 1 (packed d.address (power_on_psw d.size))) installed))

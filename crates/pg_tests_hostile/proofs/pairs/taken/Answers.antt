@@ -4,7 +4,7 @@ use Rattle.pg_meaning.specs.States.{IsState}
 use Rattle.pg_valid.proofs.ValidFacts.{IsShape-of_valid}
 use Rattle.pg_hw.specs.Machinery.{Machinery}
 use Rattle.pg_hw.proofs.ServingLaws.{blank-state}
-use Rattle.pg_monitor.proofs.LoadLemmas.{shape-same}
+use Rattle.pg_control.proofs.LoadLemmas.{shape-same}
 use Rattle.pg_tests_hostile.proofs.Bare.{blank-length}
 use Rattle.pg_tests_hostile.proofs.pairs.taken.Goals as goal
 

@@ -3,9 +3,9 @@ use Rattle.pg_word.specs.declared.shape.Shape.{Shape}
 use Rattle.pg_word.specs.Psw.{power_on_psw}
 use Rattle.pg_meaning.specs.States.{State}
 use Rattle.pg_alloc.proofs.FitLemmas.{free_base-full}
-use Rattle.pg_monitor.specs.Monitors.{Admits}
-use Rattle.pg_monitor.proofs.LoadLemmas.{shape-same, power_on-whole}
-use Rattle.pg_monitor.proofs.AdmitLemmas.{admits, admits-stands, image-admitted, placed-fits, placed-within}
+use Rattle.pg_monitor.specs.Monitors.{Admits, kept_by}
+use Rattle.pg_control.proofs.LoadLemmas.{shape-same, power_on-whole}
+use Rattle.pg_control.proofs.AdmitLemmas.{admits, admits-stands, image-admitted, placed-fits, placed-within}
 use Rattle.pg_monitor.proofs.monitor.Monitor.load.Goals as goal
 
 pub returns-then-words-shape-clause-no_room : goal.returns-then-words-shape-clause-no_room
@@ -33,8 +33,8 @@ returns-clause-admitted g c =
     let old = g.H.Hardware.machinery c.args.hw.now in
     let new = g.H.Hardware.machinery c.put_words.new.hw in
     subst (λ (s : State). Admits s c.args.self.now c.place.new.self old new) (sym (power_on-whole image))
-    (admits (record { cells = image; psw = power_on_psw (length image) }) c.args.self.now c.place.new.self old new c.in-Ok.base
-    (image-admitted image c.as_slice-words.result.now c.power_on.result c.args.self.now c.place.new.self old new c.in-Ok.base c.as_slice-words.ensures c.power_on.ensures c.requires.stands c.requires.least
+    (admits (record { cells = image; psw = power_on_psw (length image) }) (kept_by c.args.self.now) (kept_by c.place.new.self) old new c.in-Ok.base
+    (image-admitted image c.as_slice-words.result.now c.power_on.result (kept_by c.args.self.now) (kept_by c.place.new.self) old new c.in-Ok.base c.as_slice-words.ensures c.power_on.ensures c.args.self.now.owned c.requires.stands c.requires.least
     c.requires.words c.in-Ok.ensures.placed c.in-Ok.ensures.guests c.put_words.ensures.put))
 
 pub returns-clause-stands : goal.returns-clause-stands
@@ -42,6 +42,6 @@ returns-clause-stands g c =
     let image = c.args.image.now in
     let old = g.H.Hardware.machinery c.args.hw.now in
     let new = g.H.Hardware.machinery c.put_words.new.hw in
-    admits-stands (record { cells = image; psw = power_on_psw (length image) }) c.args.self.now c.place.new.self old new c.in-Ok.base
-    (image-admitted image c.as_slice-words.result.now c.power_on.result c.args.self.now c.place.new.self old new c.in-Ok.base c.as_slice-words.ensures c.power_on.ensures c.requires.stands c.requires.least
+    admits-stands (record { cells = image; psw = power_on_psw (length image) }) (kept_by c.args.self.now) (kept_by c.place.new.self) old new c.in-Ok.base
+    (image-admitted image c.as_slice-words.result.now c.power_on.result (kept_by c.args.self.now) (kept_by c.place.new.self) old new c.in-Ok.base c.as_slice-words.ensures c.power_on.ensures c.args.self.now.owned c.requires.stands c.requires.least
     c.requires.words c.in-Ok.ensures.placed c.in-Ok.ensures.guests c.put_words.ensures.put)

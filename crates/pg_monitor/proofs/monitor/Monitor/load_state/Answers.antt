@@ -1,7 +1,8 @@
 use Rattle.std.proofs.Common.{arith}
 use Rattle.pg_word.proofs.SparseLemmas.{length-storage_of}
 use Rattle.pg_type.specs.Listed.{state_of}
-use Rattle.pg_monitor.proofs.AdmitLemmas.{admits, admits-stands, state-admitted, placed-fits, placed-within}
+use Rattle.pg_control.proofs.AdmitLemmas.{admits, admits-stands, state-admitted, placed-fits, placed-within}
+use Rattle.pg_monitor.specs.Monitors.{kept_by}
 use Rattle.pg_monitor.proofs.monitor.Monitor.load_state.Goals as goal
 
 pub place-requires : goal.place-requires
@@ -21,12 +22,12 @@ pub returns-clause-admitted : goal.returns-clause-admitted
 returns-clause-admitted g c =
     let old = g.H.Hardware.machinery c.args.hw.now in
     let new = g.H.Hardware.machinery c.put_state.new.hw in
-    admits (state_of c.args.state.now) c.args.self.now c.place.new.self old new c.in-Ok.base
-    (state-admitted c.args.state.now c.args.self.now c.place.new.self old new c.in-Ok.base c.requires.stands c.requires.state c.in-Ok.ensures.placed c.in-Ok.ensures.guests c.put_state.ensures.put)
+    admits (state_of c.args.state.now) (kept_by c.args.self.now) (kept_by c.place.new.self) old new c.in-Ok.base
+    (state-admitted c.args.state.now (kept_by c.args.self.now) (kept_by c.place.new.self) old new c.in-Ok.base c.args.self.now.owned c.requires.stands c.requires.state c.in-Ok.ensures.placed c.in-Ok.ensures.guests c.put_state.ensures.put)
 
 pub returns-clause-stands : goal.returns-clause-stands
 returns-clause-stands g c =
     let old = g.H.Hardware.machinery c.args.hw.now in
     let new = g.H.Hardware.machinery c.put_state.new.hw in
-    admits-stands (state_of c.args.state.now) c.args.self.now c.place.new.self old new c.in-Ok.base
-    (state-admitted c.args.state.now c.args.self.now c.place.new.self old new c.in-Ok.base c.requires.stands c.requires.state c.in-Ok.ensures.placed c.in-Ok.ensures.guests c.put_state.ensures.put)
+    admits-stands (state_of c.args.state.now) (kept_by c.args.self.now) (kept_by c.place.new.self) old new c.in-Ok.base
+    (state-admitted c.args.state.now (kept_by c.args.self.now) (kept_by c.place.new.self) old new c.in-Ok.base c.args.self.now.owned c.requires.stands c.requires.state c.in-Ok.ensures.placed c.in-Ok.ensures.guests c.put_state.ensures.put)

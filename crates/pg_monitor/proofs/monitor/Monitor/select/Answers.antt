@@ -1,8 +1,8 @@
 use Rattle.std.proofs.Common.{sym, ◌∙◌, ap}
 use Rattle.pg_hw.specs.Machinery.{Machinery}
 use Rattle.pg_hw.proofs.ServingLaws.{IsServedPsw-of}
-use Rattle.pg_monitor.proofs.GuestLemmas.{Holds-of, Runs-of, Runs-entered, current-is}
-use Rattle.pg_monitor.proofs.WentLemmas.{Holds-addressable, composed-fits}
+use Rattle.pg_control.proofs.GuestLemmas.{Holds-of, Runs-of, Runs-entered, current-is}
+use Rattle.pg_control.proofs.StateLemmas.{Holds-addressable, composed-fits}
 use Rattle.pg_monitor.proofs.monitor.Monitor.select.Goals as goal
 
 pub returns-then-is_current-clause-runs : goal.returns-then-is_current-clause-runs

@@ -5,8 +5,8 @@ use Rattle.pg_valid.proofs.ValidFacts.{IsShape-of_valid}
 use Rattle.pg_meaning.specs.States.{IsState}
 use Rattle.pg_hw.specs.Machinery.{Machinery, poked_at}
 use Rattle.pg_hw.proofs.ServingLaws.{blank-state}
-use Rattle.pg_monitor.specs.Standing.{Stands}
-use Rattle.pg_monitor.proofs.AdmitLemmas.{put-stands, put-states}
+use Rattle.pg_control.specs.Standing.{Stands}
+use Rattle.pg_control.proofs.AdmitLemmas.{put-stands, put-states}
 use Rattle.pg_monitor.proofs.ReadyLemmas.{installed-size, dark, dark-is, started}
 use Rattle.pg_monitor.proofs.prepared.Prepared.start.Goals as goal
 

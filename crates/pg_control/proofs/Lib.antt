@@ -1,0 +1,13 @@
+pub mod CellLemmas
+pub mod StateLemmas
+pub mod DirectLemmas
+pub mod RunLemmas
+pub mod BurstLemmas
+pub mod CountLemmas
+pub mod GuestLemmas
+pub mod LoadLemmas
+pub mod BaseLemmas
+pub mod PlanLemmas
+pub mod ScheduleLemmas
+pub mod OwnLemmas
+pub mod AdmitLemmas

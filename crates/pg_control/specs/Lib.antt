@@ -1,0 +1,10 @@
+pub mod Guests
+pub mod Direct
+pub mod Traps
+pub mod Standing
+pub mod Current
+pub mod Loading
+pub mod Admitting
+pub mod Plans
+pub mod Schedules
+pub mod Counting

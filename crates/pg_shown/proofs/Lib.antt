@@ -1,0 +1,5 @@
+pub mod TellLemmas
+pub mod SummaryLemmas
+pub mod ReachedLemmas
+pub mod FromLemmas
+pub mod SettingLemmas
