@@ -3,7 +3,7 @@ use Rattle.std.specs.Prelude.{◌≤◌}
 use Rattle.pg_ast.specs.declared.tree.Desc.{Desc}
 use Rattle.pg_valid.specs.Valid.{IsValid}
 use Rattle.pg_hw.specs.declared.hardware.Hardware as hardware
-use Rattle.pg_guests.specs.Runs.{CanCount}
+use Rattle.pg_control.specs.Counting.{CanCount}
 
 -- it serves every machine, has room for the largest, and its counts are far from where they stand still
 pub record IsAble {V : Type 0} (H : hardware.Ghosts V) (hw : V) : Type 0 where

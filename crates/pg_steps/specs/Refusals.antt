@@ -2,7 +2,8 @@
 use Rattle.std.specs.Prelude.{ℕ, List, Option, None, Some}
 use Rattle.pg_report.specs.declared.line.RefusalLine.{RefusalLine}
 use Rattle.pg_report.specs.declared.line.RefusalLine.TheVariants.{Description, Image, Certificate, Room}
-use Rattle.pg_report.specs.Texts.{refusal_text, usage_text}
+use Rattle.pg_asked.specs.Commands.{usage_text}
+use Rattle.pg_report.specs.Texts.{refusal_text}
 use Rattle.pg_steps.specs.declared.status.Status.{Status}
 use Rattle.pg_steps.specs.declared.status.Status.TheVariants as status
 use Rattle.pg_steps.specs.declared.refusal.Refusal.{Refusal}

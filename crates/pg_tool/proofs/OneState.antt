@@ -6,10 +6,11 @@ use Rattle.std.proofs.lemmas.List.Elements.{All-cons, All-nil}
 use Rattle.std.proofs.lemmas.Option.{get_or_from_slice_get}
 use Rattle.pg_hw.specs.Machinery.{Machinery}
 use Rattle.pg_meaning.specs.States.{State}
-use Rattle.pg_monitor.specs.declared.guest.Guest.{Guest}
-use Rattle.pg_monitor.specs.Plans.{IsOutside}
+use Rattle.pg_control.specs.declared.guest.Guest.{Guest}
+use Rattle.pg_control.specs.Plans.{IsOutside}
 use Rattle.pg_report.specs.Spans.{span}
-use Rattle.pg_guests.specs.Runs.{GuestRun, RanGuests, granted, guests_of}
+use Rattle.pg_guests.specs.Runs.{RanGuests}
+use Rattle.pg_shown.specs.Runs.{GuestRun, granted, guests_of}
 
 abbrev first : List (List ℕ) → List ℕ
 first [] = []

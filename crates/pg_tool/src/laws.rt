@@ -8,7 +8,8 @@ ghost use Rattle.pg_tool_plain.specs.Bare.{BareRun, RanBare};
 ghost use Rattle.pg_steps.specs.Commands.{Carries};
 ghost use Rattle.pg_steps.specs.World.{World};
 ghost use Rattle.pg_steps.specs.declared.status.Status.TheVariants.{ReadFault};
-ghost use Rattle.pg_guests.specs.Runs.{GuestRun, RanGuests};
+ghost use Rattle.pg_guests.specs.Runs.{RanGuests};
+ghost use Rattle.pg_shown.specs.Runs.{GuestRun};
 ghost use Rattle.pg_tool.specs.Asking.{command_for};
 ghost use Rattle.pg_steps.specs.Steps.{IsOne};
 

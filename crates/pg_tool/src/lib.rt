@@ -15,7 +15,7 @@
 ghost use Rattle.std.specs.Prelude.{◌≡◌, ◌≤◌, Some, map, string_bytes};
 ghost use Rattle.pg_ast.specs.declared.tree.Desc.{Desc};
 ghost use Rattle.pg_edge.specs.Shelf.{Files};
-ghost use Rattle.pg_guests.specs.Runs.{CanCount};
+ghost use Rattle.pg_control.specs.Counting.{CanCount};
 ghost use Rattle.pg_steps.specs.Able.{IsAble};
 ghost use Rattle.pg_steps.specs.Commands.{Carries, Exactly};
 ghost use Rattle.pg_steps.specs.World.{Keeps, SavesOnly, around};

@@ -1,5 +1,5 @@
 -- `gen`: that its images can run, what its certificate says, what is told of the run, and what is left.
-use Rattle.std.proofs.Common.{◌≡◌, ℕ, ◌*◌, List, [], ◌∷◌, length, All, None, Some, refl, sym, ap, subst, arith}
+use Rattle.std.proofs.Common.{◌≡◌, ◌∙◌, ℕ, ◌*◌, List, [], ◌∷◌, length, All, None, Some, refl, sym, ap, subst, arith}
 use Rattle.std.proofs.lemmas.List.Elements.{All-head, All-tail, All-weaker}
 use Rattle.pg_ast.specs.declared.tree.Desc.{Desc}
 use Rattle.pg_valid.specs.Valid.{IsValid}
@@ -15,9 +15,14 @@ use Rattle.pg_edge.specs.Told.{BothTold}
 use Rattle.pg_generate.specs.Generated.{IsGenerated}
 use Rattle.pg_generate.specs.Images.{image_cells, image_count, images_of, IsFilled}
 use Rattle.pg_guests.specs.declared.running.Ran.{Ran}
-use Rattle.pg_guests.specs.Begun.{HaveRun, summary_of}
-use Rattle.pg_guests.specs.Runs.{CanRun, GuestRun, IsImage, cells_in, run_of}
-use Rattle.pg_guests.proofs.SummaryLemmas.{summary-is}
+use Rattle.pg_guests.specs.Begun.{HaveRun}
+use Rattle.pg_guests.proofs.ToldLemmas.{summary-is}
+use Rattle.pg_control.specs.declared.guest.Guest.{Guest}
+use Rattle.pg_control.specs.Guests.{virtuals}
+use Rattle.pg_report.specs.Summaries.{summary_text}
+use Rattle.pg_shown.specs.Runs.{GuestRun, run_of, summary_of_run}
+use Rattle.pg_shown.specs.Setting.{CanRun, IsImage, image_cells as cells_in_images}
+use Rattle.pg_shown.proofs.ReachedLemmas.{can-run}
 use Rattle.pg_hw.specs.Machinery.{Machinery}
 use Rattle.pg_type.specs.Accepting.{IsAccepted}
 use Rattle.pg_tool_gen.specs.declared.generating.plan.GenPlan.{GenPlan}
@@ -32,7 +37,7 @@ use Rattle.pg_tool_judging.proofs.SavingLemmas.{is_saved, written_means}
 
 -- ---- there can be a run
 
-filled-cells : (images : List (List ℕ)) → All IsFilled images → cells_in images ≡ length images * image_cells
+filled-cells : (images : List (List ℕ)) → All IsFilled images → cells_in_images images ≡ length images * image_cells
 filled-cells [] h = omega arith
 filled-cells (image ∷ images) h = omega (arith, (All-head IsFilled image images h).cells, filled-cells images (All-tail IsFilled image images h))
 
@@ -41,14 +46,9 @@ filled-image image h = record { least = omega (arith, h.cells); words = h.words 
 
 pub input-runs : (number count : ℕ) (m : Machine) (images : List (List ℕ)) → IsGenerated number count m.desc → length images ≡ image_count → All IsFilled images →
     CanRun (run_of m images gen_slice gen_steps)
-input-runs number count m images made four filled = record {
-  images = record {
-    each = subst (λ w. All (IsImage w) images) (sym made.word) (All-weaker IsFilled (IsImage 32) filled-image images filled);
-    room = omega (arith, made.cells, four, filled-cells images filled);
-  };
-  some = omega arith;
-  counted = omega (arith, four);
-}
+input-runs number count m images made four filled =
+    can-run m images gen_slice gen_steps (subst (λ w. All (IsImage w) images) (sym made.word) (All-weaker IsFilled (IsImage 32) filled-image images filled))
+    (omega (arith, made.cells, four, filled-cells images filled)) (omega arith) (omega (arith, four))
 
 -- ---- what its certificate says
 
@@ -65,10 +65,21 @@ have-accepted verdict.Accepted r ran h have = (have, refl)
 have-accepted (verdict.Refused number) r ran h have = absurd cc
 have-accepted (verdict.Unsettled number kind) r ran h have = absurd cc
 
-pub told-some : (v : Verdict) (r : GuestRun) (ran : Ran) (h : Machinery) → HaveRunBy v r (Some ran) h → summary_of ran h.state ≡ run_told v r
-told-some verdict.Accepted r ran h have = summary-is r ran h have
-told-some (verdict.Refused number) r ran h have = absurd cc
-told-some (verdict.Unsettled number kind) r ran h have = absurd cc
+-- what is told of guests that ran is the summary of their run
+ran-summary : (r : GuestRun) (ran : Ran) (h : Machinery) (guests : List Guest) (turns direct : ℕ) → HaveRun r ran h → guests ≡ ran.monitor.guests → turns ≡ ran.turns →
+    direct ≡ ran.direct → summary_text r.desc.word (virtuals h.state.cells guests) turns direct ≡ summary_of_run r
+ran-summary r ran h guests turns direct have are_guests are_turns are_direct =
+    ap (λ gs. summary_text r.desc.word (virtuals h.state.cells gs) turns direct) are_guests
+    ∙ ap (λ n. summary_text r.desc.word (virtuals h.state.cells ran.monitor.guests) n direct) are_turns
+    ∙ ap (summary_text r.desc.word (virtuals h.state.cells ran.monitor.guests) ran.turns) are_direct
+    ∙ ap (λ (d : Desc). summary_text d.word (virtuals h.state.cells ran.monitor.guests) ran.turns ran.direct) (sym have.machine)
+    ∙ summary-is r ran h have
+
+pub told-some : (v : Verdict) (r : GuestRun) (ran : Ran) (h : Machinery) (guests : List Guest) (turns direct : ℕ) → HaveRunBy v r (Some ran) h → guests ≡ ran.monitor.guests →
+    turns ≡ ran.turns → direct ≡ ran.direct → summary_text r.desc.word (virtuals h.state.cells guests) turns direct ≡ run_told v r
+told-some verdict.Accepted r ran h guests turns direct have gs ts ds = ran-summary r ran h guests turns direct have gs ts ds
+told-some (verdict.Refused number) r ran h guests turns direct have gs ts ds = absurd cc
+told-some (verdict.Unsettled number kind) r ran h guests turns direct have gs ts ds = absurd cc
 
 pub told-none : (v : Verdict) (r : GuestRun) (h : Machinery) → HaveRunBy v r None h → run_told v r ≡ []
 told-none verdict.Accepted r h have = absurd have

@@ -13,7 +13,10 @@ use Rattle.pg_generate.specs.Generated.{IsGenerated}
 use Rattle.pg_generate.specs.Images.{images_of}
 use Rattle.pg_guests.specs.declared.running.Ran.{Ran}
 use Rattle.pg_guests.specs.Begun.{HaveRun}
-use Rattle.pg_guests.specs.Runs.{GuestRun, RanGuests, SetUp, summary_of_run}
+use Rattle.pg_alloc.specs.Fit.{kept_cells}
+use Rattle.pg_guests.specs.Runs.{RanGuests}
+use Rattle.pg_shown.specs.Runs.{GuestRun, summary_of_run, switched_on}
+use Rattle.pg_shown.specs.Setting.{SetUp}
 use Rattle.pg_hw.specs.Machinery.{Machinery}
 use Rattle.pg_report.specs.Summaries.{instructions_line}
 use Rattle.pg_report.specs.Verdicts.{outcome_line}
@@ -46,7 +49,7 @@ GenDue g told Misread = ⊥
 
 -- the run of the images on its machine
 abbrev pub generated_run : GenWords → Desc → GuestRun
-generated_run g d = record { desc = d; images = images_of g.number g.count; slice = gen_slice; steps = gen_steps }
+generated_run g d = record { desc = d; first = kept_cells; states = switched_on (images_of g.number g.count); slice = gen_slice; steps = gen_steps }
 
 -- ---- by the verdict
 

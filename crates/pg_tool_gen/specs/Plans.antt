@@ -1,5 +1,5 @@
 -- What the code has for the work of `gen`, as that of the definition.
-use Rattle.pg_guests.specs.Runs.{GuestRun, run_of}
+use Rattle.pg_shown.specs.Runs.{GuestRun, run_of}
 use Rattle.pg_judged.specs.Judged.{Judged}
 use Rattle.pg_tool_judging.specs.Views.{written}
 use Rattle.pg_tool_gen.specs.declared.generating.plan.GenPlan.{GenPlan}

@@ -10,7 +10,7 @@ ghost use Rattle.pg_cert.specs.declared.report.Verdict.TheVariants.{Accepted};
 ghost use Rattle.pg_edge.specs.Sink.{Puts};
 ghost use Rattle.pg_generate.specs.Generated.{IsGenerated};
 ghost use Rattle.pg_generate.specs.Images.{images_of};
-ghost use Rattle.pg_guests.specs.Runs.{SetUp};
+ghost use Rattle.pg_shown.specs.Setting.{SetUp};
 ghost use Rattle.pg_judged.specs.Judged.{verdict_on};
 ghost use Rattle.pg_steps.specs.Able.{IsAble};
 ghost use Rattle.pg_steps.specs.Commands.{Carries};
@@ -27,11 +27,12 @@ use pg_classify::Watcher;
 use pg_asked::GenWords;
 use pg_edge::{Failed, Shelf, Sink};
 use pg_generate::generate;
-use pg_guests::{Ran, put_summaries, run_guests};
+use pg_guests::{Ran, run_guests};
 use pg_hw::Hardware;
 use pg_judged::{is_accepted, status_of};
 use pg_machine::check;
 use pg_report::{put_instructions, put_outcome};
+use pg_shown::put_summaries;
 use pg_steps::Status;
 use pg_tool_judging::{checked, save_text};
 use pg_valid::TypeFault;
@@ -148,7 +149,10 @@ fn put_generated<S: Sink, H: Hardware>(
     put_instructions(out, words.count.instrs())?;
     put_outcome(out, &judged.machine, &judged.report)?;
     match ran {
-        Some(ran) => put_summaries(out, &judged.machine, ran, hw),
+        Some(ran) => {
+            let (guests, turns, direct) = (ran.guests(), ran.turns(), ran.direct());
+            put_summaries(out, &judged.machine, guests, turns, direct, hw)
+        }
         None => Ok(()),
     }
 }

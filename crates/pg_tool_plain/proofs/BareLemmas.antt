@@ -28,7 +28,7 @@ use Rattle.pg_steps.specs.Answering.{Comes}
 use Rattle.pg_steps.specs.Rooms.{of_room, RoomDue}
 use Rattle.pg_steps.specs.Steps.{Step, Came, Refused, Then, Gives}
 use Rattle.pg_steps.proofs.StepLemmas.{comes-stopped, comes-behind, room-came, room-refused}
-use Rattle.pg_guests.specs.Runs.{CanCount}
+use Rattle.pg_control.specs.Counting.{CanCount}
 
 -- ---- cells
 

@@ -1,8 +1,7 @@
 -- What the code has for the work of `run`, as that of the definition.
-use Rattle.pg_guests.specs.Runs.{run_of}
 use Rattle.pg_tool_run.specs.Run.{JudgedRun}
 use Rattle.pg_tool_run.specs.declared.run.plan.RunPlan.{RunPlan}
 
 -- images as guests, with what was kept of a certificate
 abbrev pub judged_run : RunPlan → JudgedRun
-judged_run p = record { run = run_of p.judged.machine p.images p.slice p.steps; grant = p.grant; report = p.judged.report }
+judged_run p = record { desc = p.judged.machine.desc; images = p.images; slice = p.slice; steps = p.steps; grant = p.grant; report = p.judged.report }

@@ -1,13 +1,17 @@
 -- `run`: images as guests of one monitor, where a certificate says that a monitor may run the machine.
-use Rattle.std.specs.Prelude.{◌≡◌, ℕ, List, All, length, Option, None}
+use Rattle.std.specs.Prelude.{◌≡◌, ℕ, List, All, length, map, Option, None}
 use Rattle.pg_alloc.specs.Fit.{kept_cells}
+use Rattle.pg_ast.specs.declared.tree.Desc.{Desc}
 use Rattle.pg_cert.specs.declared.cert.Family.TheVariants.{Plain}
 use Rattle.pg_cert.specs.declared.report.Report.{Report}
 use Rattle.pg_cert.specs.declared.report.Verdict.TheVariants as verdict
 use Rattle.pg_asked.specs.declared.run.RunWords.{RunWords}
 use Rattle.pg_edge.specs.Shelf.{Files}
 use Rattle.pg_type.specs.Accepting.{IsAccepted}
-use Rattle.pg_guests.specs.Runs.{GuestRun, RanGuests, SetUp, text_of}
+use Rattle.pg_guests.specs.Runs.{RanGuests}
+use Rattle.pg_meaning.specs.Steps.{bare}
+use Rattle.pg_shown.specs.Runs.{GuestRun, reached_by, switched_on, text_of}
+use Rattle.pg_shown.specs.Setting.{SetUp}
 use Rattle.pg_steps.specs.declared.status.Status.{Status}
 use Rattle.pg_steps.specs.declared.status.Status.TheVariants as status
 use Rattle.pg_steps.specs.declared.refusal.Refusal.{Refusal}
@@ -18,11 +22,18 @@ use Rattle.pg_judged.specs.Telling.{EndsBy}
 use Rattle.pg_steps.specs.World.{World}
 use Rattle.pg_tool_run.specs.Loading.{GuestFiles, Loaded, GuestsDue}
 
--- a run that is asked for, how many cells each guest is granted, and what is kept of the certificate by which it may be done
+-- a run that is asked for: images of so many cells each, and what is kept of the certificate by which it may be done
 pub record JudgedRun : Type 0 where
-  pub run : GuestRun
+  pub desc : Desc
+  pub images : List (List ℕ)
+  pub slice : ℕ
+  pub steps : ℕ
   pub grant : ℕ
   pub report : Report
+
+-- the run of its guests, switched on behind the cells that a monitor keeps
+abbrev pub guests_in : JudgedRun → GuestRun
+guests_in j = record { desc = j.desc; first = kept_cells; states = switched_on j.images; slice = j.slice; steps = j.steps }
 
 -- the files that the words name
 abbrev pub files_of : RunWords → GuestFiles
@@ -30,7 +41,7 @@ files_of r = record { desc = r.desc; images = r.images; cert = r.cert; grant = r
 
 -- the run of what they hold
 abbrev pub judged_run_of : RunWords → Loaded → JudgedRun
-judged_run_of r l = record { run = record { desc = l.desc; images = l.images; slice = r.slice; steps = r.steps }; grant = r.grant; report = l.report }
+judged_run_of r l = record { desc = l.desc; images = l.images; slice = r.slice; steps = r.steps; grant = r.grant; report = l.report }
 
 -- description, room, images and certificate, and then the run
 unfoldable pub RunDue : RunWords → Option Files → Step Refusal JudgedRun
@@ -38,16 +49,17 @@ RunDue r told = Then (GuestsDue Plain (files_of r) told) (λ l. Gives (judged_ru
 
 -- the description, and what is kept of the certificate of it
 abbrev pub judged_by : JudgedRun → Judged
-judged_by j = record { desc = j.run.desc; report = j.report }
+judged_by j = record { desc = j.desc; report = j.report }
 
 -- the guests ran: every sensitive instruction of the machine is privileged, each image has the granted size, and the text is
 -- that of the states that bare machines reach, and of the counts of turns; no file was saved
 pub record GuestsEnd (j : JudgedRun) (old new : World) (given : Status) (text : List ℕ) : Type 0 where
   pub status : given ≡ status.Done
-  pub accepted : IsAccepted j.run.desc
-  pub granted : All (λ image. length image ≡ j.grant) j.run.images
-  pub wording : text ≡ text_of j.run
-  pub ran : RanGuests j.run old.hw new.hw
+  pub accepted : IsAccepted j.desc
+  pub granted : All (λ image. length image ≡ j.grant) j.images
+  pub reached : reached_by (guests_in j) ≡ map (λ image. bare j.desc image (length image) j.steps) j.images
+  pub wording : text ≡ text_of (guests_in j)
+  pub ran : RanGuests (guests_in j) old.hw new.hw
   pub files : new.files ≡ old.files
   pub saves : new.save_faults ≡ old.save_faults
 
@@ -63,7 +75,7 @@ pub record RunStarves (j : JudgedRun) (old new : World) : Type 0 where
   pub silent : new.out ≡ old.out
   pub files : new.files ≡ old.files
   pub saves : new.save_faults ≡ old.save_faults
-  pub set_up : SetUp j.run old.hw new.hw
+  pub set_up : SetUp (guests_in j) old.hw new.hw
 
 abbrev pub run_command : RunWords → Command
 run_command r = record {

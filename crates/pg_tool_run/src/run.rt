@@ -24,10 +24,11 @@ use crate::loading::load_guests;
 use pg_cert::Family;
 use pg_asked::RunWords;
 use pg_edge::{Shelf, Sink};
-use pg_guests::{put_guests, run_guests};
+use pg_guests::run_guests;
 use pg_hw::Hardware;
 use pg_judged::{is_accepted, tell_verdict};
 use pg_monitor::KEPT_CELLS;
+use pg_shown::put_guests;
 use pg_steps::{Status, Stop, stopped};
 use plan::RunPlan;
 use std::alloc::Global;
@@ -60,7 +61,8 @@ pub fn carry_run<F: Shelf, S: Sink, H: Hardware>(
         Ok(ran) => ran,
         Err(_) => return Status::Memory,
     };
-    match put_guests(out, &plan.judged.machine, &ran, hw) {
+    let (guests, turns, direct) = (ran.guests(), ran.turns(), ran.direct());
+    match put_guests(out, &plan.judged.machine, guests, turns, direct, hw) {
         Ok(()) => Status::Done,
         Err(_) => Status::WriteFault,
     }

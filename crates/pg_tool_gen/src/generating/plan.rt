@@ -1,6 +1,7 @@
 //! A large input, made and classified, before any of its certificate is saved or put.
 
-ghost use Rattle.pg_guests.specs.Runs.{CanRun, run_of};
+ghost use Rattle.pg_shown.specs.Runs.{run_of};
+ghost use Rattle.pg_shown.specs.Setting.{CanRun};
 ghost use Rattle.pg_tool_gen.specs.Generating.{gen_slice, gen_steps};
 
 use pg_image::Image;

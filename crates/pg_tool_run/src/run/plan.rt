@@ -1,7 +1,8 @@
 //! A run of guests, made ready: what was tried on the way stands in its ghost fields, so nothing is tested again.
 
 ghost use Rattle.std.specs.Prelude.{◌≡◌, All, length};
-ghost use Rattle.pg_guests.specs.Runs.{CanRun, run_of};
+ghost use Rattle.pg_shown.specs.Runs.{run_of};
+ghost use Rattle.pg_shown.specs.Setting.{CanRun};
 
 use pg_image::Image;
 use pg_judged::JudgedMachine;

@@ -1,7 +1,8 @@
 use Rattle.std.proofs.Common.{◌∙◌, refl, sym, ap, subst}
 use Rattle.pg_cert.specs.declared.cert.Family.TheVariants.{Plain}
 use Rattle.pg_edge.specs.Told.{BothTold}
-use Rattle.pg_guests.specs.Runs.{GuestRun, SetUp}
+use Rattle.pg_shown.specs.Runs.{GuestRun}
+use Rattle.pg_shown.specs.Setting.{SetUp}
 use Rattle.pg_judged.specs.Judged.{verdict_on, verdict_status}
 use Rattle.pg_judged.proofs.TellingLemmas.{verdict-ended}
 use Rattle.pg_steps.specs.Commands.{Carries}

@@ -6,9 +6,9 @@ use Rattle.pg_edge.specs.Sink.{Puts}
 use Rattle.pg_edge.specs.declared.shelf.Failed.{Failed}
 use Rattle.pg_edge.proofs.PutsLaws.{Puts-none, Puts-then, Puts-stopped}
 use Rattle.pg_guests.specs.declared.running.Ran.{Ran}
-use Rattle.pg_guests.specs.Begun.{summary_of}
-use Rattle.pg_guests.specs.Runs.{GuestRun}
-use Rattle.pg_monitor.specs.Standing.{Stands}
+use Rattle.pg_guests.proofs.ToldLemmas.{have-within}
+use Rattle.pg_shown.specs.Runs.{GuestRun}
+use Rattle.pg_shown.specs.Telling.{AreWithin}
 use Rattle.pg_report.specs.Summaries.{instructions_line}
 use Rattle.pg_report.specs.Verdicts.{outcome_line}
 use Rattle.pg_tool_gen.specs.Generating.{HaveRunBy, generated_run, generated_text, run_told}
@@ -44,22 +44,14 @@ returns-in_err-put_outcome g c =
     rw fault.1 (Puts-then _ _ _ _ _ _ (instructions_line w.count) (outcome_line p.cert.judged.machine.desc v ++ told) _ _ first
     (Puts-stopped _ _ _ _ (outcome_line p.cert.judged.machine.desc v) told _ _ c.in_err-put_outcome.ensures))
 
-pub put_summaries-requires-clause-machine : goal.put_summaries-requires-clause-machine
-put_summaries-requires-clause-machine g c =
-    let p = c.args.plan.now in
-    let v = verdict_on (judged_input p) in
-    let h = g.H.Hardware.machinery c.args.hw.now in
-    let have = subst (λ (o : Option Ran). HaveRunBy v (run_of_plan p) o h) c.in-Some.is c.requires.have_run in
-    sym (have-accepted v (run_of_plan p) c.in-Some.ran h have).0.machine
-
-pub put_summaries-requires-clause-stands : goal.put_summaries-requires-clause-stands
-put_summaries-requires-clause-stands g c =
+pub put_summaries-requires : goal.put_summaries-requires
+put_summaries-requires g c =
     let p = c.args.plan.now in
     let v = verdict_on (judged_input p) in
     let h = g.H.Hardware.machinery c.args.hw.now in
     let have = subst (λ (o : Option Ran). HaveRunBy v (run_of_plan p) o h) c.in-Some.is c.requires.have_run in
     let ran = (have-accepted v (run_of_plan p) c.in-Some.ran h have).0 in
-    subst (λ (d : Desc). Stands d h.state c.in-Some.ran.monitor.guests c.in-Some.ran.monitor.current) (sym ran.machine) ran.stands
+    record { within = subst (λ gs. AreWithin h.state gs) (sym c.guests-guests.ensures) (have-within (run_of_plan p) c.in-Some.ran h ran) }
 
 pub returns-in-Some : goal.returns-in-Some
 unfolding generated_text
@@ -70,8 +62,8 @@ returns-in-Some g c =
     let h = g.H.Hardware.machinery c.args.hw.now in
     let told = run_told v (generated_run w p.cert.judged.machine.desc) in
     let have = subst (λ (o : Option Ran). HaveRunBy v (run_of_plan p) o h) c.in-Some.is c.requires.have_run in
-    let same : summary_of c.in-Some.ran h.state ≡ told =
-    told-some v (run_of_plan p) c.in-Some.ran h have ∙ ap (λ (r : GuestRun). run_told v r) (plan-run p w c.requires.images) in
+    let same = told-some v (run_of_plan p) c.in-Some.ran h c.guests-guests.result.now c.turns-turns.result c.direct-direct.result have c.guests-guests.ensures c.turns-turns.ensures c.direct-direct.ensures
+    ∙ ap (λ (r : GuestRun). run_told v r) (plan-run p w c.requires.images) in
     let first : Puts {T = Unit {0}} {E = Failed} (g.S.Sink.written c.args.out.now) (g.S.Sink.written c.put_instructions.new.out) (g.S.Sink.faults c.args.out.now)
     (g.S.Sink.faults c.put_instructions.new.out) (instructions_line w.count) (Ok c.in_ok-put_instructions.field-0) =
     subst (λ (n : ℕ). Puts {T = Unit {0}} {E = Failed} (g.S.Sink.written c.args.out.now) (g.S.Sink.written c.put_instructions.new.out) (g.S.Sink.faults c.args.out.now)

@@ -3,7 +3,9 @@ use Rattle.pg_machine.specs.declared.machine.Machine.{Machine}
 use Rattle.pg_cert.specs.declared.report.Verdict.{Verdict}
 use Rattle.pg_cert.specs.declared.report.Verdict.TheVariants.{Accepted}
 use Rattle.pg_judged.specs.Judged.{verdict_on}
-use Rattle.pg_guests.specs.Runs.{RanGuests, SetUp, run_of}
+use Rattle.pg_guests.specs.Runs.{RanGuests}
+use Rattle.pg_shown.specs.Runs.{run_of}
+use Rattle.pg_shown.specs.Setting.{SetUp}
 use Rattle.pg_tool_gen.specs.Generating.{RanBy, gen_slice, gen_steps}
 use Rattle.pg_tool_gen.specs.Plans.{judged_input, run_of_plan}
 use Rattle.pg_steps.proofs.AbleLemmas.{size-small}

@@ -1,10 +1,15 @@
 use Rattle.std.proofs.Common.{◌≡◌, ◌∙◌, ℕ, List, refl, sym, ap, subst, arith}
 use Rattle.pg_machine.specs.declared.machine.Machine.{Machine}
 use Rattle.pg_cert.specs.declared.report.Verdict.TheVariants.{Accepted}
+use Rattle.pg_guests.specs.Begun.{HaveRun}
+use Rattle.pg_guests.specs.Runs.{RanGuests}
+use Rattle.pg_guests.proofs.ToldLemmas.{have-within}
+use Rattle.pg_shown.specs.Runs.{run_of, text_of}
+use Rattle.pg_shown.specs.Setting.{SetUp}
+use Rattle.pg_shown.specs.Telling.{AreWithin}
 use Rattle.pg_edge.specs.Sink.{Puts}
 use Rattle.pg_edge.specs.declared.shelf.Failed.{Failed}
-use Rattle.pg_guests.specs.Begun.{HaveRun}
-use Rattle.pg_guests.specs.Runs.{RanGuests, SetUp, run_of, text_of}
+use Rattle.pg_shown.proofs.ReachedLemmas.{reached-bare}
 use Rattle.pg_steps.specs.declared.status.Status.TheVariants.{Done}
 use Rattle.pg_steps.specs.World.{IsUntouched, around}
 use Rattle.pg_steps.proofs.AbleLemmas.{size-small}
@@ -12,8 +17,8 @@ use Rattle.pg_steps.proofs.CarryLemmas.{carries-done, carries-broken, carries-st
 use Rattle.pg_judged.specs.Judged.{verdict_on}
 use Rattle.pg_judged.proofs.TellingLemmas.{carries-told}
 use Rattle.pg_tool_run.specs.Plans.{judged_run}
-use Rattle.pg_tool_run.specs.Run.{judged_by, run_command}
-use Rattle.pg_tool_run.proofs.EndsLemmas.{run-told, run-ran, told-is}
+use Rattle.pg_tool_run.specs.Run.{guests_in, judged_by, run_command}
+use Rattle.pg_tool_run.proofs.EndsLemmas.{run-told, run-ran, ran-text}
 use Rattle.pg_tool_run.proofs.run.carry_run.Goals as goal
 
 -- ---- the verdict is told
@@ -43,56 +48,80 @@ run_guests-requires-clause-room g c =
 
 pub returns-in-Err-run_guests-clause-carries : goal.returns-in-Err-run_guests-clause-carries
 returns-in-Err-run_guests-clause-carries g c =
-    let j = judged_run c.in-Ok.plan in
+    let p = c.in-Ok.plan in
+    let j = judged_run p in
     let old = around g.F.Shelf g.S.Sink g.H.Hardware c.args.shelf.now c.args.out.now c.args.hw.now in
     let new = around g.F.Shelf g.S.Sink g.H.Hardware c.prepare_run.new.shelf c.args.out.now c.run_guests.new.hw in
-    let p = c.in-Ok.plan in
+    let set_up : SetUp (guests_in j) old.hw new.hw =
+    subst (λ (m : Machine). SetUp (run_of m p.images p.slice p.steps) old.hw new.hw) c.of-accepted.ensures.same
+    (subst (λ (xs : List (List ℕ)). SetUp (run_of c.of-accepted.result.machine.now xs p.slice p.steps) old.hw new.hw) c.as_slice-images.ensures c.in-Err-run_guests.ensures.set_up) in
     carries-starved (run_command c.args.words.now) old new j c.in-Ok.ensures.comes
     (record {
       accepted = sym c.verdict.ensures ∙ c.is_accepted.ensures.yes c.if-not-is_accepted.false;
-      silent = refl;
+      silent = refl {a = old.out};
       files = c.prepare_run.ensures.reads.same_files;
       saves = c.prepare_run.ensures.reads.same_saves;
-      set_up = subst (λ (m : Machine). SetUp (run_of m p.images p.slice p.steps) old.hw new.hw) c.of-accepted.ensures.same
-          (subst (λ (xs : List (List ℕ)). SetUp (run_of c.of-accepted.result.machine.now xs p.slice p.steps) old.hw new.hw) c.as_slice-images.ensures c.in-Err-run_guests.ensures.set_up);
+      set_up = set_up;
     })
+
+pub put_guests-requires-clause-words : goal.put_guests-requires-clause-words
+put_guests-requires-clause-words g c =
+    let p = c.in-Ok.plan in
+    let h = g.H.Hardware.machinery c.run_guests.new.hw in
+    let have : HaveRun (guests_in (judged_run p)) c.in-Ok-run_guests.ran h =
+    subst (λ (m : Machine). HaveRun (run_of m p.images p.slice p.steps) c.in-Ok-run_guests.ran h) c.of-accepted.ensures.same
+    (subst (λ (xs : List (List ℕ)). HaveRun (run_of c.of-accepted.result.machine.now xs p.slice p.steps) c.in-Ok-run_guests.ran h) c.as_slice-images.ensures c.in-Ok-run_guests.ensures.have_run) in
+    have.stands.real_state.words
+
+pub put_guests-requires-clause-within : goal.put_guests-requires-clause-within
+put_guests-requires-clause-within g c =
+    let p = c.in-Ok.plan in
+    let h = g.H.Hardware.machinery c.run_guests.new.hw in
+    let have : HaveRun (guests_in (judged_run p)) c.in-Ok-run_guests.ran h =
+    subst (λ (m : Machine). HaveRun (run_of m p.images p.slice p.steps) c.in-Ok-run_guests.ran h) c.of-accepted.ensures.same
+    (subst (λ (xs : List (List ℕ)). HaveRun (run_of c.of-accepted.result.machine.now xs p.slice p.steps) c.in-Ok-run_guests.ran h) c.as_slice-images.ensures c.in-Ok-run_guests.ensures.have_run) in
+    subst (λ gs. AreWithin h.state gs) (sym c.guests-guests.ensures) (have-within (guests_in (judged_run p)) c.in-Ok-run_guests.ran h have)
 
 pub returns-in-Ok-put_guests-clause-carries : goal.returns-in-Ok-put_guests-clause-carries
 returns-in-Ok-put_guests-clause-carries g c =
-    let r = c.args.words.now in
-    let j = judged_run c.in-Ok.plan in
+    let p = c.in-Ok.plan in
+    let j = judged_run p in
+    let r = guests_in j in
     let old = around g.F.Shelf g.S.Sink g.H.Hardware c.args.shelf.now c.args.out.now c.args.hw.now in
     let new = around g.F.Shelf g.S.Sink g.H.Hardware c.prepare_run.new.shelf c.put_guests.new.out c.run_guests.new.hw in
     let is : verdict_on (judged_by j) ≡ Accepted = sym c.verdict.ensures ∙ c.is_accepted.ensures.yes c.if-not-is_accepted.false in
-    let p = c.in-Ok.plan in
-    let ran : RanGuests j.run old.hw new.hw =
+    let ran : RanGuests r old.hw new.hw =
     subst (λ (m : Machine). RanGuests (run_of m p.images p.slice p.steps) old.hw new.hw) c.of-accepted.ensures.same
     (subst (λ (xs : List (List ℕ)). RanGuests (run_of c.of-accepted.result.machine.now xs p.slice p.steps) old.hw new.hw) c.as_slice-images.ensures c.in-Ok-run_guests.ensures.ran) in
-    let have : HaveRun j.run c.in-Ok-run_guests.ran new.hw =
+    let have : HaveRun r c.in-Ok-run_guests.ran new.hw =
     subst (λ (m : Machine). HaveRun (run_of m p.images p.slice p.steps) c.in-Ok-run_guests.ran new.hw) c.of-accepted.ensures.same
     (subst (λ (xs : List (List ℕ)). HaveRun (run_of c.of-accepted.result.machine.now xs p.slice p.steps) c.in-Ok-run_guests.ran new.hw) c.as_slice-images.ensures c.in-Ok-run_guests.ensures.have_run) in
-    let put : Puts {T = Unit {0}} {E = Failed} old.out.written new.out.written old.out.faults new.out.faults (text_of j.run) c.put_guests.result =
-    subst (λ t. Puts {T = Unit {0}} {E = Failed} old.out.written new.out.written old.out.faults new.out.faults t c.put_guests.result) (told-is j.run c.in-Ok-run_guests.ran new.hw have) c.put_guests.ensures in
-    let ends = run-ran j old new is (c.in-Ok.ensures.accepts is) p.filled ran c.prepare_run.ensures.reads.same_files c.prepare_run.ensures.reads.same_saves in
-    let whole = subst (λ x. Puts {T = Unit {0}} {E = Failed} old.out.written new.out.written old.out.faults new.out.faults (text_of j.run) x) c.in-Ok-put_guests.is put in
-    carries-done (run_command r) old new j (text_of j.run) c.in-Ok.ensures.comes ends whole.whole
+    let told = ran-text r c.in-Ok-run_guests.ran new.hw c.guests-guests.result.now c.turns-turns.result c.direct-direct.result have c.guests-guests.ensures c.turns-turns.ensures c.direct-direct.ensures in
+    let put : Puts {T = Unit {0}} {E = Failed} old.out.written new.out.written old.out.faults new.out.faults (text_of r) c.put_guests.result =
+    subst (λ t. Puts {T = Unit {0}} {E = Failed} old.out.written new.out.written old.out.faults new.out.faults t c.put_guests.result) told c.put_guests.ensures in
+    let ends = run-ran j old new is (c.in-Ok.ensures.accepts is) p.filled (reached-bare p.judged.machine p.images p.slice p.steps) ran c.prepare_run.ensures.reads.same_files
+    c.prepare_run.ensures.reads.same_saves in
+    let whole = subst (λ x. Puts {T = Unit {0}} {E = Failed} old.out.written new.out.written old.out.faults new.out.faults (text_of r) x) c.in-Ok-put_guests.is put in
+    carries-done (run_command c.args.words.now) old new j (text_of r) c.in-Ok.ensures.comes ends whole.whole
 
 pub returns-clause-carries : goal.returns-clause-carries
 returns-clause-carries g c =
-    let r = c.args.words.now in
-    let j = judged_run c.in-Ok.plan in
+    let p = c.in-Ok.plan in
+    let j = judged_run p in
+    let r = guests_in j in
     let old = around g.F.Shelf g.S.Sink g.H.Hardware c.args.shelf.now c.args.out.now c.args.hw.now in
     let new = around g.F.Shelf g.S.Sink g.H.Hardware c.prepare_run.new.shelf c.put_guests.new.out c.run_guests.new.hw in
     let is : verdict_on (judged_by j) ≡ Accepted = sym c.verdict.ensures ∙ c.is_accepted.ensures.yes c.if-not-is_accepted.false in
-    let p = c.in-Ok.plan in
-    let ran : RanGuests j.run old.hw new.hw =
+    let ran : RanGuests r old.hw new.hw =
     subst (λ (m : Machine). RanGuests (run_of m p.images p.slice p.steps) old.hw new.hw) c.of-accepted.ensures.same
     (subst (λ (xs : List (List ℕ)). RanGuests (run_of c.of-accepted.result.machine.now xs p.slice p.steps) old.hw new.hw) c.as_slice-images.ensures c.in-Ok-run_guests.ensures.ran) in
-    let have : HaveRun j.run c.in-Ok-run_guests.ran new.hw =
+    let have : HaveRun r c.in-Ok-run_guests.ran new.hw =
     subst (λ (m : Machine). HaveRun (run_of m p.images p.slice p.steps) c.in-Ok-run_guests.ran new.hw) c.of-accepted.ensures.same
     (subst (λ (xs : List (List ℕ)). HaveRun (run_of c.of-accepted.result.machine.now xs p.slice p.steps) c.in-Ok-run_guests.ran new.hw) c.as_slice-images.ensures c.in-Ok-run_guests.ensures.have_run) in
-    let put : Puts {T = Unit {0}} {E = Failed} old.out.written new.out.written old.out.faults new.out.faults (text_of j.run) c.put_guests.result =
-    subst (λ t. Puts {T = Unit {0}} {E = Failed} old.out.written new.out.written old.out.faults new.out.faults t c.put_guests.result) (told-is j.run c.in-Ok-run_guests.ran new.hw have) c.put_guests.ensures in
-    let ends = run-ran j old new is (c.in-Ok.ensures.accepts is) p.filled ran c.prepare_run.ensures.reads.same_files c.prepare_run.ensures.reads.same_saves in
-    let broken = subst (λ x. Puts {T = Unit {0}} {E = Failed} old.out.written new.out.written old.out.faults new.out.faults (text_of j.run) x) c.in-Err-put_guests.is put in
-    carries-broken (run_command r) old new j Done (text_of j.run) c.in-Ok.ensures.comes ends (record { cause = broken.cause; front = broken.front })
+    let told = ran-text r c.in-Ok-run_guests.ran new.hw c.guests-guests.result.now c.turns-turns.result c.direct-direct.result have c.guests-guests.ensures c.turns-turns.ensures c.direct-direct.ensures in
+    let put : Puts {T = Unit {0}} {E = Failed} old.out.written new.out.written old.out.faults new.out.faults (text_of r) c.put_guests.result =
+    subst (λ t. Puts {T = Unit {0}} {E = Failed} old.out.written new.out.written old.out.faults new.out.faults t c.put_guests.result) told c.put_guests.ensures in
+    let ends = run-ran j old new is (c.in-Ok.ensures.accepts is) p.filled (reached-bare p.judged.machine p.images p.slice p.steps) ran c.prepare_run.ensures.reads.same_files
+    c.prepare_run.ensures.reads.same_saves in
+    let broken = subst (λ x. Puts {T = Unit {0}} {E = Failed} old.out.written new.out.written old.out.faults new.out.faults (text_of r) x) c.in-Err-put_guests.is put in
+    carries-broken (run_command c.args.words.now) old new j Done (text_of r) c.in-Ok.ensures.comes ends (record { cause = broken.cause; front = broken.front })

@@ -49,5 +49,5 @@ returns-in-Ok-clause-comes g c =
     let of : List (List ℕ) → ℕ → GuestFiles = λ images grant. record { desc = r.desc; images = images; cert = r.cert; grant = grant; kept = kept_cells } in
     let came = subst (λ n. GuestsDue Plain (of r.images n) told (Came l)) c.cells.ensures.cells
     (subst (λ xs. GuestsDue Plain (of xs c.cells.result) told (Came l)) c.as_slice.ensures.names c.in-Ok.ensures.comes) in
-    let run : ℕ → ℕ → ℕ → JudgedRun = λ grant slice steps. record { run = record { desc = l.desc; images = l.images; slice = slice; steps = steps }; grant = grant; report = l.report } in
+    let run : ℕ → ℕ → ℕ → JudgedRun = λ grant slice steps. record { desc = l.desc; images = l.images; slice = slice; steps = steps; grant = grant; report = l.report } in
     (l, came, ap (λ n. run n c.steps.result c.count.result) c.cells.ensures.cells ∙ ap (λ n. run r.grant n c.count.result) c.steps.ensures.steps ∙ ap (run r.grant r.slice) c.count.ensures.count)
