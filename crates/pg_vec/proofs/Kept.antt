@@ -1,5 +1,5 @@
 -- What a circuit that grows keeps, and what an and and an exclusive or make.
-use Rattle.std.proofs.Common.{◌≡◌, ℕ, ◌+◌, ◌*◌, ◌≤◌, Bool, true, false, ◌&&◌, List, [], ◌∷◌, ◌++◌, length, take, get_or, refl, sym, ap, ◌∙◌, subst, add-one, arith, Option, Some, None, Result, Ok, Err}
+use Rattle.std.proofs.Common.{◌≡◌, ℕ, ◌+◌, ◌*◌, ◌<◌, ◌≤◌, Bool, true, false, ◌&&◌, List, [], ◌∷◌, ◌++◌, length, take, get_or, refl, sym, ap, ◌∙◌, subst, add-one, arith, Option, Some, None, Result, Ok, Err}
 use Rattle.std.proofs.lemmas.List.{take-take, take_all, length-take, get_or-take, length_push}
 use Rattle.std.proofs.lemmas.List.Elements.{All-weaker}
 use Rattle.pg_circuit.specs.declared.node.Gate.{Gate}
@@ -63,6 +63,15 @@ adds_next old nodes new count each h k =
 -- all rounds
 pub adds_rounds : (old new : List Node) (count all each : ℕ) → AddsNodes old new (count * each) → count ≤ all → AddsNodes old new (all * each)
 adds_rounds old new count all each h l = adds_more old new (count * each) (all * each) h (mul-le count each all each l (omega arith))
+
+-- a call that stops before it adds any
+pub adds_any : (nodes : List Node) (most : ℕ) → AddsNodes nodes nodes most
+adds_any nodes most = record { front = front_same nodes; few = omega arith; inputs = refl }
+
+-- some rounds of all, and a part of one more
+pub adds_stopped : (old nodes new : List Node) (count all each part : ℕ) → AddsNodes old nodes (count * each) → AddsNodes nodes new part → count < all → part ≤ each → AddsNodes old new (all * each)
+adds_stopped old nodes new count all each part h k l p =
+    adds_rounds old new (count + 1) all each (adds_next old nodes new count each h (adds_more nodes new part each k p)) (omega arith)
 
 -- at most six rounds
 pub adds_six : (old new : List Node) (count each : ℕ) → AddsNodes old new (count * each) → count ≤ 6 → AddsNodes old new (6 * each)

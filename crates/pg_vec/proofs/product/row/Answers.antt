@@ -1,5 +1,6 @@
 -- One more bit, and at the end all of them.
-use Rattle.std.proofs.Common.{arith}
+use Rattle.std.proofs.Common.{length, arith}
+use Rattle.pg_vec.proofs.Kept.{adds_any, adds_more, adds_rounds, adds_stopped}
 use Rattle.pg_vec.proofs.Loops.{built_next, built_all, row_none, row_next}
 use Rattle.pg_vec.proofs.product.row.Goals as goal
 
@@ -12,3 +13,15 @@ loop-bit-preserved c =
 pub returns-clause-made : goal.returns-clause-made
 returns-clause-made c =
     built_all _ _ 1 _ _ _ _ c.loop-bit.invariant (row_none c.loop-bit.circuit.nodes c.args.y c.args.x.now c.loop-bit.bit-index (omega arith))
+
+pub returns-clause-kept : goal.returns-clause-kept
+returns-clause-kept c = adds_more _ _ _ _ (adds_rounds _ _ c.loop-bit.bit-index (length c.args.x.now) 1 c.loop-bit.invariant.kept (omega arith)) (omega arith)
+
+pub returns-in_err-bits-clause-kept : goal.returns-in_err-bits-clause-kept
+returns-in_err-bits-clause-kept c = adds_any _ _
+
+pub returns-in_err-both-clause-kept : goal.returns-in_err-both-clause-kept
+returns-in_err-both-clause-kept c = adds_more _ _ _ _ (adds_stopped _ _ _ c.loop-bit.bit-index (length c.args.x.now) 1 1 c.loop-bit.invariant.kept c.and.ensures.kept (omega arith) (omega arith)) (omega arith)
+
+pub returns-in_err-push-clause-kept : goal.returns-in_err-push-clause-kept
+returns-in_err-push-clause-kept c = adds_more _ _ _ _ (adds_stopped _ _ _ c.loop-bit.bit-index (length c.args.x.now) 1 1 c.loop-bit.invariant.kept c.and.ensures.kept (omega arith) (omega arith)) (omega arith)

@@ -3,6 +3,7 @@ use Rattle.std.proofs.Common.{◌*◌, length, arith, subst, sym, ap, ◌∙◌}
 use Rattle.std.proofs.lemmas.Nat.{pow-add}
 use Rattle.pg_vec.specs.Direction.{move_of}
 use Rattle.pg_vec.specs.AddsNodes.{AddsNodes}
+use Rattle.pg_vec.proofs.Kept.{adds_any, adds_rounds, adds_stopped}
 use Rattle.pg_vec.proofs.Loops.{staged_next, staged_all, stages_none, stages_next, moved_wide}
 use Rattle.pg_vec.proofs.shift.stages.Goals as goal
 
@@ -23,3 +24,20 @@ loop-choice-preserved c =
 pub returns-clause-made : goal.returns-clause-made
 returns-clause-made c =
     staged_all _ _ (length c.args.x.now * 3) _ _ _ _ _ c.loop-choice.invariant.0 (stages_none (move_of c.args.way) c.loop-choice.circuit.nodes c.loop-choice.step c.loop-choice.bits.items c.args.by.now c.loop-choice.choice-index (omega arith))
+
+pub returns-clause-kept : goal.returns-clause-kept
+returns-clause-kept c = adds_rounds _ _ c.loop-choice.choice-index (length c.args.by.now) (length c.args.x.now * 3) c.loop-choice.invariant.0.kept (omega arith)
+
+pub returns-in_err-bits-clause-kept : goal.returns-in_err-bits-clause-kept
+returns-in_err-bits-clause-kept c = adds_any _ _
+
+pub returns-in_err-far-clause-kept : goal.returns-in_err-far-clause-kept
+returns-in_err-far-clause-kept c = adds_rounds _ _ c.loop-choice.choice-index (length c.args.by.now) (length c.args.x.now * 3) c.loop-choice.invariant.0.kept (omega arith)
+
+pub returns-in_err-bits-2-clause-kept : goal.returns-in_err-bits-2-clause-kept
+returns-in_err-bits-2-clause-kept c =
+    let bits = c.loop-choice.bits.items in
+    let moved = c.in_ok-far.ensures ∙ ap (move_of c.args.way c.loop-choice.step) c.as_slice.ensures.value in
+    let far = ap length c.as_slice-in-loop-choice.ensures.value ∙ ap length moved ∙ moved_wide c.args.way c.loop-choice.step bits ∙ c.loop-choice.invariant.0.wide in
+    let kept = subst (λ n. AddsNodes c.loop-choice.circuit.nodes c.pairwise.new.circuit.nodes (n * 3)) far c.pairwise.ensures.kept in
+    adds_stopped _ _ _ c.loop-choice.choice-index (length c.args.by.now) (length c.args.x.now * 3) (length c.args.x.now * 3) c.loop-choice.invariant.0.kept kept (omega arith) (omega arith)

@@ -1,8 +1,8 @@
 -- One more bit, and at the end all of them.
-use Rattle.std.proofs.Common.{◌+◌, arith}
+use Rattle.std.proofs.Common.{◌+◌, length, arith}
 use Rattle.std.proofs.lemmas.List.{take_rest}
 use Rattle.pg_vec.proofs.Loops.{built_next, built_all, sum_none, sum_next}
-use Rattle.pg_vec.proofs.Kept.{adds_then, there_later}
+use Rattle.pg_vec.proofs.Kept.{adds_any, adds_rounds, adds_stopped, adds_then, there_later}
 use Rattle.pg_vec.proofs.sum.sum.Goals as goal
 
 pub loop-i-preserved : goal.loop-i-preserved
@@ -16,3 +16,26 @@ loop-i-preserved c =
 pub returns-clause-made : goal.returns-clause-made
 returns-clause-made c =
     built_all _ _ 5 _ _ _ _ c.loop-i.invariant.0 (sum_none c.loop-i.circuit.nodes c.loop-i.carry c.args.x.now c.args.y.now c.loop-i.i (omega arith))
+
+pub returns-clause-kept : goal.returns-clause-kept
+returns-clause-kept c = adds_rounds _ _ c.loop-i.i (length c.args.x.now) 5 c.loop-i.invariant.0.kept (omega arith)
+
+pub returns-in_err-bits-clause-kept : goal.returns-in_err-bits-clause-kept
+returns-in_err-bits-clause-kept c = adds_any _ _
+
+pub returns-in_err-half-clause-kept : goal.returns-in_err-half-clause-kept
+returns-in_err-half-clause-kept c = adds_stopped _ _ _ c.loop-i.i (length c.args.x.now) 5 1 c.loop-i.invariant.0.kept c.xor.ensures.kept (omega arith) (omega arith)
+
+pub returns-in_err-bit-clause-kept : goal.returns-in_err-bit-clause-kept
+returns-in_err-bit-clause-kept c =
+    adds_stopped _ _ _ c.loop-i.i (length c.args.x.now) 5 2 c.loop-i.invariant.0.kept (adds_then _ _ _ 1 1 c.xor.ensures.kept c.xor-in-loop-i.ensures.kept) (omega arith) (omega arith)
+
+pub returns-in_err-carry-clause-kept : goal.returns-in_err-carry-clause-kept
+returns-in_err-carry-clause-kept c =
+    let bit = adds_then _ _ _ 1 1 c.xor.ensures.kept c.xor-in-loop-i.ensures.kept in
+    adds_stopped _ _ _ c.loop-i.i (length c.args.x.now) 5 5 c.loop-i.invariant.0.kept (adds_then _ _ _ 2 3 bit c.carry_into.ensures.kept) (omega arith) (omega arith)
+
+pub returns-in_err-push-clause-kept : goal.returns-in_err-push-clause-kept
+returns-in_err-push-clause-kept c =
+    let bit = adds_then _ _ _ 1 1 c.xor.ensures.kept c.xor-in-loop-i.ensures.kept in
+    adds_stopped _ _ _ c.loop-i.i (length c.args.x.now) 5 5 c.loop-i.invariant.0.kept (adds_then _ _ _ 2 3 bit c.carry_into.ensures.kept) (omega arith) (omega arith)
