@@ -1,7 +1,7 @@
 -- What a circuit that grows keeps, and what an and and an exclusive or make.
 use Rattle.std.proofs.Common.{◌≡◌, ℕ, ◌+◌, ◌*◌, ◌<◌, ◌≤◌, Bool, true, false, ◌&&◌, List, [], ◌∷◌, ◌++◌, length, take, get_or, refl, sym, ap, ◌∙◌, subst, add-one, arith, Option, Some, None, Result, Ok, Err}
 use Rattle.std.proofs.lemmas.List.{take-take, take_all, length-take, get_or-take, length_push}
-use Rattle.std.proofs.lemmas.List.Elements.{All-weaker}
+use Rattle.std.proofs.lemmas.List.Elements.{All-get_or, All-weaker}
 use Rattle.pg_circuit.specs.declared.node.Gate.{Gate}
 use Rattle.pg_circuit.specs.declared.node.Node.{Node}
 use Rattle.pg_circuit.specs.declared.node.Node.TheVariants.{And, Xor}
@@ -42,6 +42,9 @@ there_later before after g h t =
 pub all_there_later : (before after : List Node) (gs : List Gate) → GrowsTo before after → AreThere (length before) gs → AreThere (length after) gs
 all_there_later before after gs h t =
     All-weaker (IsThere (length before)) (IsThere (length after)) (λ g k. there_later before after g h k) gs t
+
+pub there_at : (before after : List Node) (gs : List Gate) (i : ℕ) → GrowsTo before after → AreThere (length before) gs → i < length gs → IsThere (length after) (get_or gs i (constant_gate false))
+there_at before after gs i h t l = there_later before after (get_or gs i (constant_gate false)) h (All-get_or (IsThere (length before)) gs i (constant_gate false) l t)
 
 -- ---- what is added
 
