@@ -69,4 +69,5 @@ fare_of-returns-in-Pc-clause-fare t c = grind (arith, grow_rules, fare_rules)
 
 pub fare_of-returns-in-Pc-clause-kept : goal.fare_of-returns-in-Pc-clause-kept
 fare_of-returns-in-Pc-clause-kept t c = grind (arith, grow_rules, fare_rules)
+
 -- again

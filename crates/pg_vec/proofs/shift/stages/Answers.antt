@@ -53,7 +53,7 @@ pub pairwise-requires-clause-left : goal.pairwise-requires-clause-left
 pairwise-requires-clause-left c =
     let far = c.as_slice-in-loop-choice.ensures.value ∙ c.in_ok-far.ensures ∙ ap (move_of c.args.way c.loop-choice.step) c.as_slice.ensures.value in
     subst (AreThere (length c.loop-choice.circuit.nodes)) (sym far)
-        (moved_there c.args.way (length c.loop-choice.circuit.nodes) c.loop-choice.step c.loop-choice.bits.items c.loop-choice.circuit.circuit.begun c.loop-choice.invariant.0.there)
+    (moved_there c.args.way (length c.loop-choice.circuit.nodes) c.loop-choice.step c.loop-choice.bits.items c.loop-choice.circuit.circuit.begun c.loop-choice.invariant.0.there)
 
 pub pairwise-requires-clause-right : goal.pairwise-requires-clause-right
 pairwise-requires-clause-right c = subst (AreThere (length c.loop-choice.circuit.nodes)) (sym c.as_slice-in-loop-choice-2.ensures.value) c.loop-choice.invariant.0.there
