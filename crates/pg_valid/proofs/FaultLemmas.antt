@@ -5,7 +5,7 @@ use Rattle.pg_valid.specs.declared.fault.TypeFault.{TypeFault}
 use Rattle.pg_valid.specs.declared.fault.TypeFault.TheVariants.{Memory}
 use Rattle.pg_valid.specs.Twice.{first_of_two, first_twice, instr_names, let_twice_among}
 use Rattle.pg_valid.specs.Valid.{shape_fault, limit_fault, as_twice, twice_fault, pattern_fault, overlap_fault, name_fault, width_fault, IsValid, fault_of}
-use Rattle.pg_valid.specs.Verdicts.{IsFaultOf, IsFault}
+use Rattle.pg_valid.specs.Verdicts.{IsFaultOf, IsFault, part_fault}
 
 -- where an earlier class has a fault, it is the first
 pub first_here : (early late : Option TypeFault) (fault : TypeFault) → IsFaultOf early fault → IsFaultOf (first_of_two early late) fault
@@ -54,26 +54,31 @@ pub of_names_once : (d : Desc) (fault : TypeFault) → shape_fault d ≡ None �
 unfolding fault_of
 of_names_once d fault a b h = first_later _ _ fault a (first_later _ _ fault b (first_here _ _ fault h))
 
-pub of_patterns : (d : Desc) (fault : TypeFault) → shape_fault d ≡ None → limit_fault d ≡ None → twice_fault d ≡ None → IsFaultOf (pattern_fault d) fault → IsFault d fault
-unfolding fault_of
-of_patterns d fault a b e h = first_later _ _ fault a (first_later _ _ fault b (first_later _ _ fault e (first_here _ _ fault h)))
+pub of_parts : (d : Desc) (fault : TypeFault) → shape_fault d ≡ None → limit_fault d ≡ None → twice_fault d ≡ None → IsFaultOf (part_fault d) fault → IsFault d fault
+unfolding fault_of part_fault
+of_parts d fault a b e h = first_later _ _ fault a (first_later _ _ fault b (first_later _ _ fault e h))
 
-pub of_overlaps : (d : Desc) (fault : TypeFault) → shape_fault d ≡ None → limit_fault d ≡ None → twice_fault d ≡ None → pattern_fault d ≡ None → IsFaultOf (overlap_fault d) fault → IsFault d fault
-unfolding fault_of
-of_overlaps d fault a b e g h =
-    first_later _ _ fault a (first_later _ _ fault b (first_later _ _ fault e (first_later _ _ fault g (first_here _ _ fault h))))
+pub part_patterns : (d : Desc) (fault : TypeFault) → IsFaultOf (pattern_fault d) fault → IsFaultOf (part_fault d) fault
+unfolding part_fault
+part_patterns d fault h = first_here _ _ fault h
 
-pub of_names_known : (d : Desc) (fault : TypeFault) → shape_fault d ≡ None → limit_fault d ≡ None → twice_fault d ≡ None → pattern_fault d ≡ None → overlap_fault d ≡ None →
-    IsFaultOf (name_fault d) fault → IsFault d fault
-unfolding fault_of
-of_names_known d fault a b e g i h =
-    first_later _ _ fault a (first_later _ _ fault b (first_later _ _ fault e (first_later _ _ fault g (first_later _ _ fault i (first_here _ _ fault h)))))
+pub part_overlaps : (d : Desc) (fault : TypeFault) → pattern_fault d ≡ None → IsFaultOf (overlap_fault d) fault → IsFaultOf (part_fault d) fault
+unfolding part_fault
+part_overlaps d fault a h = first_later _ _ fault a (first_here _ _ fault h)
 
-pub of_widths : (d : Desc) (fault : TypeFault) → shape_fault d ≡ None → limit_fault d ≡ None → twice_fault d ≡ None → pattern_fault d ≡ None → overlap_fault d ≡ None → name_fault d ≡ None →
-    IsFaultOf (width_fault d) fault → IsFault d fault
-unfolding fault_of
-of_widths d fault a b e g i j h =
-    first_later _ _ fault a (first_later _ _ fault b (first_later _ _ fault e (first_later _ _ fault g (first_later _ _ fault i (first_later _ _ fault j h)))))
+pub part_names_known : (d : Desc) (fault : TypeFault) → pattern_fault d ≡ None → overlap_fault d ≡ None → IsFaultOf (name_fault d) fault → IsFaultOf (part_fault d) fault
+unfolding part_fault
+part_names_known d fault a b h = first_later _ _ fault a (first_later _ _ fault b (first_here _ _ fault h))
+
+pub part_widths : (d : Desc) (fault : TypeFault) → pattern_fault d ≡ None → overlap_fault d ≡ None → name_fault d ≡ None → IsFaultOf (width_fault d) fault → IsFaultOf (part_fault d) fault
+unfolding part_fault
+part_widths d fault a b e h = first_later _ _ fault a (first_later _ _ fault b (first_later _ _ fault e h))
+
+pub part_none : (d : Desc) → pattern_fault d ≡ None → overlap_fault d ≡ None → name_fault d ≡ None → width_fault d ≡ None → part_fault d ≡ None
+unfolding part_fault
+part_none d a b e g =
+    let late : Option TypeFault = first_of_two (name_fault d) (width_fault d) in
+    ap (λ x. first_of_two x (first_of_two (overlap_fault d) late)) a ∙ ap (λ x. first_of_two x late) b ∙ ap (λ x. first_of_two x (width_fault d)) e ∙ g
 
 none_both : {X : Type 0} (x y : Option X) → first_of_two x y ≡ None → (x ≡ None) × (y ≡ None)
 none_both None y e = (refl, e)
@@ -91,6 +96,15 @@ no_fault d v =
     ap (λ x. first_of_two x second) v.shape ∙ ap (λ x. first_of_two x third) v.limits ∙ ap (λ x. first_of_two x fourth) v.names_once
     ∙ ap (λ x. first_of_two x fifth) v.patterns ∙ ap (λ x. first_of_two x late) v.apart
     ∙ ap (λ x. first_of_two x (width_fault d)) v.names_known ∙ v.widths
+
+-- where the first three classes have none, and the last four have none
+pub valid_of : (d : Desc) → shape_fault d ≡ None → limit_fault d ≡ None → twice_fault d ≡ None → part_fault d ≡ None → IsValid d
+unfolding part_fault
+valid_of d a b e none =
+    let g = none_both (pattern_fault d) _ none in
+    let i = none_both (overlap_fault d) _ g.1 in
+    let j = none_both (name_fault d) _ i.1 in
+    record { shape = a; limits = b; names_once = e; patterns = g.0; apart = i.0; names_known = j.0; widths = j.1 }
 
 -- and one that has none is valid
 pub is_valid : (d : Desc) → fault_of d ≡ None → IsValid d

@@ -5,10 +5,10 @@
 //! before it, as the widths on names that mean something. The table of names is filled by the test that each is given once,
 //! and is handed on for the machine to keep. `pg_machine`, above, makes a machine of what passes.
 
-ghost use Rattle.std.specs.Prelude.{◌≡◌, IfOk, IfErr, OnOk};
+ghost use Rattle.std.specs.Prelude.{◌≡◌, None, IfOk, IfErr, OnOk};
 ghost use Rattle.pg_valid.specs.Twice.{instr_names};
 ghost use Rattle.pg_valid.specs.Valid.{IsValid};
-ghost use Rattle.pg_valid.specs.Verdicts.{IsFault};
+ghost use Rattle.pg_valid.specs.Verdicts.{IsFaultOf, IsFault, part_fault};
 
 use crate::classes::{
     test_limits, test_names_known, test_names_once, test_overlaps, test_patterns, test_shape,
@@ -38,6 +38,19 @@ pub fn test_all(alloc: Global, desc: &Desc) -> Result<NameTable, TypeFault>
         Err(fault) => return Err(fault),
         Ok(names) => names,
     };
+    match test_parts(alloc, desc) {
+        Err(fault) => return Err(fault),
+        Ok(()) => {}
+    }
+    Ok(names)
+}
+
+/// Tests the last four classes, of patterns and of bodies. The error is the fault of the first of them that has one, or want
+/// of memory.
+fn test_parts(alloc: Global, desc: &Desc) -> Result<(), TypeFault>
+    ensures ok { OnOk result (part_fault desc.now ≡ None) }
+    ensures err { IfErr result (λ fault. IsFaultOf (part_fault desc.now) fault) }
+{
     match test_patterns(desc) {
         Err(fault) => return Err(fault),
         Ok(()) => {}
@@ -51,8 +64,7 @@ pub fn test_all(alloc: Global, desc: &Desc) -> Result<NameTable, TypeFault>
         Ok(()) => {}
     }
     match test_widths(alloc, desc) {
-        Err(fault) => return Err(fault),
-        Ok(()) => {}
+        Err(fault) => Err(fault),
+        Ok(()) => Ok(()),
     }
-    Ok(names)
 }

@@ -1,7 +1,7 @@
 -- What a circuit that grows keeps, and what an and and an exclusive or make.
-use Rattle.std.proofs.Common.{◌≡◌, ℕ, ◌+◌, ◌*◌, ◌≤◌, Bool, true, false, ◌&&◌, List, [], ◌∷◌, ◌++◌, length, take, get_or, refl, sym, ap, ◌∙◌, subst, add-one, arith, Option, Some, None, Result, Ok, Err}
+use Rattle.std.proofs.Common.{◌≡◌, ℕ, ◌+◌, ◌*◌, ◌<◌, ◌≤◌, Bool, true, false, ◌&&◌, List, [], ◌∷◌, ◌++◌, length, take, get_or, refl, sym, ap, ◌∙◌, subst, add-one, arith, Option, Some, None, Result, Ok, Err}
 use Rattle.std.proofs.lemmas.List.{take-take, take_all, length-take, get_or-take, length_push}
-use Rattle.std.proofs.lemmas.List.Elements.{All-weaker}
+use Rattle.std.proofs.lemmas.List.Elements.{All-get_or, All-weaker}
 use Rattle.pg_circuit.specs.declared.node.Gate.{Gate}
 use Rattle.pg_circuit.specs.declared.node.Node.{Node}
 use Rattle.pg_circuit.specs.declared.node.Node.TheVariants.{And, Xor}
@@ -43,6 +43,9 @@ pub all_there_later : (before after : List Node) (gs : List Gate) → GrowsTo be
 all_there_later before after gs h t =
     All-weaker (IsThere (length before)) (IsThere (length after)) (λ g k. there_later before after g h k) gs t
 
+pub there_at : (before after : List Node) (gs : List Gate) (i : ℕ) → GrowsTo before after → AreThere (length before) gs → i < length gs → IsThere (length after) (get_or gs i (constant_gate false))
+there_at before after gs i h t l = there_later before after (get_or gs i (constant_gate false)) h (All-get_or (IsThere (length before)) gs i (constant_gate false) l t)
+
 -- ---- what is added
 
 pub adds_none : (nodes : List Node) → AddsNodes nodes nodes 0
@@ -63,6 +66,15 @@ adds_next old nodes new count each h k =
 -- all rounds
 pub adds_rounds : (old new : List Node) (count all each : ℕ) → AddsNodes old new (count * each) → count ≤ all → AddsNodes old new (all * each)
 adds_rounds old new count all each h l = adds_more old new (count * each) (all * each) h (mul-le count each all each l (omega arith))
+
+-- a call that stops before it adds any
+pub adds_any : (nodes : List Node) (most : ℕ) → AddsNodes nodes nodes most
+adds_any nodes most = record { front = front_same nodes; few = omega arith; inputs = refl }
+
+-- some rounds of all, and a part of one more
+pub adds_stopped : (old nodes new : List Node) (count all each part : ℕ) → AddsNodes old nodes (count * each) → AddsNodes nodes new part → count < all → part ≤ each → AddsNodes old new (all * each)
+adds_stopped old nodes new count all each part h k l p =
+    adds_rounds old new (count + 1) all each (adds_next old nodes new count each h (adds_more nodes new part each k p)) (omega arith)
 
 -- at most six rounds
 pub adds_six : (old new : List Node) (count each : ℕ) → AddsNodes old new (count * each) → count ≤ 6 → AddsNodes old new (6 * each)

@@ -2,7 +2,7 @@
 use Rattle.std.proofs.Common.{◌≡◌, ℕ, ◌+◌, ◌*◌, ◌<◌, ◌≤◌, false, List, [], ◌∷◌, ◌++◌, length, take, drop, get_or, sym, ap, ◌∙◌, subst, append_assoc}
 use Rattle.std.proofs.lemmas.List.{drop_more, drop_all, append-nil, length_push, length-replicate}
 use Rattle.std.proofs.Math.Nat.{zero-mul}
-use Rattle.std.proofs.lemmas.List.Elements.{All-push}
+use Rattle.std.proofs.lemmas.List.Elements.{All-nil, All-push}
 use Rattle.pg_circuit.specs.declared.node.Gate.{Gate}
 use Rattle.pg_circuit.specs.declared.node.Node.{Node}
 use Rattle.pg_circuit.specs.Values.{IsThere}
@@ -12,7 +12,7 @@ use Rattle.pg_vec.specs.Gates.{or_made, choice_made, carry_made}
 use Rattle.pg_vec.specs.declared.shift.Direction.{Direction}
 use Rattle.pg_vec.specs.declared.shift.Direction.TheVariants.{Up, Down}
 use Rattle.pg_vec.specs.Direction.{move_of}
-use Rattle.pg_vec.proofs.Strings.{length-moved_up, length-moved_down, zeros-there}
+use Rattle.pg_vec.proofs.Strings.{length-moved_up, length-moved_down, moved_up-there, moved_down-there, zeros-there}
 use Rattle.pg_vec.specs.Strings.{zeros, shift_made, moved_up, carry_into_made, each_made, sum_made, add_made, carry_out_made, same_made, any_made, mux_made, stages_made, row_made, rows_made, mul_made}
 use Rattle.pg_vec.specs.AddsNodes.{AddsNodes}
 use Rattle.pg_vec.proofs.Kept.{adds_none, adds_next, all_there_later}
@@ -40,6 +40,14 @@ pub record Built (old : List Node) (due : List Gate × List Node) (each count : 
   pub kept : AddsNodes old nodes (count * each)
   pub there : AreThere (length nodes) bits
   pub wide : length bits ≡ count
+
+pub built_begin : (old : List Node) (due : List Gate × List Node) (each : ℕ) (bits : List Gate) → bits ≡ [] → Built old due each 0 bits old due
+built_begin old due each bits e = record {
+  made = ap (λ gs. with_front gs due) e;
+  kept = no_round old each;
+  there = subst (AreThere (length old)) (sym e) (All-nil (IsThere (length old)));
+  wide = ap length e;
+}
 
 pub built_next : (old : List Node) (due : List Gate × List Node) (each count : ℕ) (bits : List Gate) (nodes : List Node) (rest : List Gate × List Node) (bit : Gate) (new : List Node) (left : List Gate × List Node) →
     Built old due each count bits nodes rest → AddsNodes nodes new each → bit.number < length new → with_front (bit ∷ []) left ≡ rest →
@@ -175,6 +183,15 @@ pub staged_all : (old : List Node) (due : List Gate × List Node) (each count wi
 staged_all old due each count width bits nodes rest b e = sym e ∙ b.made
 
 -- shifts
+pub stages_begin : (move : ℕ → List Gate → List Gate) (nodes : List Node) (each : ℕ) (xs ys bits : List Gate) → AreThere (length nodes) xs → bits ≡ xs →
+    Staged nodes (stages_made move nodes 1 xs ys) each 0 (length xs) bits nodes (stages_made move nodes 1 bits ys)
+stages_begin move nodes each xs ys bits t e = record {
+  made = ap (λ zs. stages_made move nodes 1 zs ys) e;
+  kept = no_round nodes each;
+  there = subst (AreThere (length nodes)) (sym e) t;
+  wide = ap length e;
+}
+
 pub stages_none : (move : ℕ → List Gate → List Gate) (nodes : List Node) (step : ℕ) (xs ys : List Gate) (i : ℕ) → length ys ≤ i → stages_made move nodes step xs (drop i ys) ≡ (xs, nodes)
 unfolding stages_made
 stages_none move nodes step xs ys i l = ap (λ zs. stages_made move nodes step xs zs) (drop_all i ys l)
@@ -228,6 +245,10 @@ rows_next nodes sum xs ys i zero at row so_far addend total moved n new l ez ea 
 pub moved_wide : (way : Direction) (k : ℕ) (xs : List Gate) → length (move_of way k xs) ≡ length xs
 moved_wide Up k xs = length-moved_up k xs
 moved_wide Down k xs = length-moved_down k xs
+
+pub moved_there : (way : Direction) (places k : ℕ) (xs : List Gate) → 0 < places → AreThere places xs → AreThere places (move_of way k xs)
+moved_there Up places k xs h t = moved_up-there places k xs h t
+moved_there Down places k xs h t = moved_down-there places k xs h t
 
 -- a shift, from its three parts
 pub shift_parts : (move : ℕ → List Gate → List Gate) (nodes : List Node) (xs ys low high bits near zeros' : List Gate) (far : Gate) (n m : List Node) →

@@ -1,4 +1,4 @@
-use Rattle.pg_valid.proofs.FaultLemmas.{of_shape, of_limits, of_names_once, of_patterns, of_overlaps, of_names_known, of_widths}
+use Rattle.pg_valid.proofs.FaultLemmas.{of_shape, of_limits, of_names_once, of_parts, valid_of}
 use Rattle.pg_valid.proofs.check_desc.test_all.Goals as goal
 
 pub returns-in-Err-clause-fault : goal.returns-in-Err-clause-fault
@@ -10,14 +10,11 @@ returns-in-Err-test_limits-clause-fault c = of_limits c.args.desc.now c.in-Err-t
 pub returns-in-Err-test_names_once-clause-fault : goal.returns-in-Err-test_names_once-clause-fault
 returns-in-Err-test_names_once-clause-fault c = of_names_once c.args.desc.now c.in-Err-test_names_once.fault c.in-Ok.ensures.ok c.in-Ok-test_limits.ensures.ok c.in-Err-test_names_once.ensures.err
 
-pub returns-in-Err-test_patterns-clause-fault : goal.returns-in-Err-test_patterns-clause-fault
-returns-in-Err-test_patterns-clause-fault c = of_patterns c.args.desc.now c.in-Err-test_patterns.fault c.in-Ok.ensures.ok c.in-Ok-test_limits.ensures.ok c.in-Ok-test_names_once.ensures.ok c.in-Err-test_patterns.ensures.err
+pub returns-in-Err-test_parts-clause-fault : goal.returns-in-Err-test_parts-clause-fault
+returns-in-Err-test_parts-clause-fault c = of_parts c.args.desc.now c.in-Err-test_parts.fault c.in-Ok.ensures.ok c.in-Ok-test_limits.ensures.ok c.in-Ok-test_names_once.ensures.ok c.in-Err-test_parts.ensures.err
 
-pub returns-in-Err-test_overlaps-clause-fault : goal.returns-in-Err-test_overlaps-clause-fault
-returns-in-Err-test_overlaps-clause-fault c = of_overlaps c.args.desc.now c.in-Err-test_overlaps.fault c.in-Ok.ensures.ok c.in-Ok-test_limits.ensures.ok c.in-Ok-test_names_once.ensures.ok c.in-Ok-test_patterns.ensures.ok c.in-Err-test_overlaps.ensures.err
+pub returns-clause-valid : goal.returns-clause-valid
+returns-clause-valid c = valid_of c.args.desc.now c.in-Ok.ensures.ok c.in-Ok-test_limits.ensures.ok c.in-Ok-test_names_once.ensures.ok c.in-Ok-test_parts.ensures.ok
 
-pub returns-in-Err-test_names_known-clause-fault : goal.returns-in-Err-test_names_known-clause-fault
-returns-in-Err-test_names_known-clause-fault c = of_names_known c.args.desc.now c.in-Err-test_names_known.fault c.in-Ok.ensures.ok c.in-Ok-test_limits.ensures.ok c.in-Ok-test_names_once.ensures.ok c.in-Ok-test_patterns.ensures.ok c.in-Ok-test_overlaps.ensures.ok c.in-Err-test_names_known.ensures.err
-
-pub returns-in-Err-test_widths-clause-fault : goal.returns-in-Err-test_widths-clause-fault
-returns-in-Err-test_widths-clause-fault c = of_widths c.args.desc.now c.in-Err-test_widths.fault c.in-Ok.ensures.ok c.in-Ok-test_limits.ensures.ok c.in-Ok-test_names_once.ensures.ok c.in-Ok-test_patterns.ensures.ok c.in-Ok-test_overlaps.ensures.ok c.in-Ok-test_names_known.ensures.ok c.in-Err-test_widths.ensures.err
+pub returns-clause-names : goal.returns-clause-names
+returns-clause-names c = c.in-Ok-test_names_once.ensures.names
