@@ -8,6 +8,8 @@ use Rattle.pg_proof.specs.New.{AreQuiet}
 use Rattle.pg_proof.specs.Log.{IsClosedLog}
 use Rattle.pg_sat.specs.declared.answer.Answer.{Answer}
 use Rattle.pg_sat.specs.declared.answer.Answer.TheVariants.{Sat, Unsat, Spent}
+use Rattle.pg_sat.specs.declared.solver.Ended.{Ended}
+use Rattle.pg_sat.specs.declared.solver.Ended.TheVariants.{Satisfied, Refuted, Exhausted}
 use Rattle.pg_sat.specs.Solving.{clauses_of, IsLog}
 
 -- an assignment of all variables that makes all clauses true
@@ -42,3 +44,9 @@ abbrev pub IsAnswer : List (List ℤ) → ℕ → ℕ → Answer → Type 0
 IsAnswer question variables budget (Sat assignment) = IsModel question variables assignment
 IsAnswer question variables budget (Unsat steps) = IsRefuted question budget steps
 IsAnswer question variables budget (Spent steps) = IsExhausted question budget steps
+
+-- the end of a search after these steps
+abbrev pub IsEnded : List (List ℤ) → ℕ → ℕ → List Step → Ended → Type 0
+IsEnded question variables budget steps (Satisfied assignment) = IsModel question variables assignment
+IsEnded question variables budget steps Refuted = IsRefuted question budget steps
+IsEnded question variables budget steps Exhausted = IsExhausted question budget steps

@@ -1,5 +1,5 @@
 -- What a conflict teaches.
-use Rattle.std.specs.Prelude.{◌≡◌, ◌≢◌, ℕ, ◌+◌, ◌*◌, ◌<◌, ◌≤◌, true, false, ℤ, pos, neg_ℤ, List, length, map, take, Some, None, slice_index_or}
+use Rattle.std.specs.Prelude.{◌≡◌, ◌≢◌, ℕ, ◌+◌, ◌*◌, ◌<◌, ◌≤◌, true, false, ℤ, pos, neg_ℤ, List, [], ◌∷◌, ◌++◌, length, map, take, Some, None, slice_index_or}
 use Rattle.pg_proof.specs.declared.step.Step.{Step}
 use Rattle.pg_proof.specs.State.{AreHeldWithin}
 use Rattle.pg_proof.specs.Refutation.{fault_of}
@@ -7,8 +7,9 @@ use Rattle.pg_proof.specs.Tight.{is_tight}
 use Rattle.pg_proof.specs.Places.{has}
 use Rattle.pg_proof.specs.New.{IsNew}
 use Rattle.pg_proof.specs.Covered.{is_covered}
-use Rattle.pg_watch.specs.Trail.{value_of}
+use Rattle.pg_watch.specs.Trail.{Trail, value_of}
 use Rattle.pg_sat.specs.Cut.{IsCut}
+use Rattle.pg_sat.specs.Jump.{IsJump}
 
 -- a step over clauses that is valid and tight, and whose literals are all false: a cut
 pub record IsLearned (variables : ℕ) (clauses : List (List ℤ)) (set : List ℤ) (step : Step) : Type 0 where
@@ -37,3 +38,12 @@ pub record IsTaught (variables : ℕ) (clauses : List (List ℤ)) (literals : Li
   pub asserting : IsAsserting (take last literals) (slice_index_or literals place (pos 0)) step.lits
   pub fresh : IsNew clauses step.lits
   pub uncovered : is_covered (map Some clauses) step.lits ≡ false
+
+-- a step that a conflict teaches, put at the end of the others, with its clause, and where the trail is cut for it
+pub record IsLesson (variables : ℕ) (clauses : List (List ℤ)) (trail : Trail) (last : ℕ) (before after : List Step) (clause : List ℤ) (jump : ℕ) : Type 0 where
+  pub place : ℕ
+  pub step : Step
+  pub taught : IsTaught variables clauses trail.literals last place step
+  pub logged : after ≡ before ++ step ∷ []
+  pub held : clause ≡ step.lits
+  pub cut : IsJump trail step.lits jump

@@ -5,6 +5,7 @@ ghost use Rattle.pg_cnf.specs.Literals.{IsClause};
 ghost use Rattle.pg_watch.specs.Trail.{IsConflict};
 ghost use Rattle.pg_watch.specs.Fixes.{IsEnd, is_quiet};
 ghost use Rattle.pg_sat.specs.Jump.{IsLast};
+ghost use Rattle.pg_sat.specs.Learned.{IsLesson};
 ghost use Rattle.pg_sat.specs.Solving.{IsSolving};
 
 use crate::guide::Guide;
@@ -28,6 +29,37 @@ fn clause_of(alloc: Global, lits: &[i32]) -> Result<Clause, AllocError>
     Ok(Clause::new(literals))
 }
 
+/// What a conflict leads to: a clause that is held from then on, and the place where the trail is cut.
+#[derive(Drop)]
+struct Lesson {
+    clause: Clause,
+    jump: usize,
+}
+
+/// Learns from a conflict where a literal was assigned: the step goes to the log. The error is want of memory.
+fn log_step(
+    alloc: Global,
+    cnf: &Cnf,
+    watches: &Watches,
+    steps: &mut Vec<Step>,
+    guide: &mut Guide,
+    conflict: u32,
+    last: usize,
+) -> Result<Lesson, AllocError>
+    requires solving { IsSolving cnf.now.clauses cnf.now.variables watches.now.clauses watches.now.trail steps.old.items }
+    requires conflict { IsConflict watches.now.clauses watches.now.trail.literals conflict }
+    requires last { IsLast watches.now.trail last }
+    ensures { IfOk result (λ lesson. IsLesson cnf.now.variables watches.now.clauses watches.now.trail last steps.old.items steps.new.items lesson.clause lesson.jump) }
+{
+    let _trail = watches.trail();
+    let learned = learn_at(alloc, watches, cnf.variables, conflict, last, guide)?;
+    let anew = guide.end_conflict(alloc, cnf)?;
+    let jump = cut_place(alloc, watches, cnf.variables, &learned, last, anew)?;
+    let clause = clause_of(alloc, learned.step.lits.as_slice())?;
+    steps.push(learned.step)?;
+    Ok(Lesson { clause, jump })
+}
+
 /// Learns from a conflict where a literal was assigned: the step goes to the log, the trail is cut, the clause is held, and
 /// what follows is set. The error is want of memory.
 pub fn back(
@@ -49,14 +81,10 @@ pub fn back(
     ensures steps { OnOk result (length steps.new.items ≡ length steps.old.items + 1) }
 {
     let _trail = watches.trail();
-    let learned = learn_at(alloc, watches, cnf.variables, conflict, last, guide)?;
-    let anew = guide.end_conflict(alloc, cnf)?;
-    let jump = cut_place(alloc, watches, cnf.variables, &learned, last, anew)?;
-    let clause = clause_of(alloc, learned.step.lits.as_slice())?;
-    steps.push(learned.step)?;
-    free_from(watches, jump, guide)?;
-    watches.undo(jump);
-    watches.add(&clause)?;
+    let lesson = log_step(alloc, cnf, watches, steps, guide, conflict, last)?;
+    free_from(watches, lesson.jump, guide)?;
+    watches.undo(lesson.jump);
+    watches.add(&lesson.clause)?;
     let _cut = watches.trail();
     watches.settle()
 }

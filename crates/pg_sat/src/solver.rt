@@ -1,13 +1,14 @@
 //! The solver: turns of the search until one is the last.
 
-ghost use Rattle.std.specs.Prelude.{◌<◌, ◌^◌, IfOk};
-ghost use Rattle.pg_sat.specs.Answers.{IsAnswer};
+ghost use Rattle.std.specs.Prelude.{◌≡◌, ◌<◌, ◌^◌, ℕ, ℤ, List, [], IfOk};
+ghost use Rattle.pg_sat.specs.Answers.{IsAnswer, IsEnded};
 
-use crate::answer::{Answer, StepList};
+use crate::answer::{Answer, Assignment, StepList};
 use crate::guide::Guide;
 use crate::search::start;
 use crate::turn::{Turned, turn};
 use pg_cnf::Cnf;
+use pg_proof::Step;
 use pg_watch::Watches;
 use std::alloc::{AllocError, Global};
 
@@ -18,6 +19,17 @@ pub struct Counts {
     pub conflicts: u64,
     /// How many literals were set, by propagation and by decisions.
     pub set: u64,
+}
+
+/// How a search ends.
+#[derive(Drop)]
+pub enum Ended {
+    /// This assignment makes all clauses true.
+    Satisfied(Assignment),
+    /// The last step is the empty clause.
+    Refuted,
+    /// All steps that may be learned were learned.
+    Exhausted,
 }
 
 /// Looks for an assignment that makes all clauses of a formula true, and learns at most `budget` clauses, fewer than 2^31.
@@ -45,33 +57,64 @@ pub fn solve_counted(alloc: Global, cnf: &Cnf, budget: u32) -> Result<(Answer, C
     ensures { IfOk result (λ told. IsAnswer cnf.now.clauses cnf.now.variables budget told.0) }
 {
     let mut watches = Watches::new(alloc, cnf)?;
+    search(alloc, cnf, &mut watches, budget)
+}
+
+/// Searches with watches that are new, and says what it took. The error is want of memory.
+fn search(
+    alloc: Global,
+    cnf: &Cnf,
+    watches: &mut Watches,
+    budget: u32,
+) -> Result<(Answer, Counts), AllocError>
+    requires clauses { watches.old.clauses ≡ cnf.now.clauses }
+    requires variables { watches.old.trail.variables ≡ cnf.now.variables }
+    requires reasons { watches.old.trail.reasons ≡ [] }
+    requires budget { budget < 2 ^ 31 }
+    ensures { IfOk result (λ told. IsAnswer cnf.now.clauses cnf.now.variables budget told.0) }
+{
     let mut guide = Guide::new(alloc, cnf.variables)?;
     let mut steps = Vec::new(alloc);
-    let mut fix = start(cnf, &mut watches)?;
-    'search: loop {
-        match turn(
-            alloc,
-            cnf,
-            &mut watches,
-            &mut steps,
-            &mut guide,
-            budget,
-            fix,
-        )? {
+    let ended = turns(alloc, cnf, watches, &mut steps, &mut guide, budget)?;
+    let counts = counts_of(watches, &guide, steps.len());
+    Ok((answer_of(ended, steps), counts))
+}
+
+/// Goes from turn to turn until one is the last. The error is want of memory.
+fn turns(
+    alloc: Global,
+    cnf: &Cnf,
+    watches: &mut Watches,
+    steps: &mut Vec<Step>,
+    guide: &mut Guide,
+    budget: u32,
+) -> Result<Ended, AllocError>
+    requires clauses { watches.old.clauses ≡ cnf.now.clauses }
+    requires variables { watches.old.trail.variables ≡ cnf.now.variables }
+    requires reasons { watches.old.trail.reasons ≡ [] }
+    requires steps { steps.old.items ≡ [] }
+    requires budget { budget < 2 ^ 31 }
+    ensures { IfOk result (IsEnded cnf.now.clauses cnf.now.variables budget steps.new.items) }
+{
+    let mut fix = start(cnf, watches)?;
+    'turns: loop {
+        match turn(alloc, cnf, watches, steps, guide, budget, fix)? {
             Turned::On(next) => fix = next,
-            Turned::Satisfied(assignment) => {
-                let counts = counts_of(&watches, &guide, steps.len());
-                return Ok((Answer::Sat(assignment), counts));
-            }
-            Turned::Refuted => {
-                let counts = counts_of(&watches, &guide, steps.len());
-                return Ok((Answer::Unsat(StepList::from_vec(steps)), counts));
-            }
-            Turned::Exhausted => {
-                let counts = counts_of(&watches, &guide, steps.len());
-                return Ok((Answer::Spent(StepList::from_vec(steps)), counts));
-            }
+            Turned::Satisfied(assignment) => return Ok(Ended::Satisfied(assignment)),
+            Turned::Refuted => return Ok(Ended::Refuted),
+            Turned::Exhausted => return Ok(Ended::Exhausted),
         }
+    }
+}
+
+/// The answer that the end of a search is, with the steps that were learned.
+fn answer_of(ended: Ended, steps: Vec<Step>) -> Answer
+    ensures { (question : List (List ℤ)) (variables budget : ℕ) → IsEnded question variables budget steps.items ended → IsAnswer question variables budget result }
+{
+    match ended {
+        Ended::Satisfied(assignment) => Answer::Sat(assignment),
+        Ended::Refuted => Answer::Unsat(StepList::from_vec(steps)),
+        Ended::Exhausted => Answer::Spent(StepList::from_vec(steps)),
     }
 }
 
