@@ -1,4 +1,4 @@
-use Rattle.std.proofs.Common.{length, sym}
+use Rattle.std.proofs.Common.{sym}
 use Rattle.pg_ask.proofs.AskSteps.{unknowns_width}
 use Rattle.pg_ask.proofs.CodeSteps.{end_width}
 use Rattle.pg_ask.proofs.ends.ends.Goals as goal

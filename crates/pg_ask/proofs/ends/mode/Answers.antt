@@ -36,9 +36,6 @@ or-requires-clause-left c = subst (IsThere (length c.seen_apart.new.circuit.node
 pub or-requires-clause-right : goal.or-requires-clause-right
 or-requires-clause-right c = c.in_ok-apart.ensures.there.there
 
-pub and-requires-clause-left : goal.and-requires-clause-left
-and-requires-clause-left c = there_later c.done-2.new.circuit.nodes c.or.new.circuit.nodes c.in_ok-second_done.second_done (front_then c.done-2.new.circuit.nodes c.seen_apart.new.circuit.nodes c.or.new.circuit.nodes c.in_ok-apart.ensures.there.front c.or.ensures.kept.front) c.in_ok-second_done.ensures.there.there
-
 pub and-requires-clause-right : goal.and-requires-clause-right
 and-requires-clause-right c = c.in_ok-differ.ensures.there
 

@@ -40,9 +40,6 @@ and-requires-clause-left c = subst (IsThere (length c.lt.new.circuit.nodes)) (sy
 pub and-requires-clause-right : goal.and-requires-clause-right
 and-requires-clause-right c = subst (IsThere (length c.lt.new.circuit.nodes)) (sym c.not.ensures) (there_later c.same-2.new.circuit.nodes c.lt.new.circuit.nodes c.in_ok-same_word.same_word c.lt.ensures.kept.front c.in_ok-same_word.ensures.there)
 
-pub or-requires-clause-left : goal.or-requires-clause-left
-or-requires-clause-left c = subst (IsThere (length c.and.new.circuit.nodes)) (sym c.not-2.ensures) (there_later c.same.new.circuit.nodes c.and.new.circuit.nodes c.in_ok-same_p.same_p (front_then c.same.new.circuit.nodes c.lt.new.circuit.nodes c.and.new.circuit.nodes (front_then c.same.new.circuit.nodes c.same-2.new.circuit.nodes c.lt.new.circuit.nodes c.same-2.ensures.kept.front c.lt.ensures.kept.front) c.and.ensures.kept.front) c.in_ok-same_p.ensures.there)
-
 pub or-requires-clause-right : goal.or-requires-clause-right
 or-requires-clause-right c = c.in_ok-odd.ensures.there
 
