@@ -25,7 +25,7 @@ use Rattle.pg_symex.specs.Exprs.{literal_bits, bit_0}
 use Rattle.pg_ask.specs.declared.unknowns.Unknowns.{Unknowns}
 use Rattle.pg_ask.specs.declared.ends.End.{End}
 use Rattle.pg_ask.specs.Unknowns.{other_made, unknowns_made}
-use Rattle.pg_ask.specs.There.{AreUnknowns, LeavesBits, LeavesGate}
+use Rattle.pg_ask.specs.There.{AreUnknowns, AreEnd, LeavesBits, LeavesGate}
 use Rattle.pg_ask.specs.Fits.{usable_made, size_made, alike_made, differ_made, place_made, matches_made, fits_made}
 use Rattle.pg_ask.specs.Ends.{done_made, control_made, seen_apart_made, broken_made, mode_made, either_made}
 use Rattle.pg_ask.proofs.Made.{GateIs, BitsAre}
@@ -175,6 +175,9 @@ own_bits places n xs h = record { there = h.there; wide = refl; is_width = subst
 
 pub width_bits : (places m n : ℕ) (xs : List Gate) → m ≡ n → AreBits places m xs → AreBits places n xs
 width_bits places m n xs e h = subst (λ k. AreBits places k xs) e h
+
+pub end_width : (places w m n : ℕ) (e : End) → m ≡ n → AreEnd places w m e → AreEnd places w n e
+end_width places w m n e same h = subst (λ k. AreEnd places w k e) same h
 
 pub other_as : (own o : Bool) (k a : ℕ) (old new : List Node) (same x : List Gate) → own ≡ o → k ≡ a → (x, new) ≡ other_made own k old same → (x, new) ≡ other_made o a old same
 other_as own o k a old new same x eo ek e = e ∙ ap (λ z. other_made z k old same) eo ∙ ap (λ z. other_made o z old same) ek

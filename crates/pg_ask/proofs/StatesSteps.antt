@@ -1,5 +1,6 @@
 -- The states of a question that was asked, as its fields have it.
-use Rattle.std.proofs.Common.{◌≡◌, ℕ, ◌≤◌, Bool, true, ℤ, List, length, slice_get, Some, sym, ap, ◌∙◌, subst, arith}
+use Rattle.std.proofs.Common.{◌≡◌, ℕ, ◌+◌, ◌<◌, ◌≤◌, Bool, true, ℤ, List, [], ◌∷◌, ◌++◌, length, drop, get_or, slice_get, Some, sym, ap, ◌∙◌, subst, arith, append_assoc}
+use Rattle.std.proofs.lemmas.List.{append-nil, drop_more, drop_all}
 use Rattle.std.specs.List.{All}
 use Rattle.std.proofs.lemmas.List.Elements.{All-weaker}
 use Rattle.pg_circuit.specs.declared.node.Gate.{Gate}
@@ -130,3 +131,16 @@ stands_as d k kind clauses u x usable y cells z a h all eu ey ez =
 
 pub room_as : (v w n m : ℕ) (p q : Psw) → v ≡ w → n ≡ m → p ≡ q → w ≡ window_len_of q m → v ≡ window_len_of p n
 room_as v w n m p q ev en ep h = ev ∙ h ∙ sym (λ j. window_len_of (ep j) (en j))
+
+-- the words of touched cells, cell by cell
+pub named_more : (values : List Bool) (cells : List Cell) (i : ℕ) (done all : List (ℕ × ℕ)) (at word : ℕ) (c : Cell) → i < length cells → c ≡ get_or cells i c → at ≡ number values c.address → word ≡ number values c.word →
+    all ≡ done ++ (at, word) ∷ [] → done ++ named_cells values (drop i cells) ≡ named_cells values cells → all ++ named_cells values (drop (i + 1) cells) ≡ named_cells values cells
+named_more values cells i done all at word c lt ec ea ew e h =
+    let rest : List (ℕ × ℕ) = named_cells values (drop (i + 1) cells) in
+    let here : drop i cells ≡ c ∷ drop (i + 1) cells = drop_more cells i c lt ∙ ap (λ z. z ∷ drop (i + 1) cells) (sym ec) in
+    ap (λ z. z ++ rest) e ∙ append_assoc done ((at, word) ∷ []) rest
+    ∙ ap (λ a. done ++ (a, word) ∷ rest) ea ∙ ap (λ w. done ++ (number values c.address, w) ∷ rest) ew
+    ∙ ap (λ zs. done ++ named_cells values zs) (sym here) ∙ h
+
+pub named_over : (values : List Bool) (cells : List Cell) (i : ℕ) (done : List (ℕ × ℕ)) → length cells ≤ i → done ++ named_cells values (drop i cells) ≡ named_cells values cells → done ≡ named_cells values cells
+named_over values cells i done le h = sym (append-nil done) ∙ ap (λ zs. done ++ named_cells values zs) (sym (drop_all i cells le)) ∙ h

@@ -1,10 +1,15 @@
 -- What is there stays there in later circuits.
-use Rattle.std.proofs.Common.{ℕ, List, length}
+use Rattle.std.proofs.Common.{◌≡◌, ℕ, arith, false, List, length}
+use Rattle.std.proofs.lemmas.List.Elements.{All-get_or}
 use Rattle.pg_circuit.specs.declared.node.Gate.{Gate}
 use Rattle.pg_circuit.specs.declared.node.Node.{Node}
 use Rattle.pg_circuit.specs.Grown.{GrowsTo}
 use Rattle.pg_vec.proofs.Kept.{there_later, all_there_later}
+use Rattle.pg_circuit.specs.Made.{constant_gate}
+use Rattle.pg_circuit.specs.Values.{IsThere}
+use Rattle.pg_vec.specs.There.{AreThere}
 use Rattle.pg_symex.specs.There.{AreBits}
+use Rattle.pg_symex.specs.Exprs.{bit_0}
 use Rattle.pg_ask.specs.declared.unknowns.Unknowns.{Unknowns}
 use Rattle.pg_ask.specs.declared.ends.End.{End}
 use Rattle.pg_ask.specs.There.{AreUnknowns, AreEnd}
@@ -36,3 +41,7 @@ end_on nodes later w a e g h = record {
   b = bits_on nodes later a e.b g h.b;
   word = bits_on nodes later w e.word g h.word;
 }
+
+-- the bit of a string of one
+pub bit_there : (places : ℕ) (xs : List Gate) → AreThere places xs → length xs ≡ 1 → IsThere places (bit_0 xs)
+bit_there places xs h e = All-get_or (IsThere places) xs 0 (constant_gate false) (omega (arith, e)) h

@@ -251,11 +251,59 @@ pub fn both(
     ensures there { IfOk result (λ e. AreEnds (length circuit.new.nodes) m.now.desc.word m.now.desc.address e) }
     ensures kept { OnOk result (GrowsTo circuit.old.nodes circuit.new.nodes) }
 {
-    let regs = first_regs(alloc, u, v)?;
-    let first = end_of(alloc, m, instr, circuit, touched, &regs, &u.compared)?;
-    let others = second_regs(alloc, u, v)?;
-    let second = end_of(alloc, m, instr, circuit, touched, &others, &u.compared)?;
+    let first = first_end(alloc, m, instr, circuit, touched, u, v)?;
+    let second = second_end(alloc, m, instr, circuit, touched, u, v)?;
     Ok(BothEnds { first, second })
+}
+
+/// How the run from the first state ends, over cells under no write, which it leaves so. The error is want of memory.
+fn first_end(
+    alloc: Global,
+    m: &Machine,
+    instr: usize,
+    circuit: &mut Circuit,
+    touched: &mut Touched,
+    u: &Unknowns,
+    v: &Bits,
+) -> Result<End, AllocError>
+    requires instr { instr < length m.now.desc.instrs }
+    requires view { touched.old ≡ view_for m.now.desc touched.old.cells [] }
+    requires over { IsOver circuit.old.nodes touched.old }
+    requires unknowns { AreUnknowns (length circuit.old.nodes) m.now.desc.address u.now }
+    requires usable { AreBits (length circuit.old.nodes) m.now.desc.address v.now }
+    ensures made { IfOk result (λ e. (i : Instrs) → slice_get m.now.desc.instrs instr ≡ Some i → IsEnded (end_made m.now.desc i (first_regs u.now v.now) u.now.compared circuit.old.nodes touched.old.cells) e circuit.new.nodes touched.new.cells) }
+    ensures view { OnOk result (touched.new ≡ view_for m.now.desc touched.new.cells []) }
+    ensures over { OnOk result (IsOver circuit.new.nodes touched.new) }
+    ensures there { IfOk result (λ e. AreEnd (length circuit.new.nodes) m.now.desc.word m.now.desc.address e) }
+    ensures kept { OnOk result (GrowsTo circuit.old.nodes circuit.new.nodes) }
+{
+    let regs = first_regs(alloc, u, v)?;
+    end_of(alloc, m, instr, circuit, touched, &regs, &u.compared)
+}
+
+/// How the run from the second state ends, over cells under no write, which it leaves so. The error is want of memory.
+fn second_end(
+    alloc: Global,
+    m: &Machine,
+    instr: usize,
+    circuit: &mut Circuit,
+    touched: &mut Touched,
+    u: &Unknowns,
+    v: &Bits,
+) -> Result<End, AllocError>
+    requires instr { instr < length m.now.desc.instrs }
+    requires view { touched.old ≡ view_for m.now.desc touched.old.cells [] }
+    requires over { IsOver circuit.old.nodes touched.old }
+    requires unknowns { AreUnknowns (length circuit.old.nodes) m.now.desc.address u.now }
+    requires usable { AreBits (length circuit.old.nodes) m.now.desc.address v.now }
+    ensures made { IfOk result (λ e. (i : Instrs) → slice_get m.now.desc.instrs instr ≡ Some i → IsEnded (end_made m.now.desc i (second_regs u.now v.now) u.now.compared circuit.old.nodes touched.old.cells) e circuit.new.nodes touched.new.cells) }
+    ensures view { OnOk result (touched.new ≡ view_for m.now.desc touched.new.cells []) }
+    ensures over { OnOk result (IsOver circuit.new.nodes touched.new) }
+    ensures there { IfOk result (λ e. AreEnd (length circuit.new.nodes) m.now.desc.word m.now.desc.address e) }
+    ensures kept { OnOk result (GrowsTo circuit.old.nodes circuit.new.nodes) }
+{
+    let regs = second_regs(alloc, u, v)?;
+    end_of(alloc, m, instr, circuit, touched, &regs, &u.compared)
 }
 
 /// The registers of the first state. The error is want of memory.

@@ -21,7 +21,7 @@ use pg_vec::{Bits, ops};
 use std::alloc::{AllocError, Global};
 
 /// The number of cells that are usable in both states, and whether all fits.
-#[derive(Debug, Drop)]
+#[derive(Drop)]
 pub struct Fits {
     /// How many cells are usable.
     pub usable: Bits,

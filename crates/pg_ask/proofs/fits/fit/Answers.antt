@@ -2,13 +2,32 @@ use Rattle.std.proofs.Common.{◌∙◌, true, length, refl, sym, ap, subst}
 use Rattle.pg_circuit.specs.declared.node.Gate.{Gate}
 use Rattle.pg_circuit.specs.Made.{constant_gate, and_made}
 use Rattle.pg_word.specs.declared.shape.Shape.{Shape}
-use Rattle.pg_vec.proofs.Kept.{front_then}
+use Rattle.pg_vec.proofs.Kept.{front_then, there_later}
 use Rattle.pg_symex.specs.There.{AreBits}
 use Rattle.pg_ask.specs.There.{AreUnknowns}
-use Rattle.pg_ask.proofs.ThereLaws.{bits_on, unknowns_on}
+use Rattle.pg_ask.proofs.ThereLaws.{bits_on, unknowns_on, bit_there}
 use Rattle.pg_ask.proofs.Chains.{fits_chain}
 use Rattle.pg_ask.proofs.CodeSteps.{width_bits, size_as, matches_as, fits_there}
+use Rattle.pg_circuit.specs.Values.{IsThere}
 use Rattle.pg_ask.proofs.fits.fit.Goals as goal
+
+pub size-requires-2-clause-so_far : goal.size-requires-2-clause-so_far
+size-requires-2-clause-so_far c = c.in_ok-one.ensures.there.there
+
+pub alike-requires-clause-so_far : goal.alike-requires-clause-so_far
+alike-requires-clause-so_far c = c.in_ok-two.ensures.there.there
+
+pub and-requires-clause-left : goal.and-requires-clause-left
+and-requires-clause-left c = there_later c.alike.new.circuit.nodes c.lt.new.circuit.nodes c.in_ok-equal.equal c.in_ok-inside.ensures.kept.front c.in_ok-equal.ensures.there.there
+
+pub and-requires-clause-right : goal.and-requires-clause-right
+and-requires-clause-right c = subst (IsThere (length c.lt.new.circuit.nodes)) (sym c.bit_0.ensures) (bit_there _ c.in_ok-inside.inside c.in_ok-inside.ensures.worth.there c.in_ok-inside.ensures.worth.wide)
+
+pub apart-requires-clause-so_far : goal.apart-requires-clause-so_far
+apart-requires-clause-so_far c = c.in_ok-placed.ensures.there
+
+pub matches-requires-clause-so_far : goal.matches-requires-clause-so_far
+matches-requires-clause-so_far c = c.in_ok-related.ensures.there.there
 
 pub usable-requires-clause-l : goal.usable-requires-clause-l
 usable-requires-clause-l c =
