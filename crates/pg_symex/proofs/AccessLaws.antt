@@ -41,6 +41,11 @@ use Rattle.pg_symex.proofs.WindowLaws.{loaded-first, length-written}
 pub bit_0-there : (places : ℕ) (xs : List Gate) → AreBits places 1 xs → IsThere places (bit_0 xs)
 bit_0-there places xs h = All-get_or (IsThere places) xs 0 (constant_gate false) (omega (arith, h.wide)) h.there
 
+pub bit_0-later : (before after : List Node) (xs : List Gate) → GrowsTo before after → AreBits (length before) (length xs) xs → IsThere (length after) (bit_0 xs)
+bit_0-later before after xs g h =
+    let least = h.is_width.least in
+    there_later before after (bit_0 xs) g (All-get_or (IsThere (length before)) xs 0 (constant_gate false) (omega (arith, least)) h.there)
+
 pub number-bit_0 : (values : List Bool) (xs : List Gate) → length xs ≡ 1 → number values xs ≡ bit_of (gate_value values (bit_0 xs))
 number-bit_0 values [] e = absurd (omega (arith, e))
 number-bit_0 values (x ∷ []) e = omega arith
