@@ -1,7 +1,7 @@
 -- Accesses, and loads.
-use Rattle.std.proofs.Common.{◌≡◌, ℕ, ◌^◌, ◌<◌, nat_lt, Bool, true, false, not, ◌&&◌, ◌||◌, List, [], ◌∷◌, ◌++◌, length, take, get_or, Option, None, Some, refl, sym, ap, ◌∙◌, subst, arith}
+use Rattle.std.proofs.Common.{◌≡◌, ℕ, ◌^◌, ◌<◌, nat_lt, Bool, true, false, not, ◌&&◌, ◌||◌, List, [], ◌∷◌, length, take, get_or, Option, refl, sym, ap, ◌∙◌, subst, arith}
 use Rattle.std.specs.Prelude.{if◌then◌else◌}
-use Rattle.std.proofs.lemmas.List.Elements.{All-nil, All-cons, All-head, All-tail, All-get_or}
+use Rattle.std.proofs.lemmas.List.Elements.{All-get_or}
 use Rattle.pg_circuit.specs.declared.node.Gate.{Gate}
 use Rattle.pg_circuit.specs.declared.node.Node.{Node}
 use Rattle.pg_circuit.specs.Nodes.{IsCircuit}
@@ -20,9 +20,9 @@ use Rattle.pg_vec.proofs.EachLaws.{number-below}
 use Rattle.pg_vec.proofs.OpLaws.{lt_worth}
 use Rattle.pg_cells.specs.declared.cell.Cell.{Cell}
 use Rattle.pg_cells.specs.declared.cell.Write.{Write}
-use Rattle.pg_cells.specs.Storage.{Known, Agrees, written}
-use Rattle.pg_cells.specs.Cells.{known_of, known_cells, puts_of}
-use Rattle.pg_cells.specs.Made.{touch_made, found_word, with_found, cells_after}
+use Rattle.pg_cells.specs.Storage.{Agrees, written}
+use Rattle.pg_cells.specs.Cells.{known_cells, puts_of}
+use Rattle.pg_cells.specs.Made.{touch_made, cells_after}
 use Rattle.pg_cells.proofs.TouchLaws.{touches}
 use Rattle.pg_meaning.specs.Values.{Bits, bits, Meaning, with_value, loaded}
 use Rattle.pg_symex.specs.Flow.{SymEntry, SymLets, Flow, view_of}
