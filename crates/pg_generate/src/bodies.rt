@@ -1,8 +1,8 @@
 //! The bodies of instructions.
 
 ghost use Rattle.std.specs.Prelude.{◌≡◌, [], ◌∷◌, IfOk};
-ghost use Rattle.pg_ast.specs.declared.tree.Expr.TheVariants.{Load as Loads, Bin as Binary};
-ghost use Rattle.pg_ast.specs.declared.tree.Stmt.TheVariants.{Store as Stores};
+ghost use Rattle.pg_ast.specs.declared.tree.Expr.TheVariants.{Load as Loads, Bin as Binary, Ext as Widened, Rel as Relocation};
+ghost use Rattle.pg_ast.specs.declared.tree.Stmt.TheVariants.{Store as Stores, Pc as Jumps};
 ghost use Rattle.pg_generate.specs.Bodies.{field_x, cell_y, cell_z, jumps_where_equal, traps, traps_in_user_mode, loads_register, stores_relocation, body_of};
 ghost use Rattle.pg_generate.specs.Letters.{letter_of, field_by};
 
@@ -43,11 +43,12 @@ fn named(alloc: Global, field: Field) -> Result<Expr, AllocError>
 }
 
 /// The cell at the address that a field holds.
-fn cell(alloc: Global, field: Field) -> Result<Expr, AllocError>
+fn cell(alloc: Global, field: Field) -> Result<Boxed<Expr>, AllocError>
     ensures { IfOk result (λ e. e ≡ Loads (field_by field)) }
 {
-    let address = named(alloc, field)?;
-    Ok(Expr::Load(Boxed::new(alloc, address)?))
+    let name = named(alloc, field)?;
+    let address = Boxed::new(alloc, name)?;
+    Boxed::new(alloc, Expr::Load(address))
 }
 
 /// An operator between the cells at y and z.
@@ -56,7 +57,7 @@ fn of_cells(alloc: Global, op: Op) -> Result<Expr, AllocError>
 {
     let left = cell(alloc, Field::Y)?;
     let right = cell(alloc, Field::Z)?;
-    Ok(Expr::Bin(op, Boxed::new(alloc, left)?, Boxed::new(alloc, right)?))
+    Ok(Expr::Bin(op, left, right))
 }
 
 /// A block of one statement.
@@ -77,14 +78,21 @@ fn store_of_cells(alloc: Global, op: Op) -> Result<StmtList, AllocError>
     block_of(alloc, Stmt::Store(address, value))
 }
 
+/// `pc = x;`
+fn jump(alloc: Global) -> Result<StmtList, AllocError>
+    ensures { IfOk result (λ block. block ≡ Jumps field_x ∷ []) }
+{
+    let target = named(alloc, Field::X)?;
+    block_of(alloc, Stmt::Pc(target))
+}
+
 /// `if (mem[y] == mem[z]) { pc = x; }`
 fn jump_where_equal(alloc: Global) -> Result<StmtList, AllocError>
     ensures { IfOk result (λ block. block ≡ jumps_where_equal) }
 {
     let are_equal = of_cells(alloc, Op::Eq)?;
-    let target = named(alloc, Field::X)?;
-    let jump = block_of(alloc, Stmt::Pc(target))?;
-    block_of(alloc, Stmt::If(are_equal, jump, None))
+    let held = jump(alloc)?;
+    block_of(alloc, Stmt::If(are_equal, held, None))
 }
 
 /// `trap;`
@@ -114,14 +122,22 @@ fn load_register(alloc: Global) -> Result<StmtList, AllocError>
     Ok(block)
 }
 
+/// `mem[x] = ext(rel, 32);`
+fn store_of_relocation(alloc: Global) -> Result<Stmt, AllocError>
+    ensures { IfOk result (λ stmt. stmt ≡ Stores field_x (Widened Relocation 32)) }
+{
+    let rel = Boxed::new(alloc, Expr::Rel)?;
+    let address = named(alloc, Field::X)?;
+    Ok(Stmt::Store(address, Expr::Ext(rel, 32)))
+}
+
 /// `if mode { trap; } mem[x] = ext(rel, 32);`
 fn store_relocation(alloc: Global) -> Result<StmtList, AllocError>
     ensures { IfOk result (λ block. block ≡ stores_relocation) }
 {
     let mut block = trap_in_user_mode(alloc)?;
-    let address = named(alloc, Field::X)?;
-    let rel = Boxed::new(alloc, Expr::Rel)?;
-    block.push(Stmt::Store(address, Expr::Ext(rel, 32)))?;
+    let store = store_of_relocation(alloc)?;
+    block.push(store)?;
     Ok(block)
 }
 

@@ -1,7 +1,7 @@
 -- Accesses, and loads.
-use Rattle.std.proofs.Common.{◌≡◌, ℕ, ◌^◌, ◌<◌, nat_lt, Bool, true, false, not, ◌&&◌, ◌||◌, List, [], ◌∷◌, ◌++◌, length, take, get_or, Option, None, Some, refl, sym, ap, ◌∙◌, subst, arith}
+use Rattle.std.proofs.Common.{◌≡◌, ℕ, ◌^◌, ◌<◌, nat_lt, Bool, true, false, not, ◌&&◌, ◌||◌, List, [], ◌∷◌, length, take, get_or, Option, refl, sym, ap, ◌∙◌, subst, arith}
 use Rattle.std.specs.Prelude.{if◌then◌else◌}
-use Rattle.std.proofs.lemmas.List.Elements.{All-nil, All-cons, All-head, All-tail, All-get_or}
+use Rattle.std.proofs.lemmas.List.Elements.{All-get_or}
 use Rattle.pg_circuit.specs.declared.node.Gate.{Gate}
 use Rattle.pg_circuit.specs.declared.node.Node.{Node}
 use Rattle.pg_circuit.specs.Nodes.{IsCircuit}
@@ -20,9 +20,9 @@ use Rattle.pg_vec.proofs.EachLaws.{number-below}
 use Rattle.pg_vec.proofs.OpLaws.{lt_worth}
 use Rattle.pg_cells.specs.declared.cell.Cell.{Cell}
 use Rattle.pg_cells.specs.declared.cell.Write.{Write}
-use Rattle.pg_cells.specs.Storage.{Known, Agrees, written}
-use Rattle.pg_cells.specs.Cells.{known_of, known_cells, puts_of}
-use Rattle.pg_cells.specs.Made.{touch_made, found_word, with_found, cells_after}
+use Rattle.pg_cells.specs.Storage.{Agrees, written}
+use Rattle.pg_cells.specs.Cells.{known_cells, puts_of}
+use Rattle.pg_cells.specs.Made.{touch_made, cells_after}
 use Rattle.pg_cells.proofs.TouchLaws.{touches}
 use Rattle.pg_meaning.specs.Values.{Bits, bits, Meaning, with_value, loaded}
 use Rattle.pg_symex.specs.Flow.{SymEntry, SymLets, Flow, view_of}
@@ -40,6 +40,11 @@ use Rattle.pg_symex.proofs.WindowLaws.{loaded-first, length-written}
 
 pub bit_0-there : (places : ℕ) (xs : List Gate) → AreBits places 1 xs → IsThere places (bit_0 xs)
 bit_0-there places xs h = All-get_or (IsThere places) xs 0 (constant_gate false) (omega (arith, h.wide)) h.there
+
+pub bit_0-later : (before after : List Node) (xs : List Gate) → GrowsTo before after → AreBits (length before) (length xs) xs → IsThere (length after) (bit_0 xs)
+bit_0-later before after xs g h =
+    let least = h.is_width.least in
+    there_later before after (bit_0 xs) g (All-get_or (IsThere (length before)) xs 0 (constant_gate false) (omega (arith, least)) h.there)
 
 pub number-bit_0 : (values : List Bool) (xs : List Gate) → length xs ≡ 1 → number values xs ≡ bit_of (gate_value values (bit_0 xs))
 number-bit_0 values [] e = absurd (omega (arith, e))

@@ -36,7 +36,7 @@ use Rattle.pg_symex.specs.Calls.{widths_of}
 use Rattle.pg_symex.specs.RunView.{run_as, IsUnderWay, Fares, IsDone}
 use Rattle.pg_symex.specs.Outcome.{IsOutcome, MayRun}
 use Rattle.pg_symex.specs.declared.symbolic.SymOutcome.{SymOutcome}
-use Rattle.std.specs.Prelude.{IfOk}
+use Rattle.std.specs.Prelude.{IfOk, OnOk}
 use Rattle.pg_ast.specs.declared.tree.Stmt.{Stmt}
 use Rattle.pg_symex.proofs.ExprForms.{bits-later, regs-later}
 use Rattle.pg_symex.proofs.LeafLaws.{length-literal, literal-there}
@@ -152,3 +152,17 @@ done_as at due ss body first t0 nodes t r e f h =
 pub outcome_done : {E : Type 0} (res : Result SymOutcome E) (due : SymRun) (nodes : List Node) (t : View) (q : Run) → run_as nodes t q ≡ due → IfOk res (λ o. (ns : List Node) → IsOutcome (run_as ns t q) ns t o) → IfOk res (λ o. IsOutcome due nodes t o)
 outcome_done (Ok o) due nodes t q e h = outcome_as (run_as nodes t q) due nodes t o e (h nodes)
 outcome_done (Err x) due nodes t q e h = tt
+
+-- the same of the instruction that is found
+pub outcome_found : {E : Type 0} (res : Result SymOutcome E) (d : Desc) (k : ℕ) (j : Instr) (regs : Regs) (n0 nodes : List Node) (t0 t : View) → slice_get d.instrs k ≡ Some j →
+    IfOk res (λ o. IsOutcome (run_made d j regs n0 t0.cells t0.writes) nodes t o) → IfOk res (λ o. (i : Instr) → slice_get d.instrs k ≡ Some i → IsOutcome (run_made d i regs n0 t0.cells t0.writes) nodes t o)
+outcome_found (Ok o) d k j regs n0 nodes t0 t found h = λ i at.
+    let same : j ≡ i = cc (found, at) in
+    subst (λ (z : Instr). IsOutcome (run_made d z regs n0 t0.cells t0.writes) nodes t o) same h
+outcome_found (Err x) d k j regs n0 nodes t0 t found h = tt
+
+-- of touched cells the cells and the writes alone have changed, by a touch and then a body
+pub view_done : {O E : Type 0} (res : Result O E) (due : SymRun) (nodes : List Node) (t0 t1 t : View) (cells : List Cell) (r : Run) → t1 ≡ record t0 { cells = cells } → IsDone due t1 nodes t r →
+    OnOk res (t ≡ record t0 { cells = t.cells; writes = t.writes })
+view_done (Ok o) due nodes t0 t1 t cells r e h = h.view ∙ ap (λ (v : View). let k : View = record v { cells = t.cells; writes = t.writes } in k) e
+view_done (Err x) due nodes t0 t1 t cells r e h = tt

@@ -30,6 +30,21 @@ few_adds ws k a b m most l h = record { few = λ w. let f = h.few (omega arith) 
 pub few_one : (ws : List Write) (k : ℕ) (a b c : List Node) (m n most : ℕ) → m + n ≤ most → Adds ws a b m → AddsNodes b c n → AddsFew ws k a c most
 few_one ws k a b c m n most l h g = record { few = λ w. let f = h.few (omega arith) in let e = g.few in omega arith }
 
+-- the fetch
+pub few_fetch : (ws : List Write) (k : ℕ) (a b : List Node) (m most : ℕ) → m ≤ most → (length ws ≤ 72 → length b ≤ length a + m) → AddsFew ws k a b most
+few_fetch ws k a b m most l h = record { few = λ w. let f = h (omega arith) in omega arith }
+
+-- the fetch, and then gates
+pub few_fetched : (ws : List Write) (k : ℕ) (a b c : List Node) (m n most : ℕ) → m + n ≤ most → (length ws ≤ 72 → length b ≤ length a + m) → AddsNodes b c n → AddsFew ws k a c most
+few_fetched ws k a b c m n most l h g = record { few = λ w. let f = h (omega arith) in let e = g.few in omega arith }
+
+-- what comes before a body, and the body
+pub few_run : (i : Instr) (ss : List Stmt) (ws vs : List Write) (a b c : List Node) (m : ℕ) → ss ≡ i.body → vs ≡ ws → AddsFew ws (instr_tally i).accesses a b m →
+    AddsFew vs (all_of (map stmt_tally ss)).accesses b c (stmts_cost (all_of (map stmt_tally ss))) → AddsFew ws (instr_tally i).accesses a c (m + stmts_cost (instr_tally i))
+few_run i ss ws vs a b c m same v h g =
+    let k : AddsFew vs (instr_tally i).accesses b c (stmts_cost (instr_tally i)) = subst (λ (zs : List Stmt). AddsFew vs (all_of (map stmt_tally zs)).accesses b c (stmts_cost (all_of (map stmt_tally zs)))) same g in
+    record { few = λ w. let l : length vs ≡ length ws = ap length v in let f = h.few w in let e = k.few (omega arith) in omega arith }
+
 -- ---- what statements cost
 
 most_of : (s form : Stmt) (t : Tally) (m : ℕ) → s ≡ form → stmt_tally form ≡ t → m ≤ stmts_cost t → m ≤ stmts_cost (stmt_tally s)

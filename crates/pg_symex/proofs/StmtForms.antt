@@ -17,8 +17,8 @@ use Rattle.pg_vec.proofs.EachLaws.{number-below}
 use Rattle.pg_vec.proofs.OpLaws.{mux_worth}
 use Rattle.pg_cells.specs.declared.cell.Cell.{Cell}
 use Rattle.pg_cells.specs.declared.cell.Write.{Write}
-use Rattle.pg_cells.specs.Storage.{Agrees, after_put, written}
-use Rattle.pg_cells.specs.Cells.{known_cells, put_of, puts_of}
+use Rattle.pg_cells.specs.Storage.{after_put, written}
+use Rattle.pg_cells.specs.Cells.{put_of, puts_of}
 use Rattle.pg_cells.proofs.OverLaws.{IsOver-write}
 use Rattle.pg_meaning.specs.Values.{Bits, Meaning}
 use Rattle.pg_meaning.specs.Bodies.{Course, MemTrapped, Trapped, Going, then_do, Run, store_deed}

@@ -1,4 +1,4 @@
-use Rattle.std.proofs.Common.{◌≡◌, ◌∙◌, length, refl, sym, ap, subst, rules, arith}
+use Rattle.std.proofs.Common.{◌≡◌, ◌<◌, ◌∙◌, length, refl, sym, ap, subst, rules, arith}
 use Rattle.std.specs.Prelude.{IfOk}
 use Rattle.pg_circuit.specs.declared.node.Gate.{Gate}
 use Rattle.pg_circuit.specs.declared.circuit.Circuit.{Circuit}
@@ -9,9 +9,11 @@ use Rattle.pg_symex.specs.EntryView.{entry_as}
 use Rattle.pg_symex.specs.FlowView.{flow_as}
 use Rattle.pg_symex.specs.There.{AreBits}
 use Rattle.pg_symex.specs.Exprs.{literal_bits, name_bits, bit_0, op_made}
+use Rattle.pg_vec.proofs.Kept.{front_then, all_there_later}
 use Rattle.pg_symex.proofs.MadeEquations as mades
+use Rattle.pg_symex.proofs.AccessLaws.{bit_0-later}
 use Rattle.pg_symex.proofs.Typing.{part, part-load, part-not, part-bin_left, part-bin_right, part-cat_left, part-cat_right, part-cut, part-ext, part-sext, part-sel_test, part-sel_left, part-sel_right}
-use Rattle.pg_symex.proofs.ExprSteps.{cost-not, cost-load, cost-bin, cost-cat, cost-cut, cost-ext, cost-sext, cost-sel, one_first, one_last, two_first, two_second, two_last, two_end, three_first, three_second, load_second, load_last, sel_last, writes_same, leaf_made, made_one, made_two, made_three, made_load, value_is, width_as, address_width, op_widths, cat_most, cut_range, ext_range, sext_range, sel_widths, lit_range, name_width, touch_over, sel_third}
+use Rattle.pg_symex.proofs.ExprSteps.{adds_none, cost-not, cost-load, cost-bin, cost-cat, cost-cut, cost-ext, cost-sext, cost-sel, one_first, one_last, two_first, two_second, two_last, two_end, three_first, three_second, load_second, load_last, sel_last, writes_same, leaf_made, made_one, made_two, made_three, made_load, value_is, width_as, address_width, op_widths, cat_most, cut_range, ext_range, sext_range, sel_widths, lit_range, name_width, touch_over, sel_third}
 use Rattle.pg_symex.proofs.exprs.+exprs.Goals as goal
 
 pub load-expr-requires : goal.load-expr-requires
@@ -296,3 +298,39 @@ expr-returns-in-Sext-clause-value t c =
 pub expr-returns-in-Sel-clause-value : goal.expr-returns-in-Sel-clause-value
 expr-returns-in-Sel-clause-value t c =
     value_is (entry_as c.args.at.now) c.args.lets.now c.args.e.now (Sel c.in-Sel.test c.in-Sel.x c.in-Sel.y) c.args.c.now.nodes c.sel.new.c.nodes c.args.t.now c.sel.new.t c.args.g.now c.sel.new.g c.sel.result c.in-Sel.is c.requires.ready c.requires.typed c.sel.ensures.made
+
+pub bin-operate-requires-clause-left : goal.bin-operate-requires-clause-left
+bin-operate-requires-clause-left t c = all_there_later _ _ c.in_ok-left.left c.in_ok-right.ensures.value.front c.in_ok-left.ensures.value.are_bits.there
+
+pub cat-cat-requires-clause-left : goal.cat-cat-requires-clause-left
+cat-cat-requires-clause-left t c = all_there_later _ _ c.in_ok-left.left c.in_ok-right.ensures.value.front c.in_ok-left.ensures.value.are_bits.there
+
+pub load-touch-requires-clause-there : goal.load-touch-requires-clause-there
+load-touch-requires-clause-there t c = all_there_later _ _ c.in_ok-address.address c.access.ensures.kept.front c.in_ok-address.ensures.value.are_bits.there
+
+pub sel-mux-requires-clause-choice : goal.sel-mux-requires-clause-choice
+sel-mux-requires-clause-choice t c = subst (λ (g : Gate). g.number < length c.expr-3.new.c.nodes) (sym c.bit_0.ensures) (bit_0-later _ _ c.in_ok-choice.choice (front_then _ _ _ c.in_ok-left.ensures.value.front c.in_ok-right.ensures.value.front) c.in_ok-choice.ensures.value.are_bits)
+
+pub sel-mux-requires-clause-left : goal.sel-mux-requires-clause-left
+sel-mux-requires-clause-left t c = all_there_later _ _ c.in_ok-left.left c.in_ok-right.ensures.value.front c.in_ok-left.ensures.value.are_bits.there
+
+pub sel-mux-requires-clause-right : goal.sel-mux-requires-clause-right
+sel-mux-requires-clause-right t c = c.in_ok-right.ensures.value.are_bits.there
+
+pub expr-returns-in-Lit-clause-kept : goal.expr-returns-in-Lit-clause-kept
+expr-returns-in-Lit-clause-kept t c = adds_none _ _ _
+
+pub expr-returns-in-Name-clause-kept : goal.expr-returns-in-Name-clause-kept
+expr-returns-in-Name-clause-kept t c = adds_none _ _ _
+
+pub expr-returns-in-Pc-clause-kept : goal.expr-returns-in-Pc-clause-kept
+expr-returns-in-Pc-clause-kept t c = adds_none _ _ _
+
+pub expr-returns-in-Mode-clause-kept : goal.expr-returns-in-Mode-clause-kept
+expr-returns-in-Mode-clause-kept t c = adds_none _ _ _
+
+pub expr-returns-in-Rel-clause-kept : goal.expr-returns-in-Rel-clause-kept
+expr-returns-in-Rel-clause-kept t c = adds_none _ _ _
+
+pub expr-returns-in-Bound-clause-kept : goal.expr-returns-in-Bound-clause-kept
+expr-returns-in-Bound-clause-kept t c = adds_none _ _ _

@@ -1,5 +1,6 @@
-use Rattle.std.proofs.Common.{◌∷◌, ◌+◌, ◌-◌, ◌^◌, ◌∙◌, drop, length, refl, sym, ap, rules, arith}
+use Rattle.std.proofs.Common.{◌∷◌, ◌<◌, ◌+◌, ◌-◌, ◌^◌, ◌∙◌, drop, length, refl, sym, ap, subst, rules, arith}
 use Rattle.std.proofs.lemmas.List.{drop_more, drop_all}
+use Rattle.pg_circuit.specs.declared.node.Gate.{Gate}
 use Rattle.pg_ast.specs.declared.tree.Stmt.TheVariants.{Let, Pc, Mode, Rel, Bound}
 use Rattle.pg_vec.proofs.Kept.{front_same, front_then, there_later}
 use Rattle.pg_symex.specs.EntryView.{entry_as}
@@ -264,3 +265,39 @@ in_order-returns-in_err-stmt-clause-few t c =
     let s = c.s-item.result in
     let here = drop_more ss i s c.loop-s-test.true ∙ ap (λ x. x ∷ drop (i + 1) ss) (sym c.s-item.is) in
     way_stops (entry_as c.args.at.now) ss _ s _ c.args.c.now.nodes c.loop-s.c.nodes c.stmt.new.c.nodes c.args.t.now c.loop-s.t c.args.run.now c.loop-s.run here c.loop-s.invariant c.stmt.ensures.few
+
+pub arms-and-requires-2-clause-left : goal.arms-and-requires-2-clause-left
+arms-and-requires-2-clause-left t c = there_later _ _ c.args.run.now.guards.live c.and.ensures.kept.front c.requires.ready.run.flow.live
+
+pub arms-and-requires-2-clause-right : goal.arms-and-requires-2-clause-right
+arms-and-requires-2-clause-right t c = subst (λ (g : Gate). g.number < length c.and.new.circuit.nodes) (sym c.not-not_test.ensures) (there_later _ _ c.args.test c.and.ensures.kept.front c.requires.test)
+
+pub arms-returns-in_err-second-clause-kept : goal.arms-returns-in_err-second-clause-kept
+arms-returns-in_err-second-clause-kept t c = front_then _ _ _ c.and.ensures.kept.front c.and-2.ensures.kept.front
+
+pub arms-returns-in_err-block-clause-kept : goal.arms-returns-in_err-block-clause-kept
+arms-returns-in_err-block-clause-kept t c = front_then _ _ _ (front_then _ _ _ c.and.ensures.kept.front c.and-2.ensures.kept.front) c.block.ensures.kept
+
+pub arms-returns-in_err-otherwise-clause-kept : goal.arms-returns-in_err-otherwise-clause-kept
+arms-returns-in_err-otherwise-clause-kept t c = front_then _ _ _ (front_then _ _ _ (front_then _ _ _ c.and.ensures.kept.front c.and-2.ensures.kept.front) c.block.ensures.kept) c.otherwise.ensures.kept
+
+pub arms-returns-in_err-live-clause-kept : goal.arms-returns-in_err-live-clause-kept
+arms-returns-in_err-live-clause-kept t c = front_then _ _ _ (front_then _ _ _ (front_then _ _ _ (front_then _ _ _ c.and.ensures.kept.front c.and-2.ensures.kept.front) c.block.ensures.kept) c.otherwise.ensures.kept) c.or.ensures.kept.front
+
+pub arms-returns-clause-kept : goal.arms-returns-clause-kept
+arms-returns-clause-kept t c = front_then _ _ _ (front_then _ _ _ (front_then _ _ _ (front_then _ _ _ c.and.ensures.kept.front c.and-2.ensures.kept.front) c.block.ensures.kept) c.otherwise.ensures.kept) c.or.ensures.kept.front
+
+pub stmt-returns-in_err-value-in-Store-clause-kept : goal.stmt-returns-in_err-value-in-Store-clause-kept
+stmt-returns-in_err-value-in-Store-clause-kept t c = front_then _ _ _ c.take-in-Store.ensures.kept.front c.take-in-Store-2.ensures.kept.front
+
+pub stmt-assign-requires-clause-bits : goal.stmt-assign-requires-clause-bits
+stmt-assign-requires-clause-bits t c = c.in_ok-bits-in-Pc.ensures.taken.value.are_bits.there
+
+pub stmt-assign-requires-in-Mode-clause-bits : goal.stmt-assign-requires-in-Mode-clause-bits
+stmt-assign-requires-in-Mode-clause-bits t c = c.in_ok-bits-in-Mode.ensures.taken.value.are_bits.there
+
+pub stmt-assign-requires-in-Rel-clause-bits : goal.stmt-assign-requires-in-Rel-clause-bits
+stmt-assign-requires-in-Rel-clause-bits t c = c.in_ok-bits-in-Rel.ensures.taken.value.are_bits.there
+
+pub stmt-assign-requires-in-Bound-clause-bits : goal.stmt-assign-requires-in-Bound-clause-bits
+stmt-assign-requires-in-Bound-clause-bits t c = c.in_ok-bits-in-Bound.ensures.taken.value.are_bits.there
