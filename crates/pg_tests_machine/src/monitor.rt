@@ -174,6 +174,7 @@ fn a_burst_ends_with_a_trap_of_the_guest(rt: HostRuntime) -> Result<(), Fail> {
     let none = monitor.burst_told(&mut hw, 0, 0);
     assert!(rt; none == told(0, false));
     assert!(rt; hw.counts() == counts(0, 17, 0));
+    assert_eq!(rt; monitor.len(), 2);
     // Every step traps, so that a burst of five turns ends with its first.
     let one = monitor.burst_told(&mut hw, 0, 5);
     assert!(rt; one == told(1, true));
