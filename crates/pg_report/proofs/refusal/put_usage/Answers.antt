@@ -1,4 +1,4 @@
-use Rattle.std.proofs.Common.{◌≡◌, ◌+◌, ◌++◌, ◌∙◌, ◌<◌, ◌≤◌, [], ap, arith, drop, length}
+use Rattle.std.proofs.Common.{◌+◌, ◌++◌, ◌∙◌, ◌<◌, ◌≤◌, [], ap, arith, drop, length}
 use Rattle.std.proofs.lemmas.Result.{err_from_is_err_and}
 use Rattle.pg_asked.proofs.UsageLaws.{usage_all, usage_line, usage_none}
 use Rattle.pg_asked.specs.Commands.{usages}
