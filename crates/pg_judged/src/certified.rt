@@ -16,8 +16,8 @@ ghost use Rattle.pg_steps.specs.Answering.{Comes, OnlyReads};
 ghost use Rattle.pg_judged.specs.Certificates.{CertDue, cause_number, told_of_verifying};
 ghost use Rattle.pg_judged.specs.Parts.{HoldsUpTo, IsStopOf, most_part};
 
-use pg_cert::{Family, Report};
 use pg_asked::FileName;
+use pg_cert::{Family, Report};
 use pg_edge::{LoadFault, Shelf};
 use pg_machine::Machine;
 use pg_report::{CertificateLine, RefusalLine};

@@ -9,8 +9,8 @@ ghost use Rattle.pg_steps.specs.Answering.{Comes, OnlyReads};
 
 use crate::certified::load_certificate;
 use crate::machine::JudgedMachine;
-use pg_cert::Family;
 use pg_asked::FileName;
+use pg_cert::Family;
 use pg_edge::Shelf;
 use pg_inputs::load_machine;
 use pg_steps::Stop;

@@ -24,9 +24,9 @@ ghost use Rattle.pg_valid.specs.Valid.{IsValid};
 
 pub mod laws;
 
+use pg_asked::{Fault, Request};
 use pg_cert::Family;
 pub use pg_classify::{Silent, Watcher};
-use pg_asked::{Fault, Request};
 use pg_command::request;
 use pg_edge::{Shelf, Sink};
 use pg_hw::Hardware;

@@ -22,9 +22,9 @@ ghost use Rattle.pg_type.specs.Accepting.{IsAccepted};
 
 mod plan;
 
+use pg_asked::GenWords;
 use pg_cert::Family;
 use pg_classify::Watcher;
-use pg_asked::GenWords;
 use pg_edge::{Failed, Shelf, Sink};
 use pg_generate::generate;
 use pg_guests::{Ran, run_guests};

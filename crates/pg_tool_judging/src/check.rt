@@ -13,9 +13,9 @@ ghost use Rattle.pg_tool_judging.specs.Check.{IsChecked, CheckDue, check_command
 
 use crate::saving::save_and_tell;
 use crate::written::WrittenCert;
+use pg_asked::CheckWords;
 use pg_cert::{Family, report_of, write};
 use pg_classify::{Watcher, classify_watched};
-use pg_asked::CheckWords;
 use pg_edge::{Shelf, Sink};
 use pg_hw::Hardware;
 use pg_inputs::load_machine;

@@ -17,8 +17,8 @@ ghost use Rattle.pg_tool_judging.specs.Views.{written};
 
 use crate::saving::save_and_tell;
 use crate::written::WrittenCert;
-use pg_cert::write;
 use pg_asked::{FileName, MigrateWords};
+use pg_cert::write;
 use pg_edge::{Shelf, Sink};
 use pg_hw::Hardware;
 use pg_inputs::load_machine;

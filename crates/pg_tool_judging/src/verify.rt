@@ -8,8 +8,8 @@ ghost use Rattle.pg_steps.specs.Commands.{Carries};
 ghost use Rattle.pg_steps.specs.World.{Keeps, around};
 ghost use Rattle.pg_tool_judging.specs.Verify.{verify_command};
 
-use pg_cert::Family;
 use pg_asked::VerifyWords;
+use pg_cert::Family;
 use pg_edge::{Shelf, Sink};
 use pg_hw::Hardware;
 use pg_judged::{load_judged, tell_verdict};

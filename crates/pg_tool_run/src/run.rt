@@ -21,8 +21,8 @@ mod plan;
 
 use crate::files::GuestFiles;
 use crate::loading::load_guests;
-use pg_cert::Family;
 use pg_asked::RunWords;
+use pg_cert::Family;
 use pg_edge::{Shelf, Sink};
 use pg_guests::run_guests;
 use pg_hw::Hardware;
