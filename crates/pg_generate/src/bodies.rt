@@ -1,6 +1,6 @@
 //! The bodies of instructions.
 
-ghost use Rattle.std.specs.Prelude.{◌≡◌, [], ◌∷◌, IfOk};
+ghost use Rattle.std.specs.Prelude.{◌≡◌, [], ◌∷◌, ◌++◌, IfOk};
 ghost use Rattle.pg_ast.specs.declared.tree.Expr.TheVariants.{Load as Loads, Bin as Binary, Ext as Widened, Rel as Relocation};
 ghost use Rattle.pg_ast.specs.declared.tree.Stmt.TheVariants.{Store as Stores, Pc as Jumps};
 ghost use Rattle.pg_generate.specs.Bodies.{field_x, cell_y, cell_z, jumps_where_equal, traps, traps_in_user_mode, loads_register, stores_relocation, body_of};
@@ -60,13 +60,20 @@ fn of_cells(alloc: Global, op: Op) -> Result<Expr, AllocError>
     Ok(Expr::Bin(op, left, right))
 }
 
+/// A block with one more statement at its end.
+fn with_last(block: StmtList, stmt: Stmt) -> Result<StmtList, AllocError>
+    ensures { IfOk result (λ longer. longer ≡ block ++ stmt ∷ []) }
+{
+    let mut longer = block;
+    longer.push(stmt)?;
+    Ok(longer)
+}
+
 /// A block of one statement.
 fn block_of(alloc: Global, stmt: Stmt) -> Result<StmtList, AllocError>
     ensures { IfOk result (λ block. block ≡ stmt ∷ []) }
 {
-    let mut block = Items::new(alloc);
-    block.push(stmt)?;
-    Ok(block)
+    with_last(Items::new(alloc), stmt)
 }
 
 /// `mem[x] = (mem[y] OP mem[z]);`
@@ -114,12 +121,11 @@ fn trap_in_user_mode(alloc: Global) -> Result<StmtList, AllocError>
 fn load_register(alloc: Global) -> Result<StmtList, AllocError>
     ensures { IfOk result (λ block. block ≡ loads_register) }
 {
-    let mut block = trap_in_user_mode(alloc)?;
+    let block = trap_in_user_mode(alloc)?;
     let rel = named(alloc, Field::X)?;
-    block.push(Stmt::Rel(rel))?;
+    let longer = with_last(block, Stmt::Rel(rel))?;
     let bound = named(alloc, Field::Y)?;
-    block.push(Stmt::Bound(bound))?;
-    Ok(block)
+    with_last(longer, Stmt::Bound(bound))
 }
 
 /// `mem[x] = ext(rel, 32);`
@@ -135,10 +141,9 @@ fn store_of_relocation(alloc: Global) -> Result<Stmt, AllocError>
 fn store_relocation(alloc: Global) -> Result<StmtList, AllocError>
     ensures { IfOk result (λ block. block ≡ stores_relocation) }
 {
-    let mut block = trap_in_user_mode(alloc)?;
+    let block = trap_in_user_mode(alloc)?;
     let store = store_of_relocation(alloc)?;
-    block.push(store)?;
-    Ok(block)
+    with_last(block, store)
 }
 
 /// The body of this number, from 0 to 5.
