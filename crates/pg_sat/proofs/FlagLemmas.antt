@@ -1,6 +1,6 @@
 -- Flags of the literals that are wanted.
-use Rattle.std.proofs.Common.{SFits, w32, zero, suc, ◌≡◌, ◌≢◌, ◌⊎◌, inl, inr, ℕ, ◌+◌, ◌*◌, ◌^◌, ◌<◌, Bool, true, false, ◌||◌, List, length, set, refl, sym, ap, subst, ◌∙◌, arith, ℤ, pos, negsuc, neg_ℤ}
-use Rattle.std.proofs.lemmas.List.{length-set, get_or-set_same, get_or-set_other}
+use Rattle.std.proofs.Common.{SFits, w32, zero, suc, ◌≡◌, ◌≢◌, ◌⊎◌, inl, inr, ℕ, ◌+◌, ◌*◌, ◌^◌, ◌<◌, Bool, true, false, ◌||◌, List, length, drop, set, refl, sym, ap, subst, ◌∙◌, arith, ℤ, pos, negsuc, neg_ℤ}
+use Rattle.std.proofs.lemmas.List.{length-set, get_or-set_same, get_or-set_other, drop_more}
 use Rattle.std.proofs.lemmas.Int.{ints}
 use Rattle.pg_proof.specs.Places.{has, place, is_marked, IsWithin, AreWithin}
 use Rattle.pg_proof.specs.Marked.{marked}
@@ -15,6 +15,10 @@ IsWithin-neg n z h = record {
   nonzero = subst (λ (k : ℕ). 0 < k) (sym (nat_abs-neg z)) h.nonzero;
   within = subst (λ (k : ℕ). 2 * k + 1 < n) (sym (nat_abs-neg z)) h.within;
 }
+
+-- the literals of a clause, one after another
+pub within_next : (n : ℕ) (zs : List ℤ) (i : ℕ) → i < length zs → AreWithin n (drop i zs) → AreWithin n (drop (i + 1) zs)
+within_next n zs i lt h = (subst (λ (ys : List ℤ). AreWithin n ys) (drop_more zs i (pos 0) lt) h).1
 
 -- one flag taken down
 unmarked-same : (flags : List Bool) (z : ℤ) → place z < length flags → is_marked (set flags (place z) false) z ≡ false
