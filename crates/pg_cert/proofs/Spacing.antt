@@ -1,8 +1,8 @@
 -- The text of parts, from left to right.
-use Rattle.std.proofs.Common.{◌≡◌, ℕ, ◌/◌, ℤ, List, [], ◌∷◌, ◌++◌, map, sym, ap, ◌∙◌, refl, append_assoc}
+use Rattle.std.proofs.Common.{◌≡◌, ℕ, ◌+◌, ◌<◌, ◌/◌, ℤ, List, [], ◌∷◌, ◌++◌, length, get_or, drop, map, sym, ap, ◌∙◌, refl, append_assoc}
 use Rattle.std.specs.List.{join_with_byte}
 use Rattle.std.specs.Fmt.{decimal, signed_decimal}
-use Rattle.std.proofs.lemmas.List.{append-nil}
+use Rattle.std.proofs.lemmas.List.{append-nil, drop_more}
 use Rattle.pg_text.specs.Printing.{hex_text}
 use Rattle.pg_type.specs.declared.kind.Kind.{Kind}
 use Rattle.pg_cert.specs.declared.line.Found.{Found}
@@ -20,6 +20,14 @@ join_spaced part (next ∷ parts) = ap (λ s. part ++ 32 ∷ s) (join_spaced nex
 
 pub parts_spaced : (part : List ℕ) (parts : List (List ℕ)) → parts_text (part ∷ parts) ≡ part ++ spaced parts ++ 10 ∷ []
 parts_spaced part parts = ap (λ s. s ++ 10 ∷ []) (join_spaced part parts)
+
+-- one part more of those that are put, each with its space
+pub spaced_more : {A : Type 0} (f : A → List ℕ) (xs : List A) (i : ℕ) (d : A) (old new due : List ℕ) → i < length xs → new ≡ old ++ 32 ∷ f (get_or xs i d) → old ++ spaced (map f (drop i xs)) ≡ due →
+    new ++ spaced (map f (drop (i + 1) xs)) ≡ due
+unfolding spaced
+spaced_more f xs i d old new due lt e h =
+    ap (λ z. z ++ spaced (map f (drop (i + 1) xs))) e ∙ append_assoc old (32 ∷ f (get_or xs i d)) (spaced (map f (drop (i + 1) xs)))
+    ∙ ap (λ z. old ++ spaced (map f z)) (sym (drop_more xs i d lt)) ∙ h
 
 -- the parts in front of LF, put one after another
 module _ (old : List ℕ) where

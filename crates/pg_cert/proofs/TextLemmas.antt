@@ -1,7 +1,7 @@
 -- Lines, one after another.
-use Rattle.std.proofs.Common.{◌≡◌, ℕ, suc, ◌+◌, ◌/◌, ◌<◌, ◌≤◌, List, [], ◌∷◌, ◌++◌, length, get_or, drop, Some, refl, sym, ap, ◌∙◌, append_assoc, arith, drop-cons}
+use Rattle.std.proofs.Common.{◌≡◌, ℕ, suc, ◌+◌, ◌/◌, ◌<◌, ◌≤◌, List, [], ◌∷◌, ◌++◌, map, length, get_or, drop, Some, refl, sym, ap, ◌∙◌, append_assoc, arith, drop-cons}
 use Rattle.std.specs.Prelude.{slice_get}
-use Rattle.std.proofs.lemmas.List.{append-nil, drop-drop, drop_all, length-drop, get_or-drop}
+use Rattle.std.proofs.lemmas.List.{append-nil, drop-drop, drop_more, drop_all, length-drop, get_or-drop}
 use Rattle.std.proofs.lemmas.List.Elements.{All-drop}
 use Rattle.std.proofs.lemmas.Option.{get_or_from_slice_get}
 use Rattle.pg_word.specs.declared.shape.Shape.{Shape}
@@ -31,6 +31,14 @@ lines_text-append shape (x ∷ xs) ys =
 pub put_two : (shape : Shape) (old now : List ℕ) (xs ys : List Line) → now ≡ (old ++ lines_text shape xs) ++ lines_text shape ys → now ≡ old ++ lines_text shape (xs ++ ys)
 put_two shape old now xs ys h =
     h ∙ append_assoc old (lines_text shape xs) (lines_text shape ys) ∙ ap (λ t. old ++ t) (sym (lines_text-append shape xs ys))
+
+-- one line more of those that are put
+pub lines_more : {A : Type 0} (shape : Shape) (f : A → Line) (xs : List A) (i : ℕ) (d : A) (old new due : List ℕ) → i < length xs → new ≡ old ++ line_text shape (f (get_or xs i d)) → old ++ lines_text shape (map f (drop i xs)) ≡ due →
+    new ++ lines_text shape (map f (drop (i + 1) xs)) ≡ due
+unfolding lines_text
+lines_more shape f xs i d old new due lt e h =
+    ap (λ z. z ++ lines_text shape (map f (drop (i + 1) xs))) e ∙ append_assoc old (line_text shape (f (get_or xs i d))) (lines_text shape (map f (drop (i + 1) xs)))
+    ∙ ap (λ z. old ++ lines_text shape (map f z)) (sym (drop_more xs i d lt)) ∙ h
 
 -- ---- rows
 
