@@ -27,8 +27,7 @@ pub struct Setting {
     alloc: Global,
     shelf: MemShelf,
     out: MemSink,
-    /// The hardware.
-    pub hw: Rig,
+    hw: Rig,
     /// How the command ended.
     pub status: Status,
 }
@@ -135,21 +134,45 @@ impl Setting {
         true
     }
 
-    /// Whether the hardware is as it was made.
-    pub fn is_fresh(&self) -> bool {
-        self.hw.size() == 0 && self.hw.counts() == Counts::none()
+    /// How many cells the hardware has.
+    pub fn size(&self) -> u32 {
+        self.hw.size()
     }
 
-    /// The last command ended so, with this text.
+    /// What a cell of the hardware holds; nothing where there is none.
+    pub fn cell(&self, at: u32) -> Option<u64> {
+        if at < self.hw.size() {
+            Some(self.hw.peek(at))
+        } else {
+            None
+        }
+    }
+
+    /// What was done on the hardware.
+    pub fn counts(&self) -> Counts {
+        self.hw.counts()
+    }
+
+    /// Whether the hardware is as it was made.
+    pub fn is_fresh(&self) -> bool {
+        self.size() == 0 && self.counts() == Counts::none()
+    }
+
+    /// Whether the command ended so, with this text.
+    pub fn is(&self, status: Status, text: &str) -> bool {
+        self.status == status && self.text() == text
+    }
+
+    /// The last command, which this line was, ended so and put this text.
     ///
     /// # Errors
     /// Where it did not, with what came instead.
-    pub fn is(&self, status: Status, text: &str) -> Result<(), Fail> {
-        if self.status == status && self.text() == text {
+    pub fn came_to(&self, line: &str, status: Status, text: &str) -> Result<(), Fail> {
+        if self.is(status, text) {
             return Ok(());
         }
         Err(Fail::new(format_args!(
-            "{:?} {:?}, and not {status:?} {text:?}",
+            "{line}: {:?} {:?}, and not {status:?} {text:?}",
             self.status,
             self.text()
         )))
@@ -161,7 +184,7 @@ impl Setting {
     /// Where it does not, with what came instead; and where there is no memory.
     pub fn expect(&mut self, line: &str, status: Status, text: &str) -> Result<(), Fail> {
         self.run(line)?;
-        self.is(status, text)
+        self.came_to(line, status, text)
     }
 
     /// The same of a line that leaves the hardware as it was made.
@@ -197,12 +220,14 @@ fn file_of(alloc: Global, name: &str, bytes: &[u8]) -> Result<(String, Vec<u8>),
     Ok((name, bytes.to_vec(alloc)?))
 }
 
-/// The words of a line, behind the program's name.
+/// The words of a line, behind the program's name; of an empty line there are none.
 fn words_of(alloc: Global, line: &str) -> Result<Vec<String>, AllocError> {
     let mut words = Vec::new(alloc);
     words.push(String::from_str(alloc, "pgv")?)?;
     for word in line.split(' ') {
-        words.push(String::from_str(alloc, word)?)?;
+        if !word.is_empty() {
+            words.push(String::from_str(alloc, word)?)?;
+        }
     }
     Ok(words)
 }
