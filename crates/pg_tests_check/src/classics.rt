@@ -1,7 +1,7 @@
 //! The instructions that broke the virtualisation of machines of history, each with a mended form behind it: what is found of
 //! them was worked out by hand. `examples/` has them with other instructions beside.
 
-use crate::rows::expect;
+use crate::rows::expect_all;
 use pg_tool::Status;
 use std::test::Fail;
 
@@ -89,7 +89,7 @@ fn classics_break_virtualisation(rt: HostRuntime) -> Result<(), Fail> {
             Status::Refused,
         ),
     ];
-    expect(&rt, rt.alloc(), &rows)
+    expect_all(rt.alloc(), &rows)
 }
 
 #[test]
@@ -129,5 +129,5 @@ popc privileged no control no mode no location no bound no\naccepted\n",
             Status::Done,
         ),
     ];
-    expect(&rt, rt.alloc(), &rows)
+    expect_all(rt.alloc(), &rows)
 }

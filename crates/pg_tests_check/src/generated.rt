@@ -1,10 +1,8 @@
 //! `gen`: inputs of a number, whose runs were reckoned apart from the program, and what is left where a call fails.
 
-use crate::setting::{Ran, files, run, verify};
-use pg_edge::MemShelf;
-use pg_hw::Hardware;
+use crate::setting::setting;
+use pg_setting::Setting;
 use pg_tool::Status;
-use std::alloc::Global;
 use std::test::Fail;
 
 /// The description of number 2 with one instruction.
@@ -12,10 +10,9 @@ const TRAPS: &str =
     "machine { word 32; address 8; size 128; } instr g0 \"00000001xxxxxxxxyyyyyyyyzzzzzzzz\" { trap; }";
 
 /// Numbers, how many instructions there are, and what is written.
-const RUNS: [(&str, &str, &str); 4] = [
+const RUNS: [(&str, &str); 4] = [
     (
-        "0",
-        "1",
+        "gen 0 1 --cert c",
         "instructions 1
 accepted
 steps 4000 direct 0
@@ -26,8 +23,7 @@ guest 3 psw s 2 0 30 sum 1d617e6f
 ",
     ),
     (
-        "2",
-        "1",
+        "gen 2 1 --cert c",
         "instructions 1
 accepted
 steps 4000 direct 0
@@ -38,8 +34,7 @@ guest 3 psw s 2 0 30 sum 1d7afbae
 ",
     ),
     (
-        "1",
-        "3",
+        "gen 1 3 --cert c",
         "instructions 3
 accepted
 steps 4000 direct 834
@@ -50,8 +45,7 @@ guest 3 psw s 2 0 30 sum 4367bf1a
 ",
     ),
     (
-        "7",
-        "20",
+        "gen 7 20 --cert c",
         "instructions 20
 accepted
 steps 4000 direct 1071
@@ -63,82 +57,47 @@ guest 3 psw s 2 0 30 sum 07e9fb27
     ),
 ];
 
-/// Makes an input, and saves its certificate under `c`.
-fn generate(
-    alloc: Global,
-    shelf: &mut MemShelf,
-    number: &str,
-    count: &str,
-    failing: Vec<(u64, usize)>,
-) -> Result<Ran, Fail> {
-    run(
-        alloc,
-        &["pgv", "gen", number, count, "--cert", "c"],
-        shelf,
-        failing,
-    )
-}
-
-/// A list of one call that fails, after so many bytes.
-fn one(alloc: Global, call: u64, taken: usize) -> Result<Vec<(u64, usize)>, Fail> {
-    let mut calls = Vec::new(alloc);
-    calls.push((call, taken))?;
-    Ok(calls)
-}
-
 #[test]
 fn guests_of_a_number_end_as_reckoned(rt: HostRuntime) -> Result<(), Fail> {
-    let alloc = rt.alloc();
-    for (number, count, text) in RUNS {
-        let mut shelf = files(alloc, "", Vec::new(alloc))?;
-        let ran = generate(alloc, &mut shelf, number, count, Vec::new(alloc))?;
-        assert_eq!(rt; ran.text.as_str(), text);
-        assert!(rt; ran.status == Status::Done);
+    let mut at = setting(rt.alloc(), "", "")?;
+    for (line, text) in RUNS {
+        at.expect(line, Status::Done, text)?;
     }
     Ok(())
 }
 
 #[test]
 fn a_number_gives_the_same_bytes_again(rt: HostRuntime) -> Result<(), Fail> {
-    let alloc = rt.alloc();
-    let mut once = files(alloc, TRAPS, Vec::new(alloc))?;
-    let mut again = files(alloc, TRAPS, Vec::new(alloc))?;
-    for (number, count) in [("7", "20"), ("2", "1")] {
-        let first = generate(alloc, &mut once, number, count, Vec::new(alloc))?;
-        let second = generate(alloc, &mut again, number, count, Vec::new(alloc))?;
-        assert!(rt; first.text.as_str() == second.text.as_str());
-        assert!(rt; once.file("c") == again.file("c"));
+    let mut once = setting(rt.alloc(), TRAPS, "")?;
+    let mut again = setting(rt.alloc(), TRAPS, "")?;
+    for line in ["gen 7 20 --cert c", "gen 2 1 --cert c"] {
+        once.run(line)?;
+        again.expect(line, once.status, once.text())?;
+        assert!(rt; once.held() == again.held());
     }
-    let verdict = verify(alloc, &mut once)?;
-    assert!(rt;
-        verdict.text.as_str()
-            == "g0 privileged no control no mode no location no bound no\naccepted\n"
-    );
-    assert!(rt; verdict.status == Status::Done);
-    Ok(())
+    let verdict = "g0 privileged no control no mode no location no bound no\naccepted\n";
+    once.expect("verify d c", Status::Done, verdict)
 }
 
 #[test]
 fn a_save_that_fails_leaves_the_hardware(rt: HostRuntime) -> Result<(), Fail> {
-    let alloc = rt.alloc();
-    let mut shelf = files(alloc, "", one(alloc, 1, 3)?)?;
-    let ran = generate(alloc, &mut shelf, "2", "1", Vec::new(alloc))?;
-    assert!(rt; ran.status == Status::WriteFault);
-    assert_eq!(rt; ran.text.as_str(), "");
-    assert!(rt; shelf.file("c") == Some(b"pgc".as_slice()));
-    assert!(rt; ran.hw.size() == 0 && ran.hw.counts().steps == 0);
+    let mut at = Setting::failing(rt.alloc(), &[], &[], &[(1, 3)])?;
+    at.expect_untouched("gen 2 1 --cert c", Status::WriteFault, "")?;
+    assert!(rt; at.held() == b"pgc".as_slice());
     Ok(())
 }
 
 #[test]
 fn a_put_that_fails_behind_the_run_leaves_a_front(rt: HostRuntime) -> Result<(), Fail> {
-    let alloc = rt.alloc();
-    let mut shelf = files(alloc, TRAPS, Vec::new(alloc))?;
-    let ran = generate(alloc, &mut shelf, "2", "1", one(alloc, 2, 2)?)?;
-    assert!(rt; ran.status == Status::WriteFault);
-    assert_eq!(rt; ran.text.as_str(), "instructions 1\nac");
-    assert!(rt; ran.hw.size() == 128 && ran.hw.counts().steps == 4000);
-    let verdict = verify(alloc, &mut shelf)?;
-    assert!(rt; verdict.status == Status::Done);
+    let mut at = setting(rt.alloc(), TRAPS, "")?;
+    at.run_failing("gen 2 1 --cert c", &[(2, 2)])?;
+    assert!(rt;
+        at.is(Status::WriteFault, "instructions 1\nac"),
+        "{}",
+        at.text()
+    );
+    assert!(rt; at.size() == 128 && at.counts().steps == 4000);
+    at.run("verify d c")?;
+    assert!(rt; at.status == Status::Done);
     Ok(())
 }

@@ -1,17 +1,10 @@
 //! Descriptions, with what is found of each.
 
-use crate::setting::{HEAD, check, files, hcheck, is_taken_as_hybrid, run, verify};
+use crate::setting::{CHECK, is_taken_as_hybrid, setting};
+use pg_samples::{HALF, HEAD, M0, M0_WITH_CAUSES, RTU};
 use pg_tool::Status;
-use std::alloc::Global;
-use std::process::Abort;
+use std::alloc::{AllocError, Global};
 use std::test::Fail;
-
-/// The four instructions of the smallest machine that a monitor can run.
-const M0: &str = "instr add \"00000001_xxxxxxxx_yyyyyyyy_zzzzzzzz\" { mem[x] = (mem[y] + mem[z]); }
-instr jmp \"00000010_................_aaaaaaaa\" { pc = a; }
-instr svc \"00000011_........................\" { trap; }
-instr lr \"00000100_........_llllllll_bbbbbbbb\" { if mode { trap; } rel = l; bound = b; }
-";
 
 const M0_FOUND: &str = "add privileged no control no mode no location no bound no
 jmp privileged no control no mode no location no bound no
@@ -19,49 +12,45 @@ svc privileged no control no mode no location no bound no
 lr privileged yes control yes mode no location no bound no
 ";
 
-const HALF: &str =
-    "instr half \"00000111_.......k_xxxxxxxx_yyyyyyyy\" { if (mode & k) { trap; } mem[x] = mem[y]; }\n";
-
-/// It enters user mode, in either mode.
-const RTU: &str = "instr rtu \"00000101_................_aaaaaaaa\" { mode = 1:1; pc = a; }\n";
-
-/// A description behind the head, or the body of an instruction, and what is found of it: the whole text where it is accepted,
-/// and else its first lines.
+/// A description or what stands behind the head, and what is found of it: the whole text where it is accepted, and else its first
+/// lines.
 pub type Row<'a> = (&'a str, &'a str, Status);
+
+/// A description: what is none by itself stands behind the head.
+fn described(alloc: Global, text: &str) -> Result<String, AllocError> {
+    let head = if text.starts_with("machine") {
+        ""
+    } else {
+        HEAD
+    };
+    format!(in alloc; "{head}{text}")
+}
 
 /// What is written begins as the row says; `verify` of what was saved, and `migrate` of it, write the same; and the states that
 /// it shows are replayed.
-fn expect_of(rt: &impl Abort, alloc: Global, desc: &str, row: &Row<'_>) -> Result<(), Fail> {
-    let mut shelf = files(alloc, desc, Vec::new(alloc))?;
-    let checked = check(alloc, &mut shelf, "20000")?;
-    let text = checked.text.as_str();
-    assert!(rt; text.starts_with(row.1), "{} {}", row.0, text);
-    assert!(rt; checked.status == row.2, "{}", row.0);
-    let commands: [&[&str]; 3] = [
-        &["pgv", "verify", "d", "c"],
-        &["pgv", "migrate", "d", "c", "n"],
-        &["pgv", "verify", "d", "n"],
-    ];
-    for words in commands {
-        let again = run(alloc, words, &mut shelf, Vec::new(alloc))?;
-        assert!(rt; again.text.as_str() == text, "{words:?} {}", row.0);
-        assert!(rt; again.status == checked.status, "{words:?} {}", row.0);
+fn expect(alloc: Global, row: Row<'_>) -> Result<(), Fail> {
+    let (desc, found, status) = row;
+    let mut at = setting(alloc, &described(alloc, desc)?, "")?;
+    at.run(CHECK)?;
+    let told = String::from_str(alloc, at.text())?;
+    if !told.starts_with(found) {
+        return Err(Fail::new(format_args!("{found:?} is no front of {told:?}")));
     }
-    let replayed = run(
-        alloc,
-        &["pgv", "replay", "d", "c"],
-        &mut shelf,
-        Vec::new(alloc),
-    )?;
-    assert!(rt; replayed.status == Status::Done, "{}", row.0);
+    at.came_to(CHECK, status, &told)?;
+    for line in ["verify d c", "migrate d c n", "verify d n"] {
+        at.expect(line, status, &told)?;
+    }
+    at.run("replay d c")?;
+    if at.status != Status::Done {
+        return Err(Fail::new(format_args!("the states are replayed of {desc}")));
+    }
     Ok(())
 }
 
-/// The same of instructions behind the head.
-pub fn expect(rt: &impl Abort, alloc: Global, rows: &[Row<'_>]) -> Result<(), Fail> {
+/// The same of each row.
+pub fn expect_all(alloc: Global, rows: &[Row<'_>]) -> Result<(), Fail> {
     for row in rows {
-        let desc = format!(in alloc; "{HEAD}{}", row.0)?;
-        expect_of(rt, alloc, desc.as_str(), row)?;
+        expect(alloc, *row)?;
     }
     Ok(())
 }
@@ -84,12 +73,11 @@ fn machines_are_found_to_be_what_they_are(rt: HostRuntime) -> Result<(), Fail> {
             Status::Refused,
         ),
     ];
-    expect(&rt, alloc, &rows)
+    expect_all(alloc, &rows)
 }
 
 #[test]
 fn bodies_are_found_to_be_what_they_are(rt: HostRuntime) -> Result<(), Fail> {
-    let alloc = rt.alloc();
     let rows = [
         (
             "mem[a] = ext(mode, 32);",
@@ -122,21 +110,35 @@ fn bodies_are_found_to_be_what_they_are(rt: HostRuntime) -> Result<(), Fail> {
             Status::Refused,
         ),
     ];
-    for row in &rows {
-        let desc = format!(in alloc;
-            "{HEAD}instr i \"00000110_................_aaaaaaaa\" {{ {} }}\n",
-            row.0
+    for (body, found, status) in rows {
+        let instr = format!(in rt.alloc();
+            "instr i \"00000110_................_aaaaaaaa\" {{ {body} }}\n"
         )?;
-        expect_of(&rt, alloc, desc.as_str(), row)?;
+        expect(rt.alloc(), (instr.as_str(), found, status))?;
     }
     Ok(())
 }
 
 /// What is found of the kinds of Theorem 3: a verifier of theirs takes what was saved, and one of the kinds of Theorem 1 does
 /// not.
+fn expect_hybrid(alloc: Global, row: Row<'_>) -> Result<(), Fail> {
+    let (text, found, status) = row;
+    let desc = described(alloc, text)?;
+    let mut at = setting(alloc, &desc, "")?;
+    at.run("hcheck d --cert c")?;
+    let is_found = at.status == status && at.text().starts_with(found);
+    if !is_found || !is_taken_as_hybrid(alloc, &desc, at.held())? {
+        return Err(Fail::new(format_args!("{text}: {}", at.text())));
+    }
+    at.expect(
+        "verify d c",
+        Status::Certificate,
+        "certificate: grammar 1\n",
+    )
+}
+
 #[test]
 fn at_user_states_other_kinds_count(rt: HostRuntime) -> Result<(), Fail> {
-    let alloc = rt.alloc();
     let rows = [
         ("", "accepted\n", Status::Done),
         (
@@ -160,21 +162,8 @@ fn at_user_states_other_kinds_count(rt: HostRuntime) -> Result<(), Fail> {
             Status::Refused,
         ),
     ];
-    for row in &rows {
-        let desc = format!(in alloc; "{HEAD}{}", row.0)?;
-        let mut shelf = files(alloc, desc.as_str(), Vec::new(alloc))?;
-        let checked = hcheck(alloc, &mut shelf)?;
-        let text = checked.text.as_str();
-        assert!(rt; text.starts_with(row.1), "{} {}", row.0, text);
-        assert!(rt; checked.status == row.2, "{}", row.0);
-        assert!(rt;
-            is_taken_as_hybrid(alloc, desc.as_str(), &shelf)?,
-            "{}",
-            row.0
-        );
-        let plain = verify(alloc, &mut shelf)?;
-        assert_eq!(rt; plain.text.as_str(), "certificate: grammar 1\n");
-        assert!(rt; plain.status == Status::Certificate);
+    for row in rows {
+        expect_hybrid(rt.alloc(), row)?;
     }
     Ok(())
 }
@@ -182,7 +171,6 @@ fn at_user_states_other_kinds_count(rt: HostRuntime) -> Result<(), Fail> {
 /// How the steps from shown states end.
 #[test]
 fn steps_from_shown_states_are_told(rt: HostRuntime) -> Result<(), Fail> {
-    let alloc = rt.alloc();
     let rows = [
         (
             "instr svc \"00000011_........................\" { trap; }\n",
@@ -196,14 +184,12 @@ fn steps_from_shown_states_are_told(rt: HostRuntime) -> Result<(), Fail> {
         ),
         (RTU, "rtu privileged\nsize ", "\nstep done\n"),
     ];
-    for row in &rows {
-        let desc = format!(in alloc; "{HEAD}{}", row.0)?;
-        let mut shelf = files(alloc, desc.as_str(), Vec::new(alloc))?;
-        check(alloc, &mut shelf, "20000")?;
-        let words = ["pgv", "replay", "d", "c"];
-        let ran = run(alloc, &words, &mut shelf, Vec::new(alloc))?;
-        let text = ran.text.as_str();
-        assert!(rt; text.starts_with(row.1) && text.contains(row.2), "{text}");
+    for (text, front, step) in rows {
+        let mut at = setting(rt.alloc(), &described(rt.alloc(), text)?, "")?;
+        at.run(CHECK)?;
+        at.run("replay d c")?;
+        let told = at.text();
+        assert!(rt; told.starts_with(front) && told.contains(step), "{told}");
     }
     Ok(())
 }
@@ -211,16 +197,11 @@ fn steps_from_shown_states_are_told(rt: HostRuntime) -> Result<(), Fail> {
 /// Where a trap stores its cause the questions are the same, so that the certificate is.
 #[test]
 fn causes_leave_the_certificate_as_it_is(rt: HostRuntime) -> Result<(), Fail> {
-    let alloc = rt.alloc();
-    let plain = format!(in alloc; "{HEAD}{M0}")?;
-    let mut shelf = files(alloc, plain.as_str(), Vec::new(alloc))?;
-    check(alloc, &mut shelf, "20000")?;
-    let with_causes = format!(in alloc;
-        "machine {{ word 32; address 8; size 64; causes on; }}\n{M0}"
-    )?;
-    let mut other = files(alloc, with_causes.as_str(), Vec::new(alloc))?;
-    let checked = check(alloc, &mut other, "20000")?;
-    assert!(rt; checked.status == Status::Done);
-    assert!(rt; shelf.file("c") == other.file("c"));
+    let mut plain = setting(rt.alloc(), M0, "")?;
+    plain.run(CHECK)?;
+    let mut with_causes = setting(rt.alloc(), M0_WITH_CAUSES, "")?;
+    with_causes.run(CHECK)?;
+    assert!(rt; with_causes.status == Status::Done);
+    assert!(rt; plain.held() == with_causes.held());
     Ok(())
 }

@@ -3,37 +3,11 @@
 //! Each place of a certificate that `check` saved is changed in turn. A line is left out, a log is given out for two states, a
 //! literal is negated, a hint is one larger. What is left is refused, or says what the certificate says.
 
-use crate::setting::{HEAD, Ran, check, files, files_with, verify};
+use crate::setting::{CHECK, setting};
+use pg_samples::{IDLE, OPEN, RTU};
 use pg_tool::Status;
 use std::alloc::Global;
-use std::process::Abort;
 use std::test::Fail;
-
-/// An instruction that does nothing: its machine is accepted.
-const IDLE: &str = "machine{word 16;address 4;size 8;}instr h\"0000............\"{}";
-
-/// It enters user mode, in either mode: its machine is refused.
-const RTU: &str = "instr rtu \"00000101_................_aaaaaaaa\" { mode = 1:1; pc = a; }\n";
-
-/// What may be said of it where the budget is one step, which has literals.
-const OPEN: &str = "pgcert 2
-finding rtu privileged spent 1
-s 26 74 76 0 6 11 0
-finding rtu control shown
-size 4
-psw s 2 0 4
-0: 00000000 00000000 05000000 00000000
-size 4
-psw s 2 0 4
-0: 00000000 00000000 05000000 00000000
-finding rtu mode refuted
-s 0 1 949 0
-finding rtu location refuted
-s 0 1 1387 0
-finding rtu bound refuted
-s 0 1 1447 0
-end
-";
 
 /// Where a word of a line stands.
 #[derive(Clone, Copy)]
@@ -121,82 +95,77 @@ fn tampered(alloc: Global, cert: &str, line: usize, word: usize) -> Result<Optio
 }
 
 /// A certificate of a description, and what `verify` says of it.
-#[derive(Drop)]
+#[derive(Clone, Copy)]
 struct Whole<'a> {
     desc: &'a str,
     cert: &'a str,
-    told: Ran,
+    status: Status,
+    told: &'a str,
+}
+
+/// Whether a text is refused. One that is not says what the certificate says.
+fn is_refused(alloc: Global, whole: Whole<'_>, text: &str) -> Result<bool, Fail> {
+    let line = "verify d c";
+    let mut at = setting(alloc, whole.desc, text)?;
+    at.run(line)?;
+    if at.status == Status::Certificate && at.text().starts_with("certificate: ") {
+        return Ok(true);
+    }
+    at.came_to(line, whole.status, whole.told)?;
+    Ok(false)
 }
 
 /// Each change of a line leaves a text that is refused, or that says what the certificate says. How many are refused.
-fn expect_of_line(
-    rt: &impl Abort,
+fn refused_of_line(
     alloc: Global,
-    whole: &Whole<'_>,
+    whole: Whole<'_>,
     line: usize,
     words: usize,
 ) -> Result<usize, Fail> {
     let mut count = 0usize;
     for word in 0..words {
-        let Some(text) = tampered(alloc, whole.cert, line, word)? else {
-            continue;
-        };
-        let mut shelf = files_with(alloc, whole.desc, text.as_str(), Vec::new(alloc))?;
-        let ran = verify(alloc, &mut shelf)?;
-        if ran.status == Status::Certificate {
-            assert!(rt;
-                ran.text.as_str().starts_with("certificate: "),
-                "{line} {word} {}",
-                ran.text
-            );
-            count = count.wrapping_add(1);
-        } else {
-            assert!(rt; ran.status == whole.told.status, "{line} {word}");
-            assert_eq!(rt; ran.text.as_str(), whole.told.text.as_str());
+        if let Some(text) = tampered(alloc, whole.cert, line, word)? {
+            count = count.wrapping_add(usize::from(is_refused(alloc, whole, &text)?));
         }
     }
     Ok(count)
 }
 
 /// The same of all lines of a certificate, for which `verify` ends with this status. Some changes are refused.
-fn expect(
-    rt: &impl Abort,
-    alloc: Global,
-    desc: &str,
-    cert: &str,
-    status: Status,
-) -> Result<(), Fail> {
-    let mut shelf = files_with(alloc, desc, cert, Vec::new(alloc))?;
-    let told = verify(alloc, &mut shelf)?;
-    assert!(rt; told.status == status);
-    let whole = Whole { desc, cert, told };
+fn expect(alloc: Global, desc: &str, cert: &str, status: Status) -> Result<(), Fail> {
+    let mut at = setting(alloc, desc, cert)?;
+    at.run("verify d c")?;
+    let told = String::from_str(alloc, at.text())?;
+    at.came_to("verify d c", status, &told)?;
+    let whole = Whole {
+        desc,
+        cert,
+        status,
+        told: &told,
+    };
     let mut count = 0usize;
     for (line, words) in cert.split('\n').enumerate() {
-        let refused = expect_of_line(rt, alloc, &whole, line, words.len())?;
-        count = count.wrapping_add(refused);
+        count = count.wrapping_add(refused_of_line(alloc, whole, line, words.len())?);
     }
-    assert!(rt; count > 20, "{count}");
+    if count <= 20 {
+        return Err(Fail::new(format_args!("{count} are refused")));
+    }
     Ok(())
 }
 
 /// The same of the certificate that `check` saves.
-fn expect_saved(rt: &impl Abort, alloc: Global, desc: &str, status: Status) -> Result<(), Fail> {
-    let mut shelf = files(alloc, desc, Vec::new(alloc))?;
-    check(alloc, &mut shelf, "20000")?;
-    let Some(bytes) = shelf.file("c") else {
-        return Err("it is saved".into());
-    };
-    match str::from_utf8(bytes) {
-        Ok(cert) => expect(rt, alloc, desc, cert, status),
+fn expect_saved(alloc: Global, desc: &str, status: Status) -> Result<(), Fail> {
+    let mut at = setting(alloc, desc, "")?;
+    at.run(CHECK)?;
+    match str::from_utf8(at.held()) {
+        Ok(cert) => expect(alloc, desc, cert, status),
         Err(_) => Err("it is text".into()),
     }
 }
 
 #[test]
 fn no_changed_certificate_is_taken_for_another(rt: HostRuntime) -> Result<(), Fail> {
-    let alloc = rt.alloc();
-    expect_saved(&rt, alloc, IDLE, Status::Done)?;
-    let desc = format!(in alloc; "{HEAD}{RTU}")?;
-    expect_saved(&rt, alloc, desc.as_str(), Status::Refused)?;
-    expect(&rt, alloc, desc.as_str(), OPEN, Status::Unsettled)
+    expect_saved(rt.alloc(), IDLE, Status::Done)?;
+    expect_saved(rt.alloc(), RTU, Status::Refused)?;
+    expect(rt.alloc(), RTU, OPEN, Status::Unsettled)
 }

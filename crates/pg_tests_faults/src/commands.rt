@@ -2,146 +2,48 @@
 
 use pg_tool::Status;
 
-/// A command on the files.
-pub(crate) struct Row {
-    /// The words behind the program's name.
-    pub(crate) line: &'static str,
-    /// How it ends.
-    pub(crate) status: Status,
-    /// How many calls of the shelf read.
-    pub(crate) reads: u64,
-    /// Whether it saves, by one call behind these, which it does under `c`.
-    pub(crate) saves: bool,
-}
+/// A command on the files: the words behind the program's name, how it ends, how many calls of the shelf read, and whether it
+/// saves, by one call behind these, which it does under `c`.
+pub(crate) type Row = (&'static str, Status, u64, bool);
 
 /// The descriptions and images are loaded, each by one call, and so is a certificate that is made anew. Of a certificate that
 /// is verified the size is asked first, and the last part of it is empty.
 pub(crate) const ROWS: [Row; 21] = [
-    Row {
-        line: "bare m0 stay --grant 8 --steps 2",
-        status: Status::Done,
-        reads: 2,
-        saves: false,
-    },
-    Row {
-        line: "bare m0 zeros --grant 8 --steps 2",
-        status: Status::Done,
-        reads: 2,
-        saves: false,
-    },
-    Row {
-        line: "check none --cert c",
-        status: Status::Done,
-        reads: 1,
-        saves: true,
-    },
-    Row {
-        line: "check one --cert c",
-        status: Status::Done,
-        reads: 1,
-        saves: true,
-    },
-    Row {
-        line: "hcheck none --cert c",
-        status: Status::Done,
-        reads: 1,
-        saves: true,
-    },
-    Row {
-        line: "hcheck one --cert c",
-        status: Status::Done,
-        reads: 1,
-        saves: true,
-    },
-    Row {
-        line: "verify none end",
-        status: Status::Done,
-        reads: 4,
-        saves: false,
-    },
-    Row {
-        line: "verify rtu open",
-        status: Status::Unsettled,
-        reads: 4,
-        saves: false,
-    },
-    Row {
-        line: "replay rtu open",
-        status: Status::Done,
-        reads: 4,
-        saves: false,
-    },
-    Row {
-        line: "run none end zeros zeros --grant 3 --steps 1",
-        status: Status::Done,
-        reads: 6,
-        saves: false,
-    },
-    Row {
-        line: "run rtu open zeros --grant 8 --steps 1",
-        status: Status::Unsettled,
-        reads: 5,
-        saves: false,
-    },
-    Row {
-        line: "print m0",
-        status: Status::Done,
-        reads: 1,
-        saves: false,
-    },
-    Row {
-        line: "gen 2 1 --cert c",
-        status: Status::Done,
-        reads: 0,
-        saves: true,
-    },
-    Row {
-        line: "migrate none end c",
-        status: Status::Done,
-        reads: 2,
-        saves: true,
-    },
-    Row {
-        line: "migrate rtu open c",
-        status: Status::Unsettled,
-        reads: 2,
-        saves: true,
-    },
+    ("bare m0 stay --grant 8 --steps 2", Status::Done, 2, false),
+    ("bare m0 zeros --grant 8 --steps 2", Status::Done, 2, false),
+    ("check none --cert c", Status::Done, 1, true),
+    ("check one --cert c", Status::Done, 1, true),
+    ("hcheck none --cert c", Status::Done, 1, true),
+    ("hcheck one --cert c", Status::Done, 1, true),
+    ("verify none end", Status::Done, 4, false),
+    ("verify rtu open", Status::Unsettled, 4, false),
+    ("replay rtu open", Status::Done, 4, false),
+    (
+        "run none end zeros zeros --grant 3 --steps 1",
+        Status::Done,
+        6,
+        false,
+    ),
+    (
+        "run rtu open zeros --grant 8 --steps 1",
+        Status::Unsettled,
+        5,
+        false,
+    ),
+    ("print m0", Status::Done, 1, false),
+    ("gen 2 1 --cert c", Status::Done, 0, true),
+    ("migrate none end c", Status::Done, 2, true),
+    ("migrate rtu open c", Status::Unsettled, 2, true),
     // Refusals: their lines are put as other texts are.
-    Row {
-        line: "bare",
-        status: Status::Words,
-        reads: 0,
-        saves: false,
-    },
-    Row {
-        line: "print zeros",
-        status: Status::Description,
-        reads: 1,
-        saves: false,
-    },
-    Row {
-        line: "bare m0 m0 --grant 8 --steps 1",
-        status: Status::Image,
-        reads: 2,
-        saves: false,
-    },
-    Row {
-        line: "verify m0 end",
-        status: Status::Certificate,
-        reads: 3,
-        saves: false,
-    },
-    Row {
-        line: "run none end zeros --grant 7 --steps 1",
-        status: Status::Room,
-        reads: 1,
-        saves: false,
-    },
-    Row {
-        line: "print nothing",
-        status: Status::Missing,
-        reads: 1,
-        saves: false,
-    },
+    ("bare", Status::Words, 0, false),
+    ("print zeros", Status::Description, 1, false),
+    ("bare m0 m0 --grant 8 --steps 1", Status::Image, 2, false),
+    ("verify m0 end", Status::Certificate, 3, false),
+    (
+        "run none end zeros --grant 7 --steps 1",
+        Status::Room,
+        1,
+        false,
+    ),
+    ("print nothing", Status::Missing, 1, false),
 ];

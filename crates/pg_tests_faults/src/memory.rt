@@ -6,22 +6,19 @@
 
 use crate::commands::ROWS;
 use crate::puts::GUESTS;
-use crate::setting::{HELD, Left, NO_CALL, counts, held_by, others_are_kept, run};
+use crate::setting::{FILES, HELD, are_alike, run};
+use pg_setting::Setting;
 use pg_tool::Status;
 use std::alloc::Global;
 use std::process::Abort;
 use std::test::Fail;
 
-/// Where memory was refused no step was done, nothing was put, but by `replay`, and `c` is as it was or saved whole.
-fn stopped_early(rt: &impl Abort, line: &str, held: &[u8], left: &Left, whole: &Left) {
-    assert!(rt; counts(&left.hw).0 == 0, "{line}");
-    assert!(rt;
-        left.text.is_empty() || line.starts_with("replay "),
-        "{line}"
-    );
-    assert!(rt; whole.text.starts_with(left.text.as_str()), "{line}");
-    let saved = held_by(&left.shelf);
-    assert!(rt; saved == held || saved == held_by(&whole.shelf), "{line}");
+/// Whether a command to which memory was refused did no step, put nothing, but by `replay`, and left `c` as it was or saved whole.
+fn stopped_early(line: &str, held: &[u8], left: &Setting, whole: &Setting) -> bool {
+    left.counts().steps == 0
+        && (left.text().is_empty() || line.starts_with("replay "))
+        && whole.text().starts_with(left.text())
+        && (left.held() == held || left.held() == whole.held())
 }
 
 /// Two runs of a line come to the same, but where memory was refused to the one.
@@ -32,35 +29,28 @@ fn ends_either_way(
     held: &[u8],
     status: Status,
 ) -> Result<(), Fail> {
-    let (one, other) = (
-        run(alloc, line, held, NO_CALL)?,
-        run(alloc, line, held, NO_CALL)?,
-    );
+    let one = run(alloc, line, held)?;
+    let other = run(alloc, line, held)?;
     let (left, whole) = match one.status {
-        Status::Memory => (one, other),
-        _ => (other, one),
+        Status::Memory => (&one, &other),
+        _ => (&other, &one),
     };
     assert!(rt; whole.status == status, "{line}");
-    assert!(rt;
-        others_are_kept(&left.shelf) && others_are_kept(&whole.shelf),
-        "{line}"
-    );
-    if left.status == Status::Memory {
-        stopped_early(rt, line, held, &left, &whole);
-        return Ok(());
-    }
-    assert!(rt; left.status == status, "{line}");
-    assert_eq!(rt; left.text.as_str(), whole.text.as_str(), "{line}");
-    assert!(rt; counts(&left.hw) == counts(&whole.hw), "{line}");
-    assert!(rt; held_by(&left.shelf) == held_by(&whole.shelf), "{line}");
+    assert!(rt; left.keeps(&FILES) && whole.keeps(&FILES), "{line}");
+    let is_right = if left.status == Status::Memory {
+        stopped_early(line, held, left, whole)
+    } else {
+        are_alike(left, whole)
+    };
+    assert!(rt; is_right, "{line}");
     Ok(())
 }
 
 /// The rows of a command end either way.
 fn rows_end_either_way(rt: &(impl AllocGlobal + Abort), command: &str) -> Result<(), Fail> {
-    for row in &ROWS {
-        if row.line.split(' ').next() == Some(command) {
-            ends_either_way(rt, rt.alloc(), row.line, HELD, row.status)?;
+    for (line, status, _, _) in ROWS {
+        if line.split(' ').next() == Some(command) {
+            ends_either_way(rt, rt.alloc(), line, HELD, status)?;
         }
     }
     Ok(())
@@ -118,10 +108,9 @@ fn check_of_four(rt: HostRuntime) -> Result<(), Fail> {
 
 #[test]
 fn run_of_two_guests(rt: HostRuntime) -> Result<(), Fail> {
-    let checked = run(rt.alloc(), "check m0 --cert c", HELD, NO_CALL)?;
+    let checked = run(rt.alloc(), "check m0 --cert c", HELD)?;
     if checked.status == Status::Memory {
         return Ok(());
     }
-    let held = held_by(&checked.shelf);
-    ends_either_way(&rt, rt.alloc(), GUESTS, held, Status::Done)
+    ends_either_way(&rt, rt.alloc(), GUESTS, checked.held(), Status::Done)
 }

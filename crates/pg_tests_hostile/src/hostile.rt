@@ -3,14 +3,9 @@
 use crate::pairs::{expect, is_at};
 use crate::setting::{accepted, machine};
 use pg_hw::Hardware;
+use pg_samples::{EDGES, LOOP};
 use pg_word::{Mode, Psw};
 use std::test::Fail;
-
-/// A loop, of which every step is direct, with its data behind it.
-const LOOP: &str = "2: 01000404 02000002 00000003\n";
-
-/// Where a window of a guest of 8 cells may begin, and how long it may be: none, one, all but one, all, one past it, and far past.
-const EDGES: [&str; 6] = ["00", "01", "07", "08", "09", "ff"];
 
 const HOSTILE: [&str; 12] = [
     // It makes of its next instruction one that loads a register past its grant.

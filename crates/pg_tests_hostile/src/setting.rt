@@ -10,18 +10,11 @@ use pg_image::{Image, read_image};
 use pg_machine::{Machine, check};
 use pg_read::read_desc;
 use pg_rig::{Rig, bare, power_on};
+use pg_samples::M0;
 use pg_type::Accepted;
 use pg_word::Psw;
 use std::alloc::Global;
 use std::test::Fail;
-
-/// The four instructions of the smallest machine that a monitor can run.
-const M0: &str = "machine { word 32; address 8; size 64; }
-instr add \"00000001_xxxxxxxx_yyyyyyyy_zzzzzzzz\" { mem[x] = (mem[y] + mem[z]); }
-instr jmp \"00000010_................_aaaaaaaa\" { pc = a; }
-instr svc \"00000011_........................\" { trap; }
-instr lr \"00000100_........_llllllll_bbbbbbbb\" { if mode { trap; } rel = l; bound = b; }
-";
 
 /// How many cells a guest has.
 pub(crate) const CELLS: u32 = 8;

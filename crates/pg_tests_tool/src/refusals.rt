@@ -1,360 +1,205 @@
 //! Each refusal of a description and of an image, with the line that it has, and the edges between them.
 
-use crate::setting::{bare, is_fresh, run, run_bytes};
+use crate::judged::{HEAD, INSTR, SHOW, ZEROS, refuses, refuses_all, refuses_images, repeated};
+use pg_samples::M0;
+use pg_setting::Setting;
 use pg_tool::Status;
-use std::alloc::Global;
-use std::process::Abort;
 use std::test::Fail;
-
-/// A head of 39 bytes and a space: what stands behind it begins at 40.
-const HEAD: &str = "machine { word 16; address 4; size 8; } ";
-
-/// An instruction up to its body: what stands behind both begins at 69.
-const INSTR: &str = "instr h \"0000............\" { ";
-
-/// The description is refused with this line, and the hardware is untouched.
-fn refuses(
-    rt: &(impl AllocGlobal + Abort),
-    alloc: Global,
-    desc: &str,
-    line: &str,
-) -> Result<(), Fail> {
-    let ran = bare(alloc, desc, "", "8", "0")?;
-    assert_eq!(rt; ran.text.as_str(), line, "of {desc:?}");
-    assert!(rt; ran.status == Status::Description);
-    assert!(rt; is_fresh(&ran.hw));
-    Ok(())
-}
-
-/// The same of a description with the head above.
-fn refuses_behind_head(
-    rt: &(impl AllocGlobal + Abort),
-    alloc: Global,
-    rest: &str,
-    line: &str,
-) -> Result<(), Fail> {
-    let mut desc = String::from_str(alloc, HEAD)?;
-    desc.push_str(rest)?;
-    refuses(rt, alloc, &desc, line)
-}
-
-/// The same of a description with one instruction, of which these are the body and what stands behind.
-fn refuses_in_body(
-    rt: &(impl AllocGlobal + Abort),
-    alloc: Global,
-    body: &str,
-    line: &str,
-) -> Result<(), Fail> {
-    let mut desc = String::from_str(alloc, HEAD)?;
-    desc.push_str(INSTR)?;
-    desc.push_str(body)?;
-    refuses(rt, alloc, &desc, line)
-}
 
 #[test]
 fn texts_that_end_too_early(rt: HostRuntime) -> Result<(), Fail> {
-    let cases = [
-        ("", "description: grammar 0\n"),
-        ("# a", "description: grammar 3\n"),
-        ("# a\n", "description: grammar 4\n"),
-        ("\r\n", "description: grammar 2\n"),
-        (
-            "machine { word 16; # and so on\n",
-            "description: grammar 31\n",
-        ),
+    let whole = [
+        ("", "grammar 0"),
+        ("# a", "grammar 3"),
+        ("# a\n", "grammar 4"),
+        ("\r\n", "grammar 2"),
+        ("machine { word 16; # and so on\n", "grammar 31"),
     ];
-    for (desc, line) in cases {
-        refuses(&rt, rt.alloc(), desc, line)?;
-    }
-    refuses_behind_head(&rt, rt.alloc(), "instr", "description: grammar 45\n")?;
-    refuses_behind_head(
-        &rt,
-        rt.alloc(),
-        "instr h \"0000............\"",
-        "description: grammar 66\n",
-    )?;
-    refuses_in_body(&rt, rt.alloc(), "pc = 0:4;", "description: grammar 78\n")?;
-    Ok(())
+    let behind_head = [
+        ("instr", "grammar 45"),
+        ("instr h \"0000............\"", "grammar 66"),
+    ];
+    refuses_all(rt.alloc(), "", &whole)?;
+    refuses_all(rt.alloc(), HEAD, &behind_head)?;
+    refuses(rt.alloc(), INSTR, "pc = 0:4;", "grammar 78")
 }
 
 #[test]
 fn the_first_token_that_no_description_goes_on_with(rt: HostRuntime) -> Result<(), Fail> {
-    refuses(
-        &rt,
-        rt.alloc(),
-        "machine { word 16 address",
-        "description: grammar 18\n",
-    )?;
-    refuses(
-        &rt,
-        rt.alloc(),
-        "machine { word 16; address 4; size 8; causes off; }",
-        "description: grammar 45\n",
-    )?;
-    let cases = [
-        ("pc = ; }", "description: grammar 74\n"),
-        ("let mem = 0:1; }", "description: grammar 73\n"),
-        ("trap }", "description: grammar 74\n"),
-        ("pc = 0; }", "description: grammar 75\n"),
-        ("} else { }", "description: grammar 71\n"),
-        ("if 0:1 trap; }", "description: grammar 76\n"),
+    let whole = [
+        ("machine { word 16 address", "grammar 18"),
+        (
+            "machine { word 16; address 4; size 8; causes off; }",
+            "grammar 45",
+        ),
     ];
-    for (body, line) in cases {
-        refuses_in_body(&rt, rt.alloc(), body, line)?;
-    }
-    Ok(())
+    let bodies = [
+        ("pc = ; }", "grammar 74"),
+        ("let mem = 0:1; }", "grammar 73"),
+        ("trap }", "grammar 74"),
+        ("pc = 0; }", "grammar 75"),
+        ("} else { }", "grammar 71"),
+        ("if 0:1 trap; }", "grammar 76"),
+    ];
+    refuses_all(rt.alloc(), "", &whole)?;
+    refuses_all(rt.alloc(), INSTR, &bodies)
 }
 
 #[test]
 fn token_faults_come_before_all_but_the_length(rt: HostRuntime) -> Result<(), Fail> {
-    let cases = [
-        ("!", "description: token 40\n"),
-        ("instr instr >", "description: token 52\n"),
-        ("0x", "description: token 40\n"),
-        ("\"01", "description: token 40\n"),
-        ("instr h \"01", "description: token 48\n"),
-        (
-            "instr abcdefghijabcdefghijabcdefghijabc",
-            "description: token 46\n",
-        ),
+    let rows = [
+        ("!", "token 40"),
+        ("instr instr >", "token 52"),
+        ("0x", "token 40"),
+        ("\"01", "token 40"),
+        ("instr h \"01", "token 48"),
+        ("instr abcdefghijabcdefghijabcdefghijabc", "token 46"),
     ];
-    for (rest, line) in cases {
-        refuses_behind_head(&rt, rt.alloc(), rest, line)?;
-    }
-    Ok(())
+    refuses_all(rt.alloc(), HEAD, &rows)
 }
 
 #[test]
 fn expressions_go_down_to_level_32(rt: HostRuntime) -> Result<(), Fail> {
-    // 31 signs and the constant are 32 levels, so that the width is asked for.
-    refuses_in_body(
-        &rt,
-        rt.alloc(),
-        "pc = ~~~~~~~~~~~~~~~~~~~~~~~~~~~~~~~0:1; }",
-        "description: width 0 0\n",
-    )?;
-    refuses_in_body(
-        &rt,
-        rt.alloc(),
-        "pc = ~~~~~~~~~~~~~~~~~~~~~~~~~~~~~~~~0:4; }",
-        "description: deep 106\n",
-    )?;
-    // A token that begins no expression is none too deep.
-    refuses_in_body(
-        &rt,
-        rt.alloc(),
-        "pc = ~~~~~~~~~~~~~~~~~~~~~~~~~~~~~~~~; }",
-        "description: grammar 106\n",
-    )?;
-    Ok(())
+    let rows = [
+        // 31 signs and the constant are 32 levels, so that the width is asked for.
+        ("pc = ~~~~~~~~~~~~~~~~~~~~~~~~~~~~~~~0:1; }", "width 0 0"),
+        ("pc = ~~~~~~~~~~~~~~~~~~~~~~~~~~~~~~~~0:4; }", "deep 106"),
+        // A token that begins no expression is none too deep.
+        ("pc = ~~~~~~~~~~~~~~~~~~~~~~~~~~~~~~~~; }", "grammar 106"),
+    ];
+    refuses_all(rt.alloc(), INSTR, &rows)
 }
+
+/// The beginning of an if, inside of which others may stand.
+const IF: &str = "if 0:1 { ";
 
 #[test]
 fn of_a_wrong_token_and_one_too_deep_the_first_is_told(rt: HostRuntime) -> Result<(), Fail> {
-    let cases = [
+    let rows = [
         (
             "pc = ; pc = ~~~~~~~~~~~~~~~~~~~~~~~~~~~~~~~~0:1; }",
-            "description: grammar 74\n",
+            "grammar 74",
         ),
         // A colon stands where an equals sign is due, and nothing is missing behind it.
-        (
-            "pc : ~~~~~~~~~~~~~~~~~~~~~~~~~~~~~~~~0:1; }",
-            "description: grammar 72\n",
-        ),
+        ("pc : ~~~~~~~~~~~~~~~~~~~~~~~~~~~~~~~~0:1; }", "grammar 72"),
         (
             "pc = ~~~~~~~~~~~~~~~~~~~~~~~~~~~~~~~~0:1; pc = ; }",
-            "description: deep 106\n",
+            "deep 106",
         ),
     ];
-    for (body, line) in cases {
-        refuses_in_body(&rt, rt.alloc(), body, line)?;
-    }
-    let mut body = String::from_str(rt.alloc(), "pc = ; ")?;
-    body.push_str(&nested(rt.alloc(), 16)?)?;
-    refuses_in_body(&rt, rt.alloc(), &body, "description: grammar 74\n")?;
-    let mut body = nested(rt.alloc(), 16)?;
-    body.push_str("pc = ; }")?;
-    refuses_in_body(&rt, rt.alloc(), &body, "description: deep 211\n")?;
-    Ok(())
-}
-
-/// So many ifs, one inside the other, none of them closed.
-fn nested(alloc: Global, times: u32) -> Result<String, Fail> {
-    let mut body = String::new(alloc);
-    for _ in 0..times {
-        body.push_str("if 0:1 { ")?;
-    }
-    Ok(body)
+    refuses_all(rt.alloc(), INSTR, &rows)?;
+    let nested = repeated(rt.alloc(), IF, 16, "pc = ; }")?;
+    refuses(rt.alloc(), INSTR, &nested, "deep 211")?;
+    let behind = format!(in rt.alloc(); "pc = ; {nested}")?;
+    refuses(rt.alloc(), INSTR, &behind, "grammar 74")
 }
 
 #[test]
 fn blocks_go_down_to_level_16(rt: HostRuntime) -> Result<(), Fail> {
-    let body = nested(rt.alloc(), 15)?;
-    refuses_in_body(&rt, rt.alloc(), &body, "description: grammar 204\n")?;
-    let body = nested(rt.alloc(), 16)?;
-    refuses_in_body(&rt, rt.alloc(), &body, "description: deep 211\n")?;
-    Ok(())
+    let body = repeated(rt.alloc(), IF, 15, "")?;
+    refuses(rt.alloc(), INSTR, &body, "grammar 204")?;
+    let body = repeated(rt.alloc(), IF, 16, "")?;
+    refuses(rt.alloc(), INSTR, &body, "deep 211")
 }
 
 #[test]
 fn thousands_of_levels_take_no_stack(rt: HostRuntime) -> Result<(), Fail> {
-    let mut body = String::from_str(rt.alloc(), "pc = ")?;
-    for _ in 0..10_000 {
-        body.push_str("(~")?;
-    }
-    refuses_in_body(&rt, rt.alloc(), &body, "description: deep 106\n")?;
-    let body = nested(rt.alloc(), 10_000)?;
-    refuses_in_body(&rt, rt.alloc(), &body, "description: deep 211\n")?;
-    Ok(())
+    let body = repeated(rt.alloc(), "(~", 10_000, "")?;
+    let expr = format!(in rt.alloc(); "pc = {body}")?;
+    refuses(rt.alloc(), INSTR, &expr, "deep 106")?;
+    let body = repeated(rt.alloc(), IF, 10_000, "")?;
+    refuses(rt.alloc(), INSTR, &body, "deep 211")
 }
 
 #[test]
 fn each_class_of_validity_has_its_line(rt: HostRuntime) -> Result<(), Fail> {
-    let cases = [
+    let rows = [
         (
             "instr h \"0000............\" { } instr h \"0001............\" { }",
-            "description: twice h\n",
+            "twice h",
         ),
         (
             "instr h \"0000............\" { let b = 0:1; let b = 0:1; }",
-            "description: twice b\n",
+            "twice b",
         ),
-        (
-            "instr h \"0000...........a\" { let a = 0:1; }",
-            "description: twice a\n",
-        ),
-        ("instr h \"0000\" { }", "description: pattern 0\n"),
-        (
-            "instr h \"a.a.............\" { }",
-            "description: pattern 0\n",
-        ),
+        ("instr h \"0000...........a\" { let a = 0:1; }", "twice a"),
+        ("instr h \"0000\" { }", "pattern 0"),
+        ("instr h \"a.a.............\" { }", "pattern 0"),
         (
             "instr h \"0000............\" { } instr i \"000.............\" { }",
-            "description: overlap 0 1\n",
+            "overlap 0 1",
         ),
-        (
-            "instr h \"0000............\" { pc = z; }",
-            "description: name 0 z\n",
-        ),
-        (
-            "instr h \"0000............\" { pc = 0:5; }",
-            "description: width 0 0\n",
-        ),
+        ("instr h \"0000............\" { pc = z; }", "name 0 z"),
+        ("instr h \"0000............\" { pc = 0:5; }", "width 0 0"),
         (
             "instr h \"0000............\" { if 0:1 { trap; } pc = 0:5; }",
-            "description: width 0 2\n",
+            "width 0 2",
         ),
     ];
-    for (rest, line) in cases {
-        refuses_behind_head(&rt, rt.alloc(), rest, line)?;
-    }
-    Ok(())
+    refuses_all(rt.alloc(), HEAD, &rows)
 }
 
 #[test]
 fn a_limit_has_its_number_and_instruction(rt: HostRuntime) -> Result<(), Fail> {
-    let mut body = String::new(rt.alloc());
-    for _ in 0..9 {
-        body.push_str("mem[0:4] = 0:16; ")?;
-    }
-    body.push('}')?;
-    refuses_in_body(&rt, rt.alloc(), &body, "description: limit 2 0\n")?;
-    Ok(())
+    let body = repeated(rt.alloc(), "mem[0:4] = 0:16; ", 9, "}")?;
+    refuses(rt.alloc(), INSTR, &body, "limit 2 0")
 }
 
 #[test]
 fn an_earlier_class_comes_first_wherever_it_stands(rt: HostRuntime) -> Result<(), Fail> {
-    let cases = [
+    let rows = [
         // A name in the last instruction, and a width in the first.
         (
             "instr h \"0000............\" { pc = 0:5; } instr i \"0001............\" { pc = z; }",
-            "description: name 1 z\n",
+            "name 1 z",
         ),
         // An overlap, and a name.
         (
             "instr h \"0000............\" { pc = z; } instr i \"000.............\" { }",
-            "description: overlap 0 1\n",
+            "overlap 0 1",
         ),
         // A pattern of the wrong length, whose letters count for names all the same.
         (
             "instr h \"000............a\" { } instr i \"0001...........aa\" { let a = 0:1; }",
-            "description: twice a\n",
+            "twice a",
         ),
     ];
-    for (rest, line) in cases {
-        refuses_behind_head(&rt, rt.alloc(), rest, line)?;
-    }
-    Ok(())
+    refuses_all(rt.alloc(), HEAD, &rows)
 }
 
 #[test]
 fn each_refusal_of_an_image_has_its_line(rt: HostRuntime) -> Result<(), Fail> {
-    let cases = [
-        ("x", "image 0: token 0\n"),
-        ("2: 00", "image 0: grammar 1\n"),
-        ("2: 000", "image 0: grammar 1\n"),
-        ("2:0001", "image 0: grammar 1\n"),
-        ("00000002: 0001", "image 0: grammar 1\n"),
-        ("7: 0000 0000\n", "image 0: address 1\n"),
-        ("9999999: 0000\n", "image 0: address 1\n"),
-        ("# none\n8: 0000\n", "image 0: address 2\n"),
-        ("2: 0001\n2: 0001\n", "image 0: overlap 2\n"),
-        ("2: 0001 0002\n3: 0001\n", "image 0: overlap 2\n"),
-        ("7: 0001\n6: 0001 0001 0001\n", "image 0: address 2\n"),
-        ("2: 0001\n2: 0001\n9: 0001 x", "image 0: token 24\n"),
+    let rows = [
+        ("x", "token 0"),
+        ("2: 00", "grammar 1"),
+        ("2: 000", "grammar 1"),
+        ("2:0001", "grammar 1"),
+        ("00000002: 0001", "grammar 1"),
+        ("7: 0000 0000\n", "address 1"),
+        ("9999999: 0000\n", "address 1"),
+        ("# none\n8: 0000\n", "address 2"),
+        ("2: 0001\n2: 0001\n", "overlap 2"),
+        ("2: 0001 0002\n3: 0001\n", "overlap 2"),
+        ("7: 0001\n6: 0001 0001 0001\n", "address 2"),
+        ("2: 0001\n2: 0001\n9: 0001 x", "token 24"),
     ];
-    for (image, line) in cases {
-        let ran = bare(rt.alloc(), HEAD, image, "8", "0")?;
-        assert_eq!(rt; ran.text.as_str(), line, "of {image:?}");
-        assert!(rt; ran.status == Status::Image);
-        assert!(rt; is_fresh(&ran.hw));
-    }
-    let ran = bare(rt.alloc(), HEAD, "0000002: 0001", "8", "0")?;
-    assert!(rt; ran.status == Status::Done);
-    Ok(())
-}
-
-/// So many bytes of a text, blanks behind it.
-fn padded(alloc: Global, text: &str, length: usize) -> Result<Vec<u8>, Fail> {
-    let mut bytes = text.as_bytes().to_vec(alloc)?;
-    bytes.resize(length, b' ')?;
-    Ok(bytes)
-}
-
-/// The words of a command on two files.
-const WORDS: [&str; 8] = ["pgv", "bare", "d", "i", "--grant", "8", "--steps", "0"];
-
-#[test]
-fn a_description_has_at_most_1_048_576_bytes(rt: HostRuntime) -> Result<(), Fail> {
-    let desc = padded(rt.alloc(), HEAD, 1_048_576)?;
-    let ran = run_bytes(rt.alloc(), &WORDS, desc, Vec::new(rt.alloc()))?;
-    assert!(rt; ran.status == Status::Done);
-    let desc = padded(rt.alloc(), "", 1_048_577)?;
-    let ran = run_bytes(rt.alloc(), &WORDS, desc, Vec::new(rt.alloc()))?;
-    assert_eq!(rt; ran.text.as_str(), "description: long\n");
-    assert!(rt; ran.status == Status::Description);
+    refuses_images(rt.alloc(), HEAD, &rows)?;
+    let files = [("d", HEAD), ("i", "0000002: 0001")];
+    let mut at = Setting::new(rt.alloc(), &files, &[])?;
+    at.run(SHOW)?;
+    assert!(rt; at.status == Status::Done && at.text().starts_with(ZEROS));
     Ok(())
 }
 
 #[test]
-fn an_image_of_33_554_432_bytes_is_read(rt: HostRuntime) -> Result<(), Fail> {
-    let desc = padded(rt.alloc(), HEAD, 40)?;
-    let image = padded(rt.alloc(), "2: 0001", 33_554_432)?;
-    let ran = run_bytes(rt.alloc(), &WORDS, desc, image)?;
-    assert_eq!(rt;
-        ran.text.as_str(),
-        "size 8\npsw s 2 0 8\n0: 0000 0000 0001 0000 0000 0000 0000 0000\n"
-    );
-    assert!(rt; ran.status == Status::Done);
-    Ok(())
-}
-
-#[test]
-fn an_image_of_33_554_433_bytes_is_too_long(rt: HostRuntime) -> Result<(), Fail> {
-    let desc = padded(rt.alloc(), HEAD, 40)?;
-    let image = padded(rt.alloc(), "", 33_554_433)?;
-    let ran = run_bytes(rt.alloc(), &WORDS, desc, image)?;
-    assert_eq!(rt; ran.text.as_str(), "image 0: long\n");
-    assert!(rt; ran.status == Status::Image);
-    Ok(())
+fn words_of_an_image_have_the_width_of_the_machine(rt: HostRuntime) -> Result<(), Fail> {
+    let rows = [
+        ("7: 00000000 00000000\n", "address 1"),
+        ("2: 00\n", "grammar 1"),
+        ("2: 0000000\n", "grammar 1"),
+        ("2: 00000001\n2: 00000001\n", "overlap 2"),
+        ("x", "token 0"),
+        ("# x\r\n2: 0000000g # y", "token 15"),
+    ];
+    refuses_images(rt.alloc(), M0, &rows)
 }

@@ -1,0 +1,18 @@
+//! Tests of guests under a monitor, by commands, on files, output and hardware in memory: what was worked out by hand, guests beside
+//! bare machines, and what keeps a run from its first turn. There is no code here: a crate with tests is proved twice, and this
+//! one has nothing to prove.
+//!
+//! - `worked`: runs that were worked out by hand. `beside`: guests beside bare machines. `hostile`: guests that reach for what is not
+//!   theirs. `accepted`: which machines run guests. `refused`: runs that are refused, and calls that fail.
+#![tactic(auto)]
+
+#[cfg(test)]
+mod accepted;
+#[cfg(test)]
+mod beside;
+#[cfg(test)]
+mod hostile;
+#[cfg(test)]
+mod refused;
+#[cfg(test)]
+mod worked;
