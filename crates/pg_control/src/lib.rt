@@ -23,7 +23,7 @@ mod loading;
 mod placing;
 mod taking;
 
-pub use entering::{enter, is_current};
+pub use entering::{enter, is_current, select};
 pub use fault::GuestFault;
 pub use guest::Guest;
 pub use loading::{put_state, put_words};

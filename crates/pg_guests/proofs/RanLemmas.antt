@@ -14,7 +14,9 @@ use Rattle.pg_control.specs.Plans.{turns_of, IsOutside}
 use Rattle.pg_monitor.specs.Plans.{direct_of, cell_behind, psw_behind, changes_of, Followed}
 use Rattle.pg_control.specs.Schedules.{schedule}
 use Rattle.pg_control.specs.Standing.{Stands}
-use Rattle.pg_monitor.specs.Turns.{change_to, changes_in, current_after, CountsTurns, BottomTurns}
+use Rattle.pg_control.specs.Current.{change_to}
+use Rattle.pg_control.specs.Counting.{BottomTurns}
+use Rattle.pg_monitor.specs.Turns.{changes_in, current_after, CountsTurns}
 use Rattle.pg_control.proofs.PlanLemmas.{count_of-most}
 use Rattle.pg_control.proofs.CountLemmas.{direct_among-most, direct-adds}
 use Rattle.pg_control.specs.Direct.{direct_among}

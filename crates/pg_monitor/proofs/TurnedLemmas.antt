@@ -19,13 +19,14 @@ use Rattle.pg_control.specs.Direct.{is_direct, direct_among}
 use Rattle.pg_control.specs.Standing.{Stands}
 use Rattle.pg_control.specs.Plans.{moved}
 use Rattle.pg_control.specs.Traps.{trap_cell}
-use Rattle.pg_monitor.specs.Turns.{storage_after, change_to, Turned}
-use Rattle.pg_control.specs.Current.{with_psw}
+use Rattle.pg_monitor.specs.Turns.{storage_after, Turned}
+use Rattle.pg_control.specs.Current.{change_to, with_psw}
 use Rattle.pg_monitor.specs.Current.{Went}
 use Rattle.pg_control.proofs.CellLemmas.{set_same}
 use Rattle.pg_control.proofs.DirectLemmas.{Holds-within, Holds-length, accepted-alike}
 use Rattle.pg_control.proofs.GuestLemmas.{Holds-of, Runs-of, direct-kept, disjoint-set, moved-none, moved-states, slice_get-set, storage-others, virtuals-set, grants_of-set}
-use Rattle.pg_monitor.proofs.WentLemmas.{CountsTurns-none, BottomTurns-none}
+use Rattle.pg_control.proofs.CountLemmas.{BottomTurns-none}
+use Rattle.pg_monitor.proofs.WentLemmas.{CountsTurns-none}
 
 -- ---- the guest that runs, and the others
 

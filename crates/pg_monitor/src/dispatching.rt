@@ -14,10 +14,10 @@ ghost use Rattle.pg_control.specs.Guests.{virtual, virtuals};
 ghost use Rattle.pg_control.specs.Direct.{is_direct};
 ghost use Rattle.pg_monitor.specs.Monitors.{desc_of};
 ghost use Rattle.pg_control.specs.Standing.{Stands};
-ghost use Rattle.pg_monitor.specs.Turns.{change_to, Turned};
+ghost use Rattle.pg_monitor.specs.Turns.{Turned};
 ghost use Rattle.pg_control.specs.Plans.{turns_for};
 ghost use Rattle.pg_monitor.specs.Plans.{Followed};
-ghost use Rattle.pg_control.specs.Current.{Runs, is_current};
+ghost use Rattle.pg_control.specs.Current.{Runs, change_to, is_current};
 
 use crate::monitor::Monitor;
 use crate::turning::{turn_often, turn_once};

@@ -1,0 +1,3 @@
+pub mod UserLemmas
+pub mod SteppedLemmas
+pub mod TurnedLemmas

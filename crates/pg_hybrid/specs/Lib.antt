@@ -1,0 +1,4 @@
+pub mod UserTurns
+pub mod Turns
+pub mod Current
+pub mod Hybrids
