@@ -200,3 +200,87 @@ Interpreted-machine d e old new g h same done = subst (λ x. Interpreted x old n
 
 pub Stepped-machine : (d e : Desc) (n : ℕ) (goes_on : Bool) (old new : Machinery) (g h : Guest) → e ≡ d → Stepped e n goes_on old new g h → Stepped d n goes_on old new g h
 Stepped-machine d e n goes_on old new g h same done = subst (λ x. Stepped x n goes_on old new g h) same done
+
+-- ---- turns after turns
+
+pub CountsHybrid-none : (t : Counts) → CountsHybrid 0 0 0 t t
+CountsHybrid-none t = record { steps = sym (raised_by-zero t.steps); untrapped = sym (raised_by-zero t.untrapped); loads = RisesWithin-none t.loads; pokes = RisesWithin-none t.pokes }
+
+pub CountsHybrid-add : (m n u v x y : ℕ) (t t' t'' : Counts) → x ≤ m → y ≤ n → CountsHybrid m u x t t' → CountsHybrid n v y t' t'' → CountsHybrid (m + n) (u + v) (x + y) t t''
+CountsHybrid-add m n u v x y t t' t'' few few' a b = record {
+  steps = omega (arith, a.steps, b.steps);
+  untrapped = omega (arith, a.untrapped, b.untrapped);
+  loads = record { at_least = omega (arith, a.loads.at_least, b.loads.at_least); at_most = omega (arith, a.loads.at_most, b.loads.at_most) };
+  pokes = record { at_least = omega (arith, a.pokes.at_least, b.pokes.at_least); at_most = omega (arith, a.pokes.at_most, b.pokes.at_most) };
+}
+
+-- no turn changes nothing
+Turned-none : (d : Desc) (k : ℕ) (h : Machinery) (gs : List Guest) (g : Guest) → slice_get gs k ≡ Some g → HybridTurned d k 0 h h gs gs
+unfolding user_among hybrid_among
+Turned-none d k h gs g is = record {
+  guest = g;
+  is_guest = is;
+  states = sym (moved-none d k (virtuals h.state.cells gs));
+  grants = refl;
+  outside = λ at some place. refl;
+  tally = CountsHybrid-none h.tally;
+  bottom = BottomTurns-none h.bottom;
+}
+
+pub Turned-zero : (d : Desc) (k : ℕ) (h : Machinery) (gs : List Guest) → k < length gs → HybridTurned d k 0 h h gs gs
+Turned-zero d k h gs within = elim ((slice_get_cases gs k).1) [
+  | inl x ↦ Turned-none d k h gs x.0 x.2
+  | inr x ↦ absurd (omega (arith, x.0))
+]
+
+moved-again : (d : Desc) (k m n : ℕ) (ss : List State) → moved d k n (moved d k m ss) ≡ moved d k (m + n) ss
+moved-again d k m n [] = refl
+moved-again d zero m n (s ∷ ss) = ap (λ t. t ∷ ss) (steps-add d m n s)
+moved-again d (suc k) m n (s ∷ ss) = ap (λ l. s ∷ l) (moved-again d k m n ss)
+
+-- the guest of a number has the same grant in both lists
+abbrev grant_of : Guest → ℕ × ℕ
+grant_of x = (x.base, x.size)
+
+same_grant : (gs hs : List Guest) (k : ℕ) (g h : Guest) → grants_of hs ≡ grants_of gs → slice_get gs k ≡ Some g → slice_get hs k ≡ Some h → grant_of h ≡ grant_of g
+same_grant gs hs k g h same is is' =
+    some_same (grant_of h) (grant_of g)
+    (sym (slice_get-map grant_of hs k ∙ ap (option_map grant_of) is') ∙ ap (λ l. slice_get l k) same ∙ slice_get-map grant_of gs k ∙ ap (option_map grant_of) is)
+
+pub Turned-then : (d : Desc) (k m n : ℕ) (old mid new : Machinery) (gs hs ks : List Guest) → HybridTurned d k m old mid gs hs → HybridTurned d k n mid new hs ks → HybridTurned d k (m + n) old new gs ks
+Turned-then d k m n old mid new gs hs ks one two =
+    let g = one.guest in
+    let h = two.guest in
+    let s = virtual old.state.cells g in
+    let t = virtual mid.state.cells h in
+    let grant : grant_of h ≡ grant_of g = same_grant gs hs k g h one.grants one.is_guest two.is_guest in
+    let base : h.base ≡ g.base = ap (λ (p : ℕ × ℕ). p.0) grant in
+    let state : t ≡ steps d m s =
+    some_same t (steps d m s)
+    (sym (virtuals-at mid.state.cells hs k h two.is_guest) ∙ ap (λ ss. slice_get ss k) one.states ∙ moved-own d k m (virtuals old.state.cells gs)
+    ∙ ap (option_map (steps d m)) (virtuals-at old.state.cells gs k g one.is_guest)) in
+    let users : user_among d (m + n) s ≡ user_among d m s + user_among d n t = user_among-add d m n s ∙ ap (λ x. user_among d m s + user_among d n x) (sym state) in
+    let hybrid : hybrid_among d g.base (m + n) s ≡ hybrid_among d g.base m s + hybrid_among d h.base n t =
+    hybrid_among-add d g.base m n s ∙ ap (λ x. hybrid_among d g.base m s + hybrid_among d g.base n x) (sym state)
+    ∙ ap (λ b. hybrid_among d g.base m s + hybrid_among d b n t) (sym base) in
+    record {
+      guest = g;
+      is_guest = one.is_guest;
+      states = two.states ∙ ap (moved d k n) one.states ∙ moved-again d k m n (virtuals old.state.cells gs);
+      grants = two.grants ∙ one.grants;
+      outside = λ at some place. two.outside at some (subst (λ (p : ℕ × ℕ). (at < p.0) ⊎ (p.0 + p.1 ≤ at)) (sym grant) place) ∙ one.outside at some place;
+      tally = subst (λ u. CountsHybrid (m + n) u (hybrid_among d g.base (m + n) s) old.tally new.tally) (sym users)
+          (subst (λ x. CountsHybrid (m + n) (user_among d m s + user_among d n t) x old.tally new.tally) (sym hybrid)
+          (CountsHybrid-add m n (user_among d m s) (user_among d n t) (hybrid_among d g.base m s) (hybrid_among d h.base n t) old.tally mid.tally new.tally
+          (hybrid_among-most d g.base m s) (hybrid_among-most d h.base n t) one.tally two.tally));
+      bottom = subst (λ u. BottomTurns u (hybrid_among d g.base (m + n) s) old.bottom new.bottom) (sym users)
+          (subst (λ x. BottomTurns (user_among d m s + user_among d n t) x old.bottom new.bottom) (sym hybrid)
+          (BottomTurns-add (user_among d m s) (user_among d n t) (hybrid_among d g.base m s) (hybrid_among d h.base n t) old.bottom mid.bottom new.bottom one.bottom two.bottom));
+    }
+
+-- as many turns, on the same machine
+pub Turned-count : (d : Desc) (k m n : ℕ) (old new : Machinery) (gs hs : List Guest) → m ≡ n → HybridTurned d k m old new gs hs → HybridTurned d k n old new gs hs
+Turned-count d k m n old new gs hs same one = subst (λ x. HybridTurned d k x old new gs hs) same one
+
+pub Turned-machine : (d e : Desc) (k n : ℕ) (old new : Machinery) (gs hs : List Guest) → e ≡ d → HybridTurned e k n old new gs hs → HybridTurned d k n old new gs hs
+Turned-machine d e k n old new gs hs same one = subst (λ x. HybridTurned x k n old new gs hs) same one

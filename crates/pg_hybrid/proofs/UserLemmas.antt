@@ -46,6 +46,16 @@ unfolding user_among hybrid_among
 hybrid_among-users d base zero s = omega arith
 hybrid_among-users d base (suc n) s = omega (arith, hybrid_among-users d base n s, both-most (is_user (steps d n s).psw.mode) (is_direct d base (steps d n s)))
 
+direct-most : (b c : Bool) → one_if (b && c) ≤ one_if c
+direct-most true c = omega arith
+direct-most false c = omega arith
+
+-- and some of those that are direct in whatever mode
+pub hybrid_among-direct : (d : Desc) (base n : ℕ) (s : State) → hybrid_among d base n s ≤ direct_among d base n s
+unfolding direct_among hybrid_among
+hybrid_among-direct d base zero s = omega arith
+hybrid_among-direct d base (suc n) s = omega (arith, hybrid_among-direct d base n s, direct-most (is_user (steps d n s).psw.mode) (is_direct d base (steps d n s)))
+
 pub hybrid_among-most : (d : Desc) (base n : ℕ) (s : State) → hybrid_among d base n s ≤ n
 hybrid_among-most d base n s = omega (arith, hybrid_among-users d base n s, user_among-most d n s)
 

@@ -1,4 +1,5 @@
 pub mod UserTurns
 pub mod Turns
+pub mod Plans
 pub mod Current
 pub mod Hybrids

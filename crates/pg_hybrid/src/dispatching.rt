@@ -4,18 +4,22 @@
 //! interpreted leaves its guest not current, since the hardware has not the program status word that follows; another guest
 //! that is current stays so, unless the hardware was entered. No call here takes memory or refuses anything.
 
-ghost use Rattle.std.specs.Prelude.{◌≡◌, ◌<◌, ◌≤◌, length, Some, slice_get};
+ghost use Rattle.std.specs.Prelude.{◌≡◌, ℕ, ◌<◌, ◌≤◌, length, All, Some, slice_get};
+ghost use Rattle.std.specs.Option.{option_map};
+ghost use Rattle.pg_meaning.specs.Steps.{steps};
 ghost use Rattle.std.specs.Bool.{then_some};
 ghost use Rattle.pg_word.specs.declared.psw.Mode.TheVariants.{S, U};
 ghost use Rattle.pg_hw.specs.Serving.{IsServed};
 ghost use Rattle.pg_hw.specs.Tallies.{raised_by};
 ghost use Rattle.pg_control.specs.declared.guest.Guest.{Guest as Guests};
-ghost use Rattle.pg_control.specs.Guests.{virtual};
+ghost use Rattle.pg_control.specs.Guests.{virtual, virtuals};
+ghost use Rattle.pg_control.specs.Plans.{turns_for};
 ghost use Rattle.pg_control.specs.Standing.{Stands};
 ghost use Rattle.pg_control.specs.Current.{change_to, is_current as is_current_guest};
 ghost use Rattle.pg_control.specs.Direct.{is_direct};
 ghost use Rattle.pg_hybrid.specs.Hybrids.{desc_of};
 ghost use Rattle.pg_hybrid.specs.Turns.{HybridTurned, current_behind, loads_at, without as without_guest};
+ghost use Rattle.pg_hybrid.specs.Plans.{HybridFollowed};
 
 use crate::hybrid::Hybrid;
 use crate::turning::{burst_on, interpret};
@@ -53,6 +57,42 @@ impl<'m> Hybrid<'m> {
             → self.new.current ≡ current_behind (desc_of self.old) k g.base (virtual (H.machinery hw.old).state.cells g) self.old.current }
     {
         self.turn_on(hw, k, 1);
+    }
+
+    /// `n` turns of a guest, one after another: its state goes `n` steps on.
+    pub fn turns<H: Hardware>(&mut self, hw: &mut H, k: usize, n: u64)
+        requires served { IsServed (H.serves (H.fixed hw.old)) (desc_of self.old) }
+        requires stands { Stands (desc_of self.old) (H.machinery hw.old).state self.old.guests self.old.current }
+        requires known { k < length self.old.guests }
+        ensures stands { Stands (desc_of self.old) (H.machinery hw.new).state self.new.guests self.new.current }
+        ensures turned { HybridTurned (desc_of self.old) k n (H.machinery hw.old) (H.machinery hw.new) self.old.guests self.new.guests }
+        ensures machine { self.new.accepted.machine.now ≡ self.old.accepted.machine.now }
+        ensures granted { self.new.granted ≡ self.old.granted }
+        ensures fixed { H.fixed hw.new ≡ H.fixed hw.old }
+    {
+        let mut left = n;
+        while left > 0 {
+            left -= self.turn_on(hw, k, left);
+        }
+    }
+
+    /// The turns of a plan, of which each pair is the number of a guest and how many turns it is to have, in order.
+    pub fn run<H: Hardware>(&mut self, hw: &mut H, plan: &[(usize, u64)])
+        requires served { IsServed (H.serves (H.fixed hw.old)) (desc_of self.old) }
+        requires stands { Stands (desc_of self.old) (H.machinery hw.old).state self.old.guests self.old.current }
+        requires known { All (λ t. t.0 < length self.old.guests) plan.now }
+        ensures stands { Stands (desc_of self.old) (H.machinery hw.new).state self.new.guests self.new.current }
+        // Each guest stands at the state of its own number of turns, whatever the others did.
+        ensures own { (j : ℕ) → slice_get (virtuals (H.machinery hw.new).state.cells self.new.guests) j
+            ≡ option_map (steps (desc_of self.old) (turns_for j plan.now)) (slice_get (virtuals (H.machinery hw.old).state.cells self.old.guests) j) }
+        ensures followed { HybridFollowed (desc_of self.old) plan.now (H.machinery hw.old) (H.machinery hw.new) self.old.guests self.new.guests }
+        ensures machine { self.new.accepted.machine.now ≡ self.old.accepted.machine.now }
+        ensures granted { self.new.granted ≡ self.old.granted }
+        ensures fixed { H.fixed hw.new ≡ H.fixed hw.old }
+    {
+        for turn in plan {
+            self.turns(hw, turn.0, turn.1);
+        }
     }
 
     /// Some turns of a guest, `most` at most and one at least: one that is interpreted, or a burst of the hardware. How many

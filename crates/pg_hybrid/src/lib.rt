@@ -12,7 +12,8 @@
 //!
 //! - `hybrid`: the monitor, and how it takes a storage.
 //! - `turning`: turns of the guest at work: a step that is interpreted, and a burst of the hardware.
-//! - `dispatching`: turns of guests, one and many.
+//! - `dispatching`: turns of guests, one, many and by a plan.
+//! - `slicing`: turns of every guest, by slices, round after round. `laws`: what follows from the definitions alone.
 //!
 //! Guests, grants and what the hardware stands for are those of every control program, and stand in `pg_control`.
 //! Nothing here names a hardware but by its trait, nor rests on more of it than the clauses say.
@@ -20,6 +21,8 @@
 
 mod dispatching;
 mod hybrid;
+pub mod laws;
+mod slicing;
 mod turning;
 
 pub use hybrid::Hybrid;
