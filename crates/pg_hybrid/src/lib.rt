@@ -10,7 +10,7 @@
 //!
 //! # Modules
 //!
-//! - `hybrid`: the monitor, and how it takes a storage.
+//! - `hybrid`: the monitor, and how it takes a storage. `admitting`: how it takes images as guests.
 //! - `turning`: turns of the guest at work: a step that is interpreted, and a burst of the hardware.
 //! - `dispatching`: turns of guests, one, many and by a plan.
 //! - `slicing`: turns of every guest, by slices, round after round. `laws`: what follows from the definitions alone.
@@ -19,6 +19,7 @@
 //! Nothing here names a hardware but by its trait, nor rests on more of it than the clauses say.
 #![tactic(auto)]
 
+mod admitting;
 mod dispatching;
 mod hybrid;
 pub mod laws;
