@@ -2,3 +2,4 @@ pub mod UserLemmas
 pub mod SteppedLemmas
 pub mod TurnedLemmas
 pub mod PlanLemmas
+pub mod TurnRows

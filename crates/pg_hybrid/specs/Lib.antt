@@ -3,3 +3,4 @@ pub mod Turns
 pub mod Plans
 pub mod Current
 pub mod Hybrids
+pub mod WorkedTurns

@@ -8,6 +8,7 @@ ghost use Rattle.pg_control.specs.Direct.{direct_among};
 ghost use Rattle.pg_control.specs.Schedules.{schedule, each_count};
 ghost use Rattle.pg_hybrid.specs.UserTurns.{user_among, hybrid_among};
 ghost use Rattle.pg_hybrid.specs.Plans.{user_count, user_of, hybrid_of};
+ghost use Rattle.pg_hybrid.specs.WorkedTurns.{SixSteps, FourFromUserMode, TwoOfThemDirect, RtuIsDirectBesides, NoLoadBesideAnother, NotItself, DirectTurnLoadsOnce, TrapLeavesNone};
 
 /// Of a schedule as many turns begin in user mode, and as many of these are direct, as each guest's own steps say, whatever
 /// the slice is and whatever the other guests do.
@@ -21,4 +22,16 @@ pub fn direct_turns_begin_in_user_mode()
     ensures users { (d : Desc) (base n : ℕ) (s : State) → hybrid_among d base n s ≤ user_among d n s }
     ensures turns { (d : Desc) (n : ℕ) (s : State) → user_among d n s ≤ n }
     ensures direct { (d : Desc) (base n : ℕ) (s : State) → hybrid_among d base n s ≤ direct_among d base n s }
+{}
+
+/// Turns of guests on a machine with a jump to user mode, worked out by hand.
+pub fn worked_turns()
+    ensures six_steps { SixSteps }
+    ensures four_from_user_mode { FourFromUserMode }
+    ensures two_of_them_direct { TwoOfThemDirect }
+    ensures rtu_is_direct_besides { RtuIsDirectBesides }
+    ensures no_load_beside_another { NoLoadBesideAnother }
+    ensures not_itself { NotItself }
+    ensures direct_turn_loads_once { DirectTurnLoadsOnce }
+    ensures trap_leaves_none { TrapLeavesNone }
 {}

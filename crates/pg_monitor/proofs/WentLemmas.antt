@@ -1,5 +1,5 @@
 -- Turns of the current guest: a burst, what is interpreted behind it, and turns after turns.
-use Rattle.std.proofs.Common.{◌≡◌, ℕ, suc, ◌+◌, ◌<◌, ◌≤◌, Bool, true, false, not, ◌&&◌, if◌then◌else◌, List, length, slice_set, slice_index, refl, sym, ◌∙◌, ap, subst, arith}
+use Rattle.std.proofs.Common.{◌≡◌, ℕ, ◌+◌, ◌<◌, ◌≤◌, List, length, slice_set, slice_index, refl, sym, ◌∙◌, ap, subst, arith}
 use Rattle.std.proofs.lemmas.List.{set-set, get_or-set_same}
 use Rattle.pg_word.specs.Psw.{IsPsw}
 use Rattle.pg_ast.specs.declared.tree.Desc.{Desc}
@@ -11,7 +11,7 @@ use Rattle.pg_valid.proofs.StepSound.{step-state, step-length}
 use Rattle.pg_hw.specs.declared.counts.Counts.{Counts}
 use Rattle.pg_hw.specs.Tallies.{Bottom, raised_by, after_steps}
 use Rattle.pg_hw.specs.Machinery.{Machinery}
-use Rattle.pg_hw.specs.Bursts.{traps, is_user, one_if, untrapped_at, untrapped_among, supervisor_among, BottomRises}
+use Rattle.pg_hw.specs.Bursts.{untrapped_at, BottomRises}
 use Rattle.pg_hw.specs.Running.{Ran}
 use Rattle.pg_hw.proofs.TallyLaws.{raised_by-zero, RisesWithin-none}
 use Rattle.pg_hw.proofs.BurstLaws.{untrapped_among-one}
@@ -21,15 +21,15 @@ use Rattle.pg_routine.proofs.GrantLaws.{with_grant-same}
 use Rattle.pg_routine.proofs.StateLaws.{with_grant-length}
 use Rattle.pg_control.specs.declared.guest.Guest.{Guest}
 use Rattle.pg_control.specs.Guests.{virtual}
-use Rattle.pg_control.specs.Direct.{is_direct, direct_among}
+use Rattle.pg_control.specs.Direct.{direct_among}
 use Rattle.pg_control.specs.Traps.{trap_cell, trap_word}
 use Rattle.pg_control.specs.Counting.{BottomTurns}
 use Rattle.pg_monitor.specs.Turns.{CountsTurns}
 use Rattle.pg_control.specs.Current.{Holds, Runs, with_psw}
 use Rattle.pg_monitor.specs.Current.{Interpreted, Went}
 use Rattle.pg_control.proofs.CellLemmas.{with_grant-again, with_grant-before, set_first-grant, set_same}
-use Rattle.pg_control.proofs.DirectLemmas.{Holds-within, Holds-length, Runs-user}
-use Rattle.pg_control.proofs.RunLemmas.{Holds-next, virtual-own, Directly, supervisor_at-user}
+use Rattle.pg_control.proofs.DirectLemmas.{Holds-within, Holds-length}
+use Rattle.pg_control.proofs.RunLemmas.{Holds-next, virtual-own, Directly}
 use Rattle.pg_control.proofs.BurstLemmas.{Halted, Stopped, StopCounts, StopCounts-of, steps-once}
 use Rattle.pg_control.proofs.StateLemmas.{composed-fits, granted-state}
 use Rattle.pg_control.proofs.CountLemmas.{BottomTurns-none, BottomTurns-add, direct_among-add, direct_among-most, trap_cell-add}

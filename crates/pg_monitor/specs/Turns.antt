@@ -1,5 +1,5 @@
 -- Turns of guests: what they leave of the states, the storage and the counts.
-use Rattle.std.specs.Prelude.{◌≡◌, ℕ, zero, suc, ◌+◌, ◌-◌, ◌*◌, List, Option, None, Some, slice_get, slice_set, slice_index}
+use Rattle.std.specs.Prelude.{◌≡◌, ℕ, zero, suc, ◌+◌, ◌-◌, ◌*◌, List, Option, Some, slice_get, slice_set, slice_index}
 use Rattle.pg_word.specs.declared.psw.Psw.{Psw}
 use Rattle.pg_word.specs.Psw.{old_psw_cell}
 use Rattle.pg_ast.specs.declared.tree.Desc.{Desc}
