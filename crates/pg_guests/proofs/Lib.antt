@@ -1,2 +1,3 @@
 pub mod BegunLemmas
 pub mod RanLemmas
+pub mod ToldLemmas

@@ -4,7 +4,6 @@ ghost use Rattle.std.specs.Prelude.{◌≡◌, ◌+◌, ◌*◌, ◌<◌, ◌≤
 ghost use Rattle.pg_meaning.specs.Steps.{steps as stepped};
 ghost use Rattle.pg_hw.specs.Serving.{IsServed};
 ghost use Rattle.pg_control.specs.Counting.{CanCount};
-ghost use Rattle.pg_control.specs.Direct.{direct_among};
 ghost use Rattle.pg_control.specs.Guests.{virtuals};
 ghost use Rattle.pg_control.specs.Schedules.{schedule};
 ghost use Rattle.pg_control.specs.Standing.{Stands};

@@ -1,4 +1,6 @@
 pub mod WentLemmas
+pub mod ToldLemmas
+pub mod OwnBurstLemmas
 pub mod TurnedLemmas
 pub mod PlanLemmas
 pub mod ScheduleLemmas

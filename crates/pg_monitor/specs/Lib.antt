@@ -1,6 +1,7 @@
 pub mod Turns
 pub mod Plans
 pub mod Current
+pub mod Bursts
 pub mod Monitors
 pub mod Reaching
 pub mod Schedules

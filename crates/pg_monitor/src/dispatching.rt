@@ -12,6 +12,7 @@ ghost use Rattle.pg_hw.specs.Tallies.{raised_by};
 ghost use Rattle.pg_control.specs.declared.guest.Guest.{Guest as Guests};
 ghost use Rattle.pg_control.specs.Guests.{virtual, virtuals};
 ghost use Rattle.pg_control.specs.Direct.{is_direct};
+ghost use Rattle.pg_monitor.specs.Bursts.{TellsBurst};
 ghost use Rattle.pg_monitor.specs.Monitors.{desc_of};
 ghost use Rattle.pg_control.specs.Standing.{Stands};
 ghost use Rattle.pg_monitor.specs.Turns.{Turned};
@@ -20,7 +21,7 @@ ghost use Rattle.pg_monitor.specs.Plans.{Followed};
 ghost use Rattle.pg_control.specs.Current.{Runs, change_to};
 
 use crate::monitor::Monitor;
-use crate::turning::{turn_often, turn_once};
+use crate::turning::{BurstTold, turn_often, turn_on, turn_once};
 use pg_control::{Guest, select};
 use pg_hw::Hardware;
 
@@ -72,6 +73,36 @@ impl<'m> Monitor<'m> {
         let trapped = turn_once(machine, hw, &mut guest, &mut self.frame);
         self.guests.set(k, guest);
         trapped
+    }
+
+    /// Turns of a guest as one burst of the hardware, `most` of them at most, and one at least where any are asked for.
+    ///
+    /// The hardware executes them as long as they are direct. The burst ends with a turn that is not: it is interpreted, and
+    /// the guest's own step may trap there or may not, as that of a privileged instruction in supervisor mode does not. So no
+    /// step of the guest but the last one traps.
+    pub fn burst_told<H: Hardware>(&mut self, hw: &mut H, k: usize, most: u64) -> BurstTold
+        requires served { IsServed (H.serves (H.fixed hw.old)) (desc_of self.old) }
+        requires stands { Stands (desc_of self.old) (H.machinery hw.old).state self.old.guests self.old.current }
+        requires known { k < length self.old.guests }
+        ensures told { (g : Guests) → slice_get self.old.guests k ≡ Some g
+            → TellsBurst (desc_of self.old) g.base most (virtual (H.machinery hw.old).state.cells g) result }
+        ensures stands { Stands (desc_of self.old) (H.machinery hw.new).state self.new.guests self.new.current }
+        ensures turned { Turned (desc_of self.old) k result.turns (H.machinery hw.old) (H.machinery hw.new) self.old.guests self.new.guests self.old.current self.new.current }
+        ensures machine { self.new.accepted.machine.now ≡ self.old.accepted.machine.now }
+        ensures granted { self.new.granted ≡ self.old.granted }
+        ensures fixed { H.fixed hw.new ≡ H.fixed hw.old }
+    {
+        if most == 0 {
+            return BurstTold {
+                turns: 0,
+                trapped: false,
+            };
+        }
+        let machine = self.accepted.machine();
+        let mut guest = self.select(hw, k);
+        let told = turn_on(machine, hw, &mut guest, most, &mut self.frame);
+        self.guests.set(k, guest);
+        told
     }
 
     /// `n` turns of a guest, one after another: its state goes `n` steps on.

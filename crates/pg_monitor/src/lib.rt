@@ -13,7 +13,7 @@
 //! - `monitor`: the monitor, and how it takes a storage. `prepared`: one whose memory was taken before.
 //! - `granting`: the grants that it makes. `admitting`: how it takes images and states as guests.
 //! - `reaching`: what is done to a guest from outside.
-//! - `dispatching`: turns of guests, one, many and by a plan, and what a change of guest is.
+//! - `dispatching`: turns of guests, one, a burst, many and by a plan, and what a change of guest is.
 //! - `turning`: turns of the guest that runs: bursts of direct steps, and steps that are interpreted.
 //! - `slicing`: turns of every guest, by slices, round after round. `laws`: what follows from the definitions alone.
 //!
@@ -34,3 +34,4 @@ mod turning;
 pub use monitor::Monitor;
 pub use pg_control::{Guest, GuestFault, KEPT_CELLS};
 pub use prepared::Prepared;
+pub use turning::BurstTold;

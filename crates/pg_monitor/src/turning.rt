@@ -15,6 +15,7 @@ ghost use Rattle.pg_hw.specs.Serving.{IsServed, IsServedPsw};
 ghost use Rattle.pg_hw.specs.Machinery.{loaded_with};
 ghost use Rattle.pg_routine.specs.Composing.{composed};
 ghost use Rattle.pg_control.specs.Guests.{virtual};
+ghost use Rattle.pg_monitor.specs.Bursts.{TellsBurst};
 ghost use Rattle.pg_control.specs.Direct.{is_direct};
 ghost use Rattle.pg_control.specs.Current.{Holds, Runs};
 ghost use Rattle.pg_monitor.specs.Current.{Interpreted, Went};
@@ -25,6 +26,15 @@ use pg_interp::Frame;
 use pg_machine::Machine;
 use pg_routine::emulate_told;
 use pg_word::{Mode, OLD_PSW_CELL, unpack};
+
+/// What is told of turns that one burst of the hardware made.
+#[derive(Clone, Copy, Debug, PartialEq, Eq)]
+pub struct BurstTold {
+    /// How many turns they were.
+    pub turns: u64,
+    /// Whether the guest's own step trapped at the last of them, in whatever way.
+    pub trapped: bool,
+}
 
 /// Interprets the step of a guest that trapped, and enters the guest again; whether the guest's own step trapped.
 fn interpret<H: Hardware>(m: &Machine, hw: &mut H, guest: &mut Guest, frame: &mut Frame) -> bool
@@ -67,34 +77,38 @@ pub(crate) fn turn_once<H: Hardware>(
     }
 }
 
-/// Some turns, `most` at most and one at least: a burst, and where its last step trapped, that step interpreted. How many
-/// turns they were.
-fn turn_on<H: Hardware>(
+/// Some turns, `most` at most and one at least: a burst, and where its last step trapped, that step interpreted.
+pub(crate) fn turn_on<H: Hardware>(
     m: &Machine,
     hw: &mut H,
     guest: &mut Guest,
     most: u64,
     frame: &mut Frame,
-) -> u64
+) -> BurstTold
     requires accepted { ∥ IsAccepted m.now.desc ∥₁ }
     requires served { IsServed (H.serves (H.fixed hw.old)) m.now.desc }
     requires runs { Runs m.now.desc (H.machinery hw.old).state guest.old }
     requires some { 0 < most }
-    ensures least { 1 ≤ result }
-    ensures most { result ≤ most }
-    ensures went { Went m.now.desc result (H.machinery hw.old) (H.machinery hw.new) guest.old guest.new }
+    ensures told { TellsBurst m.now.desc guest.old.base most (virtual (H.machinery hw.old).state.cells guest.old) result }
+    ensures went { Went m.now.desc result.turns (H.machinery hw.old) (H.machinery hw.new) guest.old guest.new }
     ensures fixed { H.fixed hw.new ≡ H.fixed hw.old }
 {
-    let done = hw.burst(m, most);
-    let psw = hw.psw();
-    match psw.mode {
-        Mode::U => guest.psw.p = psw.p,
+    let turns = hw.burst(m, most);
+    let real = hw.psw();
+    match real.mode {
+        Mode::U => {
+            guest.psw.p = real.p;
+            BurstTold {
+                turns,
+                trapped: false,
+            }
+        }
         Mode::S => {
             guest.psw.p = unpack(m.shape(), hw.peek(OLD_PSW_CELL)).p;
-            interpret(m, hw, guest, frame);
+            let trapped = interpret(m, hw, guest, frame);
+            BurstTold { turns, trapped }
         }
     }
-    done
 }
 
 /// `n` turns.
@@ -113,6 +127,6 @@ pub(crate) fn turn_often<H: Hardware>(
 {
     let mut left = n;
     while left > 0 {
-        left -= turn_on(m, hw, guest, left, frame);
+        left -= turn_on(m, hw, guest, left, frame).turns;
     }
 }

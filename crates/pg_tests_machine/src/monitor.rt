@@ -9,7 +9,7 @@ use crate::setting::{counts, has_words, head_alone, psw};
 use pg_hw::{Hardware, Idle};
 use pg_image::Image;
 use pg_machine::Machine;
-use pg_monitor::{Guest, GuestFault, Monitor};
+use pg_monitor::{BurstTold, Guest, GuestFault, Monitor};
 use pg_type::laws::accepted_means_hybrid_accepted;
 use pg_type::{Accepted, HybridAccepted};
 use pg_word::{CellList, Mode, Psw, Sparse};
@@ -166,6 +166,29 @@ fn a_turn_that_traps_is_interpreted(rt: HostRuntime) -> Result<(), Fail> {
 }
 
 #[test]
+fn a_burst_ends_with_a_trap_of_the_guest(rt: HostRuntime) -> Result<(), Fail> {
+    let machine = head_alone(rt.alloc(), true)?;
+    let mut hw = Idle::new(rt.alloc());
+    let mut monitor = of_two(rt.alloc(), accepted(&machine), &mut hw)?;
+    // No guest is entered for no turns.
+    let none = monitor.burst_told(&mut hw, 0, 0);
+    assert!(rt; none == told(0, false));
+    assert!(rt; hw.counts() == counts(0, 17, 0));
+    assert_eq!(rt; monitor.len(), 2);
+    // Every step traps, so that a burst of five turns ends with its first.
+    let one = monitor.burst_told(&mut hw, 0, 5);
+    assert!(rt; one == told(1, true));
+    assert!(rt; hw.counts() == counts(1, 18, 2));
+    assert!(rt;
+        has_guests(
+            &monitor,
+            &[guest(2, 8, psw(Mode::S, 0, 0, 0)), guest(10, 8, on(8))]
+        )
+    );
+    Ok(())
+}
+
+#[test]
 fn turns_and_changes_of_guest_are_counted(rt: HostRuntime) -> Result<(), Fail> {
     let machine = head_alone(rt.alloc(), true)?;
     let mut hw = Idle::new(rt.alloc());
@@ -259,6 +282,10 @@ fn of_two<'m, H: Hardware>(
     load_cells(alloc, &mut monitor, hw, 0)?;
     load_cells(alloc, &mut monitor, hw, 9)?;
     Ok(monitor)
+}
+
+fn told(turns: u64, trapped: bool) -> BurstTold {
+    BurstTold { turns, trapped }
 }
 
 fn guest(base: u32, size: u32, psw: Psw) -> Guest {

@@ -14,8 +14,8 @@ loop-left-preserved g c =
     let within = c.loop-left.invariant.most in
     record {
       most = omega (arith, within);
-      went = Went-count c.args.m.now.desc ((c.args.n - c.loop-left.left) + c.turn_on-left.result) (c.args.n - (c.loop-left.left - c.turn_on-left.result)) _ _ _ _
-          (omega (arith, within, c.turn_on-left.ensures.most))
+      went = Went-count c.args.m.now.desc ((c.args.n - c.loop-left.left) + c.turn_on-left.result.turns) (c.args.n - (c.loop-left.left - c.turn_on-left.result.turns)) _ _ _ _
+          (omega (arith, within, c.turn_on-left.ensures.told.within))
           (Went-then c.args.m.now.desc _ _ _ _ _ _ _ _ c.args.m.now.valid c.requires.runs c.loop-left.invariant.went c.turn_on-left.ensures.went);
       fixed = c.turn_on-left.ensures.fixed ∙ c.loop-left.invariant.fixed;
     }
