@@ -22,7 +22,9 @@ use Rattle.pg_control.specs.Guests.{virtual, virtuals, IsGrant, AreApart, AreDis
 use Rattle.pg_control.specs.Loading.{with_words}
 use Rattle.pg_alloc.specs.Fit.{free_base}
 use Rattle.pg_alloc.proofs.FitLemmas.{free_base-free}
-use Rattle.pg_control.specs.Admitting.{Kept, GrantMade, StateTaken}
+use Rattle.pg_control.specs.Admitting.{Kept, keeping, GrantMade, StateTaken}
+use Rattle.pg_machine.specs.declared.machine.Machine.{Machine}
+use Rattle.pg_alloc.specs.Grants.{Granted}
 use Rattle.pg_control.specs.Standing.{IsUnder, Stands}
 use Rattle.pg_control.proofs.CellLemmas.{with_grant-before, cell_of}
 use Rattle.pg_control.proofs.GuestLemmas.{LeavesOthers, virtuals-apart}
@@ -220,3 +222,30 @@ state-admitted state before after old new base owned stands fits placed guests p
       guests = guests ∙ ap (λ n. before.guests ++ guest_in base n state.psw ∷ []) len;
       poked = poked;
     }
+
+-- ---- whichever guest is current
+
+pub Stands-alone : (d : Desc) (real : State) (gs : List Guest) (current : Option ℕ) → Stands d real gs current → Stands d real gs None
+Stands-alone d real gs current s = record {
+  stands = record {
+    size = s.stands.size;
+    grants = s.stands.grants;
+    disjoint = s.stands.disjoint;
+    guests = refl;
+    control = s.stands.control;
+    under = tt;
+  };
+  real_state = s.real_state;
+  virtual_states = s.virtual_states;
+}
+
+-- an image that is taken while no guest is current is taken while any is
+pub taken-beside : (s : State) (m : Machine) (granted now : Granted) (gs hs : List Guest) (current : Option ℕ) (old new : Machinery) →
+    StateTaken s (keeping m granted gs None) (keeping m now hs None) old new → StateTaken s (keeping m granted gs current) (keeping m now hs current) old new
+taken-beside s m granted now gs hs current old new taken = record {
+  base = taken.base;
+  placed = record { first = taken.placed.first; granted = taken.placed.granted; machine = refl; current = refl };
+  guests = taken.guests;
+  states = taken.states;
+  poked = taken.poked;
+}

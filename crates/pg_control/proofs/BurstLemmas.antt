@@ -11,16 +11,16 @@ use Rattle.pg_meaning.specs.States.{State, IsState, shape_of}
 use Rattle.pg_meaning.specs.Steps.{step, steps}
 use Rattle.pg_valid.specs.Valid.{IsValid}
 use Rattle.pg_valid.proofs.StepSound.{step-state}
-use Rattle.pg_hw.specs.Bursts.{traps, burst_length}
-use Rattle.pg_hw.proofs.BurstLaws.{burst_length-goes_on, burst_length-some}
+use Rattle.pg_hw.specs.Bursts.{traps, one_if, untrapped_among, supervisor_among, burst_length}
+use Rattle.pg_hw.proofs.BurstLaws.{burst_length-goes_on, burst_length-some, untrapped_at-trap}
 use Rattle.pg_control.specs.declared.guest.Guest.{Guest}
 use Rattle.pg_control.specs.Guests.{virtual}
-use Rattle.pg_control.specs.Direct.{is_direct}
-use Rattle.pg_control.specs.Traps.{trap_word}
+use Rattle.pg_control.specs.Direct.{is_direct, direct_among}
+use Rattle.pg_control.specs.Traps.{trap_cell, trap_word}
 use Rattle.pg_control.specs.Current.{Holds, Runs, with_psw}
 use Rattle.pg_control.proofs.CellLemmas.{set_first-guest, set_first-second, cell_of}
 use Rattle.pg_control.proofs.DirectLemmas.{Runs-user, Runs-direct, DirectStep-of, TrapStep, TrapStep-of, IsAlikeIn}
-use Rattle.pg_control.proofs.RunLemmas.{Directly, Directly-next, Directly-all}
+use Rattle.pg_control.proofs.RunLemmas.{Directly, Directly-next, Directly-all, supervisor_at-user}
 
 -- ---- a burst
 
@@ -122,6 +122,28 @@ Halted-of d n real mid g h stopped valid is guest =
       state = ap (virtual mid.cells) who ∙ same;
       cells = cells;
       turned = ap (is_direct d g.base) (sym before.state) ∙ Runs-direct d now hm before.runs ∙ ap not stopped.stops;
+    }
+
+-- what a run that ended with a trap counts
+pub record StopCounts (d : Desc) (n m : ℕ) (real : State) (g : Guest) : Type 0 where
+  pub untrapped : untrapped_among d n real ≡ m
+  pub supervisor : supervisor_among d n real ≡ 0
+  pub direct : direct_among d g.base n (virtual real.cells g) ≡ m
+  pub cell : (held : ℕ) → trap_cell d g.base n (virtual real.cells g) held ≡ trap_word d g.base (steps d m (virtual real.cells g))
+  pub state : steps d n (virtual real.cells g) ≡ step d (steps d m (virtual real.cells g))
+
+pub StopCounts-of : (d : Desc) (m : ℕ) (real : State) (g : Guest) → Directly d m real g → traps d (steps d m real) ≡ true →
+    is_direct d g.base (steps d m (virtual real.cells g)) ≡ false → StopCounts d (suc m) m real g
+unfolding steps untrapped_among supervisor_among direct_among trap_cell
+StopCounts-of d m real g before stops turned =
+    let v = virtual real.cells g in
+    let now = steps d m real in
+    record {
+      untrapped = omega (arith, untrapped_at-trap d now stops, before.untrapped);
+      supervisor = omega (arith, supervisor_at-user now (Runs-user d now (with_psw g (steps d m v).psw) before.runs), before.supervisor);
+      direct = ap (λ b. direct_among d g.base m v + one_if b) turned ∙ omega (arith, before.direct);
+      cell = λ held. ap (λ b. if b then trap_cell d g.base m v held else trap_word d g.base (steps d m v)) turned;
+      state = refl;
     }
 
 -- ---- a single step

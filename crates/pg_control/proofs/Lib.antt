@@ -5,6 +5,7 @@ pub mod RunLemmas
 pub mod BurstLemmas
 pub mod CountLemmas
 pub mod GuestLemmas
+pub mod AdvanceLemmas
 pub mod LoadLemmas
 pub mod BaseLemmas
 pub mod PlanLemmas

@@ -110,7 +110,7 @@ count_of-most d f gs (turn ∷ plan) ss most =
 
 -- ---- the turns of one guest
 
-moved-own : (d : Desc) (j n : ℕ) (ss : List State) → slice_get (moved d j n ss) j ≡ option_map (steps d n) (slice_get ss j)
+pub moved-own : (d : Desc) (j n : ℕ) (ss : List State) → slice_get (moved d j n ss) j ≡ option_map (steps d n) (slice_get ss j)
 moved-own d j n [] = refl
 moved-own d zero n (s ∷ ss) = refl
 moved-own d (suc j) n (s ∷ ss) = moved-own d j n ss
@@ -144,3 +144,18 @@ after_plan-at d (turn ∷ plan) ss j =
     after_plan-at d plan (moved d turn.0 turn.1 ss) j
     ∙ ap (option_map (steps d (turns_for j plan))) (moved-at d turn.0 turn.1 j ss (turn.0 == j) refl)
     ∙ on-more d (if turn.0 == j then turn.1 else 0) (turns_for j plan) (slice_get ss j)
+
+-- ---- a plan behind another
+
+pub after_plan-append : (d : Desc) (p q : List (ℕ × ℕ)) (ss : List State) → after_plan d (p ++ q) ss ≡ after_plan d q (after_plan d p ss)
+after_plan-append d [] q ss = refl
+after_plan-append d (turn ∷ p) q ss = after_plan-append d p q (moved d turn.0 turn.1 ss)
+
+pub turns_of-append : (p q : List (ℕ × ℕ)) → turns_of (p ++ q) ≡ turns_of p + turns_of q
+turns_of-append [] q = omega arith
+turns_of-append (turn ∷ p) q = omega (arith, turns_of-append p q)
+
+pub count_of-append : (d : Desc) (f : Count) (gs : List Guest) (p q : List (ℕ × ℕ)) (ss : List State) →
+    count_of d f gs (p ++ q) ss ≡ count_of d f gs p ss + count_of d f gs q (after_plan d p ss)
+count_of-append d f gs [] q ss = omega arith
+count_of-append d f gs (turn ∷ p) q ss = omega (arith, count_of-append d f gs p q (moved d turn.0 turn.1 ss))

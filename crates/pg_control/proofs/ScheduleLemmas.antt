@@ -11,7 +11,7 @@ use Rattle.pg_meaning.specs.Steps.{steps}
 use Rattle.pg_control.specs.declared.guest.Guest.{Guest}
 use Rattle.pg_control.specs.Plans.{moved, turns_of, turns_for, Count, after_plan, count_of, count_turns}
 use Rattle.pg_control.specs.Schedules.{round_of, rounds_of, schedule, each_count}
-use Rattle.pg_control.proofs.PlanLemmas.{AddsUp, after_plan-at}
+use Rattle.pg_control.proofs.PlanLemmas.{AddsUp, after_plan-at, turns_of-append}
 
 -- ---- rounds, one guest and one round more
 
@@ -32,10 +32,6 @@ rounds_of-more count slice (suc rounds) =
 turns_for-append : (j : ℕ) (p q : List (ℕ × ℕ)) → turns_for j (p ++ q) ≡ turns_for j p + turns_for j q
 turns_for-append j [] q = omega arith
 turns_for-append j (turn ∷ p) q = omega (arith, turns_for-append j p q)
-
-turns_of-append : (p q : List (ℕ × ℕ)) → turns_of (p ++ q) ≡ turns_of p + turns_of q
-turns_of-append [] q = omega arith
-turns_of-append (turn ∷ p) q = omega (arith, turns_of-append p q)
 
 if-own : (k j turns : ℕ) (b : Bool) → (k == j) ≡ b → k ≡ j → (if b then turns else 0) ≡ turns
 if-own k j turns true e same = refl

@@ -16,6 +16,10 @@ pub record Kept : Type 0 where
   pub guests : List Guest
   pub current : Option ℕ
 
+-- a control program of a machine that keeps these
+abbrev pub keeping : Machine → Granted → List Guest → Option ℕ → Kept
+keeping m granted guests current = record { machine = m; granted = granted; guests = guests; current = current }
+
 -- where it places a grant of so many cells: at the least base that is free beside the grants that it made
 abbrev pub place_for : Kept → ℕ → Option ℕ
 place_for k size = free_base k.machine.desc.size k.granted.grants size

@@ -1,5 +1,5 @@
 -- The current guest: the one that the hardware runs.
-use Rattle.std.specs.Prelude.{◌≡◌, ℕ, Bool, false, length, Option, None, Some, ◌==◌, slice_get}
+use Rattle.std.specs.Prelude.{◌≡◌, ℕ, Bool, false, if◌then◌else◌, length, Option, None, Some, ◌==◌, slice_get}
 use Rattle.pg_word.specs.declared.psw.Psw.{Psw}
 use Rattle.pg_word.specs.Psw.{new_psw_cell, packed, power_on_psw}
 use Rattle.pg_ast.specs.declared.tree.Desc.{Desc}
@@ -25,6 +25,11 @@ pub record Runs (d : Desc) (real : State) (g : Guest) : Type 0 where
 abbrev pub is_current : ℕ → Option ℕ → Bool
 is_current k None = false
 is_current k (Some j) = j == k
+
+-- 1 where guest k is not the current one, and has to be loaded
+abbrev pub change_to : ℕ → Option ℕ → ℕ
+change_to k None = 1
+change_to k (Some j) = (if j == k then 0 else 1)
 
 -- the same guest with another program status word
 abbrev pub with_psw : Guest → Psw → Guest

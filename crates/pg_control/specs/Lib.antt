@@ -3,6 +3,7 @@ pub mod Direct
 pub mod Traps
 pub mod Standing
 pub mod Current
+pub mod Advancing
 pub mod Loading
 pub mod Admitting
 pub mod Plans

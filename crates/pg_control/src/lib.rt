@@ -10,12 +10,13 @@
 //!
 //! - `guest`: what is kept of a guest. `fault`: why one was not taken.
 //! - `placing`: grants, with a guest or without one. `loading`: words that are put into a grant.
-//! - `taking`: how a control program takes a storage. `entering`: how it enters a guest.
+//! - `admitting`: how a control program takes an image as a guest. `taking`: how it takes a storage. `entering`: how it enters a guest.
 //!
 //! What several control programs say of their guests stands in `specs/`: states of guests and the storage that stands for
 //! them, direct steps, plans and schedules of turns.
 #![tactic(auto)]
 
+mod admitting;
 mod entering;
 mod fault;
 mod guest;
@@ -23,7 +24,8 @@ mod loading;
 mod placing;
 mod taking;
 
-pub use entering::{enter, is_current};
+pub use admitting::admit_image;
+pub use entering::{enter, is_current, select};
 pub use fault::GuestFault;
 pub use guest::Guest;
 pub use loading::{put_state, put_words};

@@ -1,3 +1,2 @@
-pub mod BegunLemmas
 pub mod RanLemmas
 pub mod ToldLemmas

@@ -5,7 +5,7 @@ use Rattle.pg_hw.specs.Machinery.{Machinery}
 use Rattle.pg_alloc.specs.Fit.{kept_cells}
 use Rattle.pg_control.specs.Plans.{IsOutside}
 use Rattle.pg_monitor.specs.Plans.{cell_behind, psw_behind, changes_of}
-use Rattle.pg_monitor.specs.Turns.{BottomTurns}
+use Rattle.pg_control.specs.Counting.{BottomTurns}
 use Rattle.pg_shown.specs.Runs.{GuestRun, cells_in, guests_of, reached_by, plan_of, turns_in, direct_turns_of, emulated_turns, granted}
 
 -- a hardware on which guests ran under a monitor: the grants hold the storages that bare machines reach; each direct step was

@@ -3,10 +3,10 @@
 ghost use Rattle.std.specs.Prelude.{◌≡◌, ◌≤◌, [], IfOk, OnOk, OnErr};
 ghost use Rattle.pg_hw.specs.Serving.{IsServed};
 ghost use Rattle.pg_alloc.specs.Fit.{kept_cells};
-ghost use Rattle.pg_monitor.specs.Monitors.{desc_of};
+ghost use Rattle.pg_monitor.specs.Monitors.{desc_of, kept_by};
 ghost use Rattle.pg_shown.specs.Runs.{run_of, switched_on};
 ghost use Rattle.pg_shown.specs.Setting.{HaveRoom, SetUp, loaded_for, loaded_from};
-ghost use Rattle.pg_guests.specs.Begun.{HoldsNoMore, IsBegun, LoadedSome};
+ghost use Rattle.pg_shown.specs.Begun.{HoldsNoMore, IsBegun, LoadedSome};
 
 use pg_hw::Hardware;
 use pg_image::Image;
@@ -25,7 +25,7 @@ pub(crate) fn start<'m, H: Hardware>(
     requires room { accepted.machine.now.desc.size ≤ H.room (H.fixed hw.old) }
     requires fit { HaveRoom accepted.machine.now.desc kept_cells (switched_on images.now) }
     ensures machine { IfOk result (λ m. m.accepted.machine.now ≡ accepted.entry.machine.now) }
-    ensures begun { IfOk result (λ m. IsBegun kept_cells (switched_on images.now) m (H.machinery hw.new)) }
+    ensures begun { IfOk result (λ m. IsBegun kept_cells (switched_on images.now) (kept_by m) (H.machinery hw.new)) }
     ensures made { OnOk result (H.machinery hw.new ≡ loaded_for accepted.entry.machine.now.desc kept_cells (switched_on images.now) (H.machinery hw.old)) }
     ensures set_up { OnErr result (SetUp (run_of accepted.entry.machine.now images.now 1 0) (H.machinery hw.old) (H.machinery hw.new)) }
     ensures fixed { H.fixed hw.new ≡ H.fixed hw.old }
@@ -51,10 +51,10 @@ fn load_all<H: Hardware>(
     hw: &mut H,
 ) -> Result<(), AllocError>
     requires served { IsServed (H.serves (H.fixed hw.old)) (desc_of monitor.old) }
-    requires begun { IsBegun kept_cells [] monitor.old (H.machinery hw.old) }
-    requires no_more { HoldsNoMore monitor.old }
+    requires begun { IsBegun kept_cells [] (kept_by monitor.old) (H.machinery hw.old) }
+    requires no_more { HoldsNoMore (kept_by monitor.old) }
     requires fit { HaveRoom (desc_of monitor.old) kept_cells (switched_on images.now) }
-    ensures begun { OnOk result (IsBegun kept_cells (switched_on images.now) monitor.new (H.machinery hw.new)) }
+    ensures begun { OnOk result (IsBegun kept_cells (switched_on images.now) (kept_by monitor.new) (H.machinery hw.new)) }
     ensures made { OnOk result (H.machinery hw.new ≡ loaded_from kept_cells (switched_on images.now) (H.machinery hw.old)) }
     ensures refused { OnErr result (LoadedSome (switched_on images.now) (H.machinery hw.old) (H.machinery hw.new)) }
     ensures machine { monitor.new.accepted.machine.now ≡ monitor.old.accepted.machine.now }

@@ -18,11 +18,12 @@ use Rattle.pg_control.specs.Direct.{direct_among}
 use Rattle.pg_control.specs.Standing.{Stands}
 use Rattle.pg_control.specs.Plans.{moved, after_plan, turns_of, turns_for, count_turns}
 use Rattle.pg_control.specs.Traps.{trap_cell}
-use Rattle.pg_monitor.specs.Turns.{psw_after, changes_in, CountsTurns, BottomTurns, Turned}
+use Rattle.pg_monitor.specs.Turns.{psw_after, changes_in, CountsTurns, Turned}
+use Rattle.pg_control.specs.Counting.{BottomTurns}
 use Rattle.pg_monitor.specs.Plans.{direct_of, cell_turns, cell_behind, psw_turns, psw_behind, current_of, changes_of, Followed}
 use Rattle.pg_control.proofs.DirectLemmas.{Holds-within, Holds-length}
-use Rattle.pg_monitor.proofs.WentLemmas.{CountsTurns-none, BottomTurns-none, CountsTurns-add, BottomTurns-add}
-use Rattle.pg_control.proofs.CountLemmas.{direct_among-most}
+use Rattle.pg_monitor.proofs.WentLemmas.{CountsTurns-none, CountsTurns-add}
+use Rattle.pg_control.proofs.CountLemmas.{BottomTurns-none, BottomTurns-add, direct_among-most}
 use Rattle.pg_control.proofs.GuestLemmas.{All-at, virtuals-at, Holds-of}
 use Rattle.pg_control.proofs.PlanLemmas.{after_plan-at, count_of-grants, count_of-most, first_outside, granted-outside, grants-outside, outside_of}
 

@@ -1,9 +1,8 @@
 -- Turns of a guest in a list, with its change of guest.
-use Rattle.std.proofs.Common.{◌≡◌, ℕ, zero, suc, ◌<◌, inl, inr, true, List, length, All, Option, Some, IsSomeAnd, slice_set, slice_index, slice_get, refl, sym, ◌∙◌, ap, subst, arith}
-use Rattle.std.proofs.lemmas.List.Elements.{All-set}
+use Rattle.std.proofs.Common.{◌≡◌, ℕ, zero, suc, ◌<◌, inl, inr, true, List, length, Option, Some, slice_set, slice_index, slice_get, refl, sym, ◌∙◌, ap, subst, arith}
 use Rattle.std.proofs.lemmas.Option.{slice_get_cases}
 use Rattle.pg_ast.specs.declared.tree.Desc.{Desc}
-use Rattle.pg_meaning.specs.States.{State, IsState}
+use Rattle.pg_meaning.specs.States.{State}
 use Rattle.pg_meaning.specs.Steps.{step, steps}
 use Rattle.pg_valid.specs.Valid.{IsValid}
 use Rattle.pg_type.specs.Accepting.{IsAccepted}
@@ -14,71 +13,51 @@ use Rattle.pg_routine.specs.Composing.{composed}
 use Rattle.pg_routine.specs.Granting.{with_grant}
 use Rattle.pg_routine.proofs.GrantLaws.{with_grant-same}
 use Rattle.pg_control.specs.declared.guest.Guest.{Guest}
-use Rattle.pg_control.specs.Guests.{virtual, virtuals, IsGrant, AreDisjoint, grants_of}
+use Rattle.pg_control.specs.Guests.{virtual, virtuals}
 use Rattle.pg_control.specs.Direct.{is_direct, direct_among}
 use Rattle.pg_control.specs.Standing.{Stands}
 use Rattle.pg_control.specs.Plans.{moved}
 use Rattle.pg_control.specs.Traps.{trap_cell}
-use Rattle.pg_monitor.specs.Turns.{storage_after, change_to, Turned}
-use Rattle.pg_control.specs.Current.{with_psw}
+use Rattle.pg_monitor.specs.Turns.{storage_after, Turned}
+use Rattle.pg_control.specs.Current.{change_to, with_psw}
+use Rattle.pg_control.specs.Advancing.{Advanced}
 use Rattle.pg_monitor.specs.Current.{Went}
+use Rattle.pg_control.proofs.AdvanceLemmas.{kept-outside, Moved, Moved-of, Stands-advanced, under-own}
 use Rattle.pg_control.proofs.CellLemmas.{set_same}
 use Rattle.pg_control.proofs.DirectLemmas.{Holds-within, Holds-length, accepted-alike}
-use Rattle.pg_control.proofs.GuestLemmas.{Holds-of, Runs-of, direct-kept, disjoint-set, moved-none, moved-states, slice_get-set, storage-others, virtuals-set, grants_of-set}
-use Rattle.pg_monitor.proofs.WentLemmas.{CountsTurns-none, BottomTurns-none}
+use Rattle.pg_control.proofs.GuestLemmas.{Holds-of, Runs-of, direct-kept, moved-none}
+use Rattle.pg_control.proofs.CountLemmas.{BottomTurns-none}
+use Rattle.pg_monitor.proofs.WentLemmas.{CountsTurns-none}
 
 -- ---- the guest that runs, and the others
 
--- what a run of turns of the guest at k left, as the guest's state and the others'
-record Moved (d : Desc) (k n : ℕ) (old now : State) (gs : List Guest) (g h : Guest) : Type 0 where
-  pub states : virtuals now.cells (slice_set gs k h) ≡ moved d k n (virtuals old.cells gs)
-  pub grants : grants_of (slice_set gs k h) ≡ grants_of gs
-  pub still_grants : All (IsGrant d.size) (slice_set gs k h)
-  pub disjoint : AreDisjoint (slice_set gs k h)
-
-Moved-of : (d : Desc) (k n : ℕ) (old : State) (between new : Machinery) (gs : List Guest) (current : Option ℕ) (g h : Guest) →
-    Stands d old gs current → slice_get gs k ≡ Some g → between.state.cells ≡ old.cells → Went d n between new g h → Moved d k n old new.state gs g h
-Moved-of d k n old between new gs current g h stands is same went =
+Went-advanced : (d : Desc) (k n : ℕ) (old : State) (between new : Machinery) (gs : List Guest) (current : Option ℕ) (g h : Guest) →
+    Stands d old gs current → slice_get gs k ≡ Some g → between.state.cells ≡ old.cells → Went d n between new g h → Advanced d n old new.state g h
+Went-advanced d k n old between new gs current g h stands is same went =
     let mid = between.state in
     let now = new.state in
-    let psw = (steps d n (virtual mid.cells g)).psw in
-    let who : h ≡ with_psw g psw = went.guest in
     let held = Holds-of d old gs current k g stands is in
     let size : length (steps d n (virtual mid.cells g)).cells ≡ g.size =
-    ap (λ (x : State). length x.cells) (sym went.state) ∙ Holds-length d now h went.runs.holds ∙ ap (λ (x : Guest). x.size) who in
+    ap (λ (x : State). length x.cells) (sym went.state) ∙ Holds-length d now h went.runs.holds ∙ ap (λ (x : Guest). x.size) went.guest in
     let storage : now.cells ≡ slice_set (with_grant old.cells g.base (steps d n (virtual mid.cells g)).cells) 0 (trap_cell d g.base n (virtual mid.cells g) (slice_index mid.cells 0)) =
     went.storage ∙ ap (λ xs. slice_set (with_grant xs g.base (steps d n (virtual mid.cells g)).cells) 0 (trap_cell d g.base n (virtual mid.cells g) (slice_index mid.cells 0))) same in
-    let own : virtual now.cells (with_psw g psw) ≡ steps d n (virtual old.cells g) =
-    ap (virtual now.cells) (sym who) ∙ went.state ∙ ap (λ xs. steps d n (virtual xs g)) same in
-    let grant = held.grant in
     record {
-      states = ap (λ x. virtuals now.cells (slice_set gs k x)) who
-          ∙ virtuals-set d n d.size old.cells now.cells gs k g psw is stands.stands.grants stands.stands.disjoint
-          (storage-others d.size old.cells now.cells _ g _ storage size (Holds-within d old g held)) own;
-      grants = ap (λ x. grants_of (slice_set gs k x)) who ∙ grants_of-set gs k g psw is;
-      still_grants = subst (λ x. All (IsGrant d.size) (slice_set gs k x)) (sym who)
-          (All-set (IsGrant d.size) gs k (with_psw g psw) (record { above = grant.above; least = grant.least; within = grant.within }) stands.stands.grants);
-      disjoint = subst (λ x. AreDisjoint (slice_set gs k x)) (sym who) (disjoint-set gs k g psw is stands.stands.disjoint);
+      holds = went.runs.holds;
+      guest = went.guest ∙ ap (λ xs. with_psw g (steps d n (virtual xs g)).psw) same;
+      state = went.state ∙ ap (λ xs. steps d n (virtual xs g)) same;
+      outside = kept-outside old.cells now.cells _ g _ storage size (Holds-within d old g held);
     }
+
+Moved-by : (d : Desc) (k n : ℕ) (old : State) (between new : Machinery) (gs : List Guest) (current : Option ℕ) (g h : Guest) →
+    Stands d old gs current → slice_get gs k ≡ Some g → between.state.cells ≡ old.cells → Went d n between new g h → Moved d k n old new.state gs h
+Moved-by d k n old between new gs current g h stands is same went =
+    Moved-of d k n old new.state gs current g h stands is (Went-advanced d k n old between new gs current g h stands is same went)
 
 pub Stands-went : (d : Desc) (k n : ℕ) (old : State) (between new : Machinery) (gs : List Guest) (current : Option ℕ) (g h : Guest) →
     IsValid d → Stands d old gs current → slice_get gs k ≡ Some g → between.state.cells ≡ old.cells → Went d n between new g h → Stands d new.state (slice_set gs k h) (Some k)
 Stands-went d k n old between new gs current g h valid stands is same went =
-    let now = new.state in
-    let move = Moved-of d k n old between new gs current g h stands is same went in
-    let at : slice_get (slice_set gs k h) k ≡ Some h = slice_get-set gs k h g is in
-    record {
-      stands = record {
-        size = went.runs.holds.size;
-        grants = move.still_grants;
-        disjoint = move.disjoint;
-        guests = refl;
-        control = went.runs.holds.control;
-        under = subst (λ o. IsSomeAnd o (λ x. now.psw ≡ composed x.psw x.base x.size)) (sym at) went.runs.under;
-      };
-      real_state = went.runs.holds.real_state;
-      virtual_states = subst (All (IsState d)) (sym move.states) (moved-states d k n (virtuals old.cells gs) valid stands.virtual_states);
-    }
+    Stands-advanced d k n old new.state gs current (Some k) g h valid stands is (Went-advanced d k n old between new gs current g h stands is same went)
+    (under-own d new.state gs k g h is went.runs)
 
 -- a hardware on which a guest was entered, where it was not the current one
 pub record Entered (k : ℕ) (current : Option ℕ) (old new : Machinery) : Type 0 where
@@ -91,7 +70,7 @@ pub Turned-went : (d : Desc) (k n : ℕ) (old between new : Machinery) (gs : Lis
     Turned d k (suc n) old new gs (slice_set gs k h) current (Some k)
 Turned-went d k n old between new gs current g h stands is entered went =
     let mid = between.state in
-    let move = Moved-of d k (suc n) old.state between new gs current g h stands is entered.cells went in
+    let move = Moved-by d k (suc n) old.state between new gs current g h stands is entered.cells went in
     let counted = entered.tally in
     let direct : direct_among d g.base (suc n) (virtual mid.cells g) ≡ direct_among d g.base (suc n) (virtual old.state.cells g) =
     ap (λ xs. direct_among d g.base (suc n) (virtual xs g)) entered.cells in

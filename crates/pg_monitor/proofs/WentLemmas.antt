@@ -1,5 +1,5 @@
 -- Turns of the current guest: a burst, what is interpreted behind it, and turns after turns.
-use Rattle.std.proofs.Common.{◌≡◌, ℕ, suc, ◌+◌, ◌<◌, ◌≤◌, Bool, true, false, not, ◌&&◌, if◌then◌else◌, List, length, slice_set, slice_index, refl, sym, ◌∙◌, ap, subst, arith}
+use Rattle.std.proofs.Common.{◌≡◌, ℕ, ◌+◌, ◌<◌, ◌≤◌, List, length, slice_set, slice_index, refl, sym, ◌∙◌, ap, subst, arith}
 use Rattle.std.proofs.lemmas.List.{set-set, get_or-set_same}
 use Rattle.pg_word.specs.Psw.{IsPsw}
 use Rattle.pg_ast.specs.declared.tree.Desc.{Desc}
@@ -11,7 +11,7 @@ use Rattle.pg_valid.proofs.StepSound.{step-state, step-length}
 use Rattle.pg_hw.specs.declared.counts.Counts.{Counts}
 use Rattle.pg_hw.specs.Tallies.{Bottom, raised_by, after_steps}
 use Rattle.pg_hw.specs.Machinery.{Machinery}
-use Rattle.pg_hw.specs.Bursts.{traps, is_user, one_if, untrapped_at, untrapped_among, supervisor_among, BottomRises}
+use Rattle.pg_hw.specs.Bursts.{untrapped_at, BottomRises}
 use Rattle.pg_hw.specs.Running.{Ran}
 use Rattle.pg_hw.proofs.TallyLaws.{raised_by-zero, RisesWithin-none}
 use Rattle.pg_hw.proofs.BurstLaws.{untrapped_among-one}
@@ -21,17 +21,18 @@ use Rattle.pg_routine.proofs.GrantLaws.{with_grant-same}
 use Rattle.pg_routine.proofs.StateLaws.{with_grant-length}
 use Rattle.pg_control.specs.declared.guest.Guest.{Guest}
 use Rattle.pg_control.specs.Guests.{virtual}
-use Rattle.pg_control.specs.Direct.{is_direct, direct_among}
+use Rattle.pg_control.specs.Direct.{direct_among}
 use Rattle.pg_control.specs.Traps.{trap_cell, trap_word}
-use Rattle.pg_monitor.specs.Turns.{CountsTurns, BottomTurns}
+use Rattle.pg_control.specs.Counting.{BottomTurns}
+use Rattle.pg_monitor.specs.Turns.{CountsTurns}
 use Rattle.pg_control.specs.Current.{Holds, Runs, with_psw}
 use Rattle.pg_monitor.specs.Current.{Interpreted, Went}
 use Rattle.pg_control.proofs.CellLemmas.{with_grant-again, with_grant-before, set_first-grant, set_same}
-use Rattle.pg_control.proofs.DirectLemmas.{Holds-within, Holds-length, Runs-user}
-use Rattle.pg_control.proofs.RunLemmas.{Holds-next, virtual-own, Directly, supervisor_at-user}
-use Rattle.pg_control.proofs.BurstLemmas.{Halted, Stopped, steps-once}
+use Rattle.pg_control.proofs.DirectLemmas.{Holds-within, Holds-length}
+use Rattle.pg_control.proofs.RunLemmas.{Holds-next, virtual-own, Directly}
+use Rattle.pg_control.proofs.BurstLemmas.{Halted, Stopped, StopCounts, StopCounts-of, steps-once}
 use Rattle.pg_control.proofs.StateLemmas.{composed-fits, granted-state}
-use Rattle.pg_control.proofs.CountLemmas.{direct_among-add, direct_among-most, trap_cell-add}
+use Rattle.pg_control.proofs.CountLemmas.{BottomTurns-none, BottomTurns-add, direct_among-add, direct_among-most, trap_cell-add}
 
 -- ---- turns that were direct
 
@@ -63,36 +64,6 @@ Went-direct d n old new g h run ran guest =
     }
 
 -- ---- turns that ended with one that was interpreted
-
-uncounted : (b c : Bool) → b ≡ true → one_if (c && not b) ≡ 0
-uncounted true true e = refl
-uncounted true false e = refl
-uncounted false c e = absurd (let wrong : ⊥ = cc in wrong)
-
-untrapped_at-stop : (d : Desc) (s : State) → traps d s ≡ true → untrapped_at d s ≡ 0
-untrapped_at-stop d s e = uncounted (traps d s) (is_user s.psw.mode) e
-
--- what a run that ended with a trap counts
-record StopCounts (d : Desc) (n m : ℕ) (real : State) (g : Guest) : Type 0 where
-  pub untrapped : untrapped_among d n real ≡ m
-  pub supervisor : supervisor_among d n real ≡ 0
-  pub direct : direct_among d g.base n (virtual real.cells g) ≡ m
-  pub cell : (held : ℕ) → trap_cell d g.base n (virtual real.cells g) held ≡ trap_word d g.base (steps d m (virtual real.cells g))
-  pub state : steps d n (virtual real.cells g) ≡ step d (steps d m (virtual real.cells g))
-
-StopCounts-of : (d : Desc) (m : ℕ) (real : State) (g : Guest) → Directly d m real g → traps d (steps d m real) ≡ true →
-    is_direct d g.base (steps d m (virtual real.cells g)) ≡ false → StopCounts d (suc m) m real g
-unfolding steps untrapped_among supervisor_among direct_among trap_cell
-StopCounts-of d m real g before stops turned =
-    let v = virtual real.cells g in
-    let now = steps d m real in
-    record {
-      untrapped = omega (arith, untrapped_at-stop d now stops, before.untrapped);
-      supervisor = omega (arith, supervisor_at-user now (Runs-user d now (with_psw g (steps d m v).psw) before.runs), before.supervisor);
-      direct = ap (λ b. direct_among d g.base m v + one_if b) turned ∙ omega (arith, before.direct);
-      cell = λ held. ap (λ b. if b then trap_cell d g.base m v held else trap_word d g.base (steps d m v)) turned;
-      state = refl;
-    }
 
 pub Went-halted : (d : Desc) (n : ℕ) (old between new : Machinery) (g h k : Guest) → IsValid d → (stopped : Stopped d n old.state g) →
     Halted d stopped.before old.state between.state g h → Ran d n old between → Interpreted d between new h k → Went d n old new g k
@@ -153,9 +124,6 @@ Went-halted d n old between new g h k valid stopped halted ran done =
 pub CountsTurns-none : (t : Counts) → CountsTurns 0 0 0 t t
 CountsTurns-none t = record { steps = sym (raised_by-zero t.steps); untrapped = sym (raised_by-zero t.untrapped); loads = sym (raised_by-zero t.loads); pokes = RisesWithin-none t.pokes }
 
-pub BottomTurns-none : (b : Bottom) → BottomTurns 0 0 b b
-BottomTurns-none b = record { steps = sym (raised_by-zero b.steps); untrapped = sym (raised_by-zero b.untrapped) }
-
 pub Went-none : (d : Desc) (h : Machinery) (g : Guest) → Runs d h.state g → Went d 0 h h g g
 unfolding steps direct_among trap_cell
 Went-none d h g runs =
@@ -176,9 +144,6 @@ CountsTurns-add m n x y c k t t' t'' few few' a b = record {
   loads = omega (arith, a.loads, b.loads);
   pokes = record { at_least = omega (arith, a.pokes.at_least, b.pokes.at_least); at_most = omega (arith, a.pokes.at_most, b.pokes.at_most) };
 }
-
-pub BottomTurns-add : (m n x y : ℕ) (b b' b'' : Bottom) → BottomTurns m x b b' → BottomTurns n y b' b'' → BottomTurns (m + n) (x + y) b b''
-BottomTurns-add m n x y b b' b'' one two = record { steps = omega (arith, one.steps, two.steps); untrapped = omega (arith, one.untrapped, two.untrapped) }
 
 -- cell 0 and the grant, set one after the other
 set_again : (cells first second : List ℕ) (base w w' : ℕ) → 0 < base → base + length first ≤ length cells → length second ≡ length first →

@@ -10,7 +10,8 @@ use Rattle.pg_control.specs.declared.guest.Guest.{Guest}
 use Rattle.pg_control.specs.Guests.{virtual}
 use Rattle.pg_control.specs.Direct.{direct_among}
 use Rattle.pg_control.specs.Current.{Runs, with_psw}
-use Rattle.pg_monitor.specs.Turns.{storage_after, CountsTurns, BottomTurns}
+use Rattle.pg_control.specs.Counting.{BottomTurns}
+use Rattle.pg_monitor.specs.Turns.{storage_after, CountsTurns}
 
 -- a step of a guest that was interpreted, and the guest entered again
 pub record Interpreted (d : Desc) (old new : Machinery) (g h : Guest) : Type 0 where

@@ -10,7 +10,8 @@ use Rattle.pg_control.specs.Guests.{virtuals, grants_of}
 use Rattle.pg_control.specs.Direct.{direct_among}
 use Rattle.pg_control.specs.Plans.{moved, after_plan, turns_of, count_of, IsOutside}
 use Rattle.pg_control.specs.Traps.{trap_cell}
-use Rattle.pg_monitor.specs.Turns.{psw_after, current_after, changes_in, CountsTurns, BottomTurns}
+use Rattle.pg_control.specs.Counting.{BottomTurns}
+use Rattle.pg_monitor.specs.Turns.{psw_after, current_after, changes_in, CountsTurns}
 
 -- the direct turns of a plan, of guests at these states
 abbrev pub direct_of : Desc → List Guest → List (ℕ × ℕ) → List State → ℕ

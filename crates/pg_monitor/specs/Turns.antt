@@ -1,18 +1,20 @@
 -- Turns of guests: what they leave of the states, the storage and the counts.
-use Rattle.std.specs.Prelude.{◌≡◌, ℕ, zero, suc, ◌+◌, ◌-◌, ◌*◌, ◌==◌, if◌then◌else◌, List, Option, None, Some, slice_get, slice_set, slice_index}
+use Rattle.std.specs.Prelude.{◌≡◌, ℕ, zero, suc, ◌+◌, ◌-◌, ◌*◌, List, Option, Some, slice_get, slice_set, slice_index}
 use Rattle.pg_word.specs.declared.psw.Psw.{Psw}
 use Rattle.pg_word.specs.Psw.{old_psw_cell}
 use Rattle.pg_ast.specs.declared.tree.Desc.{Desc}
 use Rattle.pg_meaning.specs.States.{State}
 use Rattle.pg_meaning.specs.Steps.{steps}
 use Rattle.pg_hw.specs.declared.counts.Counts.{Counts}
-use Rattle.pg_hw.specs.Tallies.{Bottom, RisesWithin, raised_by}
+use Rattle.pg_hw.specs.Tallies.{RisesWithin, raised_by}
 use Rattle.pg_hw.specs.Machinery.{Machinery}
 use Rattle.pg_routine.specs.Composing.{composed}
 use Rattle.pg_routine.specs.Granting.{with_grant}
 use Rattle.pg_control.specs.declared.guest.Guest.{Guest}
 use Rattle.pg_control.specs.Guests.{virtual, virtuals, grants_of}
 use Rattle.pg_control.specs.Direct.{direct_among}
+use Rattle.pg_control.specs.Current.{change_to}
+use Rattle.pg_control.specs.Counting.{BottomTurns}
 use Rattle.pg_control.specs.Plans.{moved}
 use Rattle.pg_control.specs.Traps.{trap_cell}
 
@@ -30,11 +32,6 @@ abbrev pub current_after : ℕ → ℕ → Option ℕ → Option ℕ
 current_after k zero current = current
 current_after k (suc n) current = Some k
 
--- 1 where guest k is not the current one, and has to be loaded
-abbrev pub change_to : ℕ → Option ℕ → ℕ
-change_to k None = 1
-change_to k (Some j) = (if j == k then 0 else 1)
-
 -- the changes of guest in n turns of guest k: one at most, at the first of them
 abbrev pub changes_in : ℕ → ℕ → Option ℕ → ℕ
 changes_in k zero current = 0
@@ -46,11 +43,6 @@ pub record CountsTurns (turns direct changes : ℕ) (old new : Counts) : Type 0 
   pub untrapped : new.untrapped ≡ raised_by direct old.untrapped
   pub loads : new.loads ≡ raised_by (changes + (turns - direct)) old.loads
   pub pokes : RisesWithin 0 (8 * (turns - direct)) old.pokes new.pokes
-
--- the counts of the hardware at the bottom
-pub record BottomTurns (turns direct : ℕ) (old new : Bottom) : Type 0 where
-  pub steps : new.steps ≡ raised_by turns old.steps
-  pub untrapped : new.untrapped ≡ raised_by direct old.untrapped
 
 -- n turns of guest k, from a hardware and guests that stand to a hardware and guests that stand
 pub record Turned (d : Desc) (k n : ℕ) (old new : Machinery) (old_guests new_guests : List Guest) (old_current new_current : Option ℕ) : Type 0 where

@@ -9,10 +9,10 @@ ghost use Rattle.pg_monitor.specs.Monitors.{desc_of, base_for, Admits, SameMonit
 ghost use Rattle.pg_control.specs.Standing.{Stands};
 
 use crate::monitor::Monitor;
-use pg_control::{GuestFault, put_state, put_words};
+use pg_control::{GuestFault, admit_image, put_state};
 use pg_hw::Hardware;
 use pg_image::Image;
-use pg_word::{Psw, Sparse};
+use pg_word::Sparse;
 
 impl<'m> Monitor<'m> {
     /// Loads an image as a new guest, whose grant is as large, and which is switched on with it. The number of the guest:
@@ -36,18 +36,8 @@ impl<'m> Monitor<'m> {
         ensures machine { self.new.accepted.machine.now ≡ self.old.accepted.machine.now }
         ensures fixed { H.fixed hw.new ≡ H.fixed hw.old }
     {
-        let words = image.as_slice();
-        if words.len() > self.accepted.machine().shape().q as usize {
-            return Err(GuestFault::NoRoom);
-        }
-        let size = words.len() as u32;
-        let number = self.guests.len();
-        let base = match self.place(size, Psw::power_on(size)) {
-            Ok(base) => base,
-            Err(fault) => return Err(fault),
-        };
-        put_words(hw, base, words);
-        Ok(number)
+        let machine = self.accepted.machine();
+        admit_image(machine, hw, &mut self.granted, &mut self.guests, image.as_slice())
     }
 
     /// Loads a state as a new guest, which goes on from it, as `load` does an image. The number of the guest.

@@ -15,14 +15,14 @@ ghost use Rattle.pg_control.specs.Direct.{is_direct};
 ghost use Rattle.pg_monitor.specs.Bursts.{TellsBurst};
 ghost use Rattle.pg_monitor.specs.Monitors.{desc_of};
 ghost use Rattle.pg_control.specs.Standing.{Stands};
-ghost use Rattle.pg_monitor.specs.Turns.{change_to, Turned};
+ghost use Rattle.pg_monitor.specs.Turns.{Turned};
 ghost use Rattle.pg_control.specs.Plans.{turns_for};
 ghost use Rattle.pg_monitor.specs.Plans.{Followed};
-ghost use Rattle.pg_control.specs.Current.{Runs, is_current};
+ghost use Rattle.pg_control.specs.Current.{Runs, change_to};
 
 use crate::monitor::Monitor;
 use crate::turning::{BurstTold, turn_often, turn_on, turn_once};
-use pg_control::{Guest, enter, is_current};
+use pg_control::{Guest, select};
 use pg_hw::Hardware;
 
 impl<'m> Monitor<'m> {
@@ -161,12 +161,7 @@ impl<'m> Monitor<'m> {
         ensures bottom { (H.machinery hw.new).bottom ≡ (H.machinery hw.old).bottom }
         ensures fixed { H.fixed hw.new ≡ H.fixed hw.old }
     {
-        let guest = self.guest(k);
-        if is_current(self.current, k) {
-            return guest;
-        }
-        enter(hw, guest);
-        self.current = Some(k);
-        guest
+        let machine = self.accepted.machine();
+        select(machine, hw, self.guests.as_slice(), &mut self.current, k)
     }
 }

@@ -3,3 +3,5 @@ pub mod SummaryLemmas
 pub mod ReachedLemmas
 pub mod FromLemmas
 pub mod SettingLemmas
+pub mod BegunLemmas
+pub mod StartedLemmas

@@ -31,6 +31,10 @@ blank-zero q at w h other =
     slice_get-get_or (slice_set (replicate q 0) 1 w) at 0 (omega (arith, h, length-replicate {A = ℕ} q 0, length-set {A = ℕ} (replicate q 0) 1 w))
     ∙ ap (λ n. Some n) (get_or-set_other (replicate q 0) 1 at w 0 other ∙ get_or-replicate q at 0 0 h)
 
+pub blank-size : (q : ℕ) → length (blank q).cells ≡ q
+unfolding blank
+blank-size q = length-replicate {A = ℕ} q 0
+
 pub blank-length : (q w : ℕ) → length (slice_set (blank q).cells 1 w) ≡ q
 unfolding blank
 blank-length q w = length-set {A = ℕ} (replicate q 0) 1 w ∙ length-replicate {A = ℕ} q 0

@@ -1,3 +1,4 @@
 pub mod Runs
 pub mod Setting
+pub mod Begun
 pub mod Telling

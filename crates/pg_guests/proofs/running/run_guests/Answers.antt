@@ -2,7 +2,8 @@ use Rattle.std.proofs.Common.{refl, ap, arith}
 use Rattle.pg_machine.specs.declared.machine.Machine.{Machine}
 use Rattle.pg_shown.specs.Runs.{run_of}
 use Rattle.pg_shown.proofs.SettingLemmas.{set-up-same}
-use Rattle.pg_guests.proofs.RanLemmas.{loaded-few, run-left, run-have}
+use Rattle.pg_shown.proofs.StartedLemmas.{loaded-few}
+use Rattle.pg_guests.proofs.RanLemmas.{run-left, run-have}
 use Rattle.pg_guests.proofs.running.run_guests.Goals as goal
 
 pub returns-in-Err-clause-set_up : goal.returns-in-Err-clause-set_up
@@ -20,11 +21,8 @@ returns-clause-ran g c =
     run-left (run_of machine c.args.images.now c.args.slice c.args.steps) (g.H.Hardware.machinery c.args.hw.now) (g.H.Hardware.machinery c.start.new.hw)
     (g.H.Hardware.machinery c.run_on.new.hw) c.in-Ok.monitor c.run_on.result
     (record {
-      can_run = c.requires.can_run;
-      can_count = c.requires.counts;
-      valid = machine.valid;
+      loaded = record { can_run = c.requires.can_run; can_count = c.requires.counts; valid = machine.valid; made = c.in-Ok.ensures.made };
       desc = ap (λ (m : Machine). m.desc) c.in-Ok.ensures.machine;
-      made = c.in-Ok.ensures.made;
       begun = c.in-Ok.ensures.begun;
       stands = c.run_on.ensures.stands;
       each = _;
@@ -44,11 +42,8 @@ returns-clause-have_run g c =
     run-have (run_of machine c.args.images.now c.args.slice c.args.steps) (g.H.Hardware.machinery c.args.hw.now) (g.H.Hardware.machinery c.start.new.hw)
     (g.H.Hardware.machinery c.run_on.new.hw) c.in-Ok.monitor c.run_on.result
     (record {
-      can_run = c.requires.can_run;
-      can_count = c.requires.counts;
-      valid = machine.valid;
+      loaded = record { can_run = c.requires.can_run; can_count = c.requires.counts; valid = machine.valid; made = c.in-Ok.ensures.made };
       desc = ap (λ (m : Machine). m.desc) c.in-Ok.ensures.machine;
-      made = c.in-Ok.ensures.made;
       begun = c.in-Ok.ensures.begun;
       stands = c.run_on.ensures.stands;
       each = _;

@@ -3,15 +3,15 @@ use Rattle.pg_machine.specs.declared.machine.Machine.{Machine}
 use Rattle.pg_meaning.specs.Steps.{power_on}
 use Rattle.pg_shown.specs.Runs.{switched_on}
 use Rattle.pg_shown.proofs.ReachedLemmas.{switched_on-cells, switched_on-within, switched_on-at}
-use Rattle.pg_guests.proofs.BegunLemmas.{one-begun, one-no_more, one-made, one-fits, image-least, image-words}
-use Rattle.pg_monitor.specs.Monitors.{base_for}
+use Rattle.pg_shown.proofs.BegunLemmas.{one-begun, one-no_more, one-made, one-fits, image-least, image-words}
+use Rattle.pg_monitor.specs.Monitors.{base_for, kept_by}
 use Rattle.pg_guests.proofs.starting.load_all.Goals as goal
 
 pub unreachable-requires : goal.unreachable-requires
 unreachable-requires g c =
     let d = c.args.monitor.now.accepted.machine.now.desc in
     let before = c.loop-image.invariant in
-    one-fits d (switched_on c.args.images.now) c.loop-image.image-index (power_on c.image-item.result (length c.image-item.result)) c.loop-image.monitor _ (ap (λ (m : Machine). m.desc) before.machine) c.requires.fit
+    one-fits d (switched_on c.args.images.now) c.loop-image.image-index (power_on c.image-item.result (length c.image-item.result)) (kept_by c.loop-image.monitor) _ (ap (λ (m : Machine). m.desc) before.machine) c.requires.fit
     (switched_on-within c.args.images.now c.loop-image.image-index c.loop-image-test.true)
     (switched_on-at c.args.images.now c.loop-image.image-index c.image-item.result c.loop-image-test.true c.image-item.is)
     before.begun before.no_more
@@ -32,7 +32,7 @@ loop-image-preserved g c =
     let before = c.loop-image.invariant in
     record {
       machine = c.load.ensures.machine ∙ before.machine;
-      begun = one-begun d (switched_on c.args.images.now) c.loop-image.image-index (power_on c.image-item.result (length c.image-item.result)) c.loop-image.monitor c.load.new.self (g.H.Hardware.machinery c.args.hw.now) (g.H.Hardware.machinery c.loop-image.hw) (g.H.Hardware.machinery c.load.new.hw)
+      begun = one-begun d (switched_on c.args.images.now) c.loop-image.image-index (power_on c.image-item.result (length c.image-item.result)) (kept_by c.loop-image.monitor) (kept_by c.load.new.self) (g.H.Hardware.machinery c.args.hw.now) (g.H.Hardware.machinery c.loop-image.hw) (g.H.Hardware.machinery c.load.new.hw)
           (record {
             desc = ap (λ (m : Machine). m.desc) before.machine;
             fit = c.requires.fit;
@@ -44,7 +44,7 @@ loop-image-preserved g c =
             admitted = c.in-Ok.ensures.admitted;
             stands = c.load.ensures.stands;
           });
-      no_more = one-no_more d (switched_on c.args.images.now) c.loop-image.image-index (power_on c.image-item.result (length c.image-item.result)) c.loop-image.monitor c.load.new.self (g.H.Hardware.machinery c.args.hw.now) (g.H.Hardware.machinery c.loop-image.hw) (g.H.Hardware.machinery c.load.new.hw)
+      no_more = one-no_more d (switched_on c.args.images.now) c.loop-image.image-index (power_on c.image-item.result (length c.image-item.result)) (kept_by c.loop-image.monitor) (kept_by c.load.new.self) (g.H.Hardware.machinery c.args.hw.now) (g.H.Hardware.machinery c.loop-image.hw) (g.H.Hardware.machinery c.load.new.hw)
           (record {
             desc = ap (λ (m : Machine). m.desc) before.machine;
             fit = c.requires.fit;
@@ -56,7 +56,7 @@ loop-image-preserved g c =
             admitted = c.in-Ok.ensures.admitted;
             stands = c.load.ensures.stands;
           });
-      made = one-made d (switched_on c.args.images.now) c.loop-image.image-index (power_on c.image-item.result (length c.image-item.result)) c.loop-image.monitor c.load.new.self (g.H.Hardware.machinery c.args.hw.now) (g.H.Hardware.machinery c.loop-image.hw) (g.H.Hardware.machinery c.load.new.hw)
+      made = one-made d (switched_on c.args.images.now) c.loop-image.image-index (power_on c.image-item.result (length c.image-item.result)) (kept_by c.loop-image.monitor) (kept_by c.load.new.self) (g.H.Hardware.machinery c.args.hw.now) (g.H.Hardware.machinery c.loop-image.hw) (g.H.Hardware.machinery c.load.new.hw)
           (record {
             desc = ap (λ (m : Machine). m.desc) before.machine;
             fit = c.requires.fit;

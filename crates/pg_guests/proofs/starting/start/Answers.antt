@@ -1,4 +1,4 @@
-use Rattle.std.proofs.Common.{◌∙◌, ℕ, ap, sym, subst, take, arith}
+use Rattle.std.proofs.Common.{◌∙◌, ℕ, ap, sym, subst, length, take, arith}
 use Rattle.pg_word.specs.declared.shape.Shape.{Shape}
 use Rattle.pg_word.specs.Psw.{packed, power_on_psw}
 use Rattle.pg_meaning.specs.States.{IsState}
@@ -7,16 +7,16 @@ use Rattle.pg_hw.specs.Machinery.{Machinery, poked_at}
 use Rattle.pg_hw.specs.Serving.{blank}
 use Rattle.pg_hw.proofs.ServingLaws.{blank-state}
 use Rattle.pg_alloc.specs.Fit.{kept_cells}
-use Rattle.pg_monitor.proofs.ReadyLemmas.{installed-size}
 use Rattle.pg_control.proofs.LoadLemmas.{shape-same}
 use Rattle.pg_shown.specs.Runs.{switched_on}
 use Rattle.pg_shown.specs.Setting.{Loaded, loaded_from}
+use Rattle.pg_shown.proofs.SettingLemmas.{blank-size}
 use Rattle.pg_guests.proofs.starting.start.Goals as goal
 
 pub new-requires-clause-size : goal.new-requires-clause-size
 new-requires-clause-size g c =
     let q = ap (λ (s : Shape). s.q) (shape-same _ _ _ c.shape.ensures.numbers c.machine.ensures.same) in
-    installed-size c.shape.result.now.q _ (ap (λ (h : Machinery). h.state) c.in-Ok.ensures.installed) ∙ q
+    ap (λ (h : Machinery). length h.state.cells) c.in-Ok.ensures.installed ∙ blank-size c.shape.result.now.q ∙ q
 
 pub new-requires-clause-state : goal.new-requires-clause-state
 new-requires-clause-state g c =

@@ -1,4 +1,4 @@
--- A monitor that loads one state after another.
+-- A control program that takes one state after another.
 use Rattle.std.proofs.Common.{◌≡◌, ℕ, zero, suc, ◌+◌, ◌^◌, ◌<◌, All, ◌≤◌, List, [], ◌∷◌, ◌++◌, length, take, None, Some, get_or, sym, ◌∙◌, ap, subst, arith}
 use Rattle.std.proofs.lemmas.List.{take_more}
 use Rattle.std.proofs.lemmas.List.Elements.{All-get_or}
@@ -10,11 +10,10 @@ use Rattle.pg_meaning.specs.Steps.{power_on}
 use Rattle.pg_hw.specs.Machinery.{Machinery}
 use Rattle.pg_alloc.specs.Fit.{free_base}
 use Rattle.pg_alloc.specs.Grants.{Granted, and_grant}
-use Rattle.pg_monitor.specs.declared.monitor.Monitor.{Monitor}
-use Rattle.pg_monitor.specs.Monitors.{desc_of, base_for, Admits}
+use Rattle.pg_control.specs.Admitting.{Kept, place_for, StateTaken}
 use Rattle.pg_shown.specs.Setting.{HaveRoom, loaded_from}
 use Rattle.pg_shown.specs.Runs.{cells_in, guests_from, switched_on}
-use Rattle.pg_guests.specs.Begun.{IsBegun, HoldsNoMore}
+use Rattle.pg_shown.specs.Begun.{IsBegun, HoldsNoMore}
 use Rattle.pg_control.specs.Standing.{Stands}
 use Rattle.pg_control.specs.Guests.{grants_of}
 use Rattle.pg_control.specs.Loading.{with_words}
@@ -33,20 +32,20 @@ cells-before states i e within =
     cells-most (x ∷ xs) zero = omega arith
     cells-most (x ∷ xs) (suc n) = omega (arith, cells-most xs n)
 
-pub begun-base : (states : List State) (size : ℕ) (m : Monitor) (h : Machinery) → IsBegun 2 states m h → HoldsNoMore m → 1 ≤ size → 2 + cells_in states + size ≤ (desc_of m).size →
-    base_for m size ≡ Some (2 + cells_in states)
+pub begun-base : (states : List State) (size : ℕ) (m : Kept) (h : Machinery) → IsBegun 2 states m h → HoldsNoMore m → 1 ≤ size → 2 + cells_in states + size ≤ m.machine.desc.size →
+    place_for m size ≡ Some (2 + cells_in states)
 begun-base states size m h begun no_more some room =
-    ap (λ gs. free_base (desc_of m).size gs size) (no_more.granted ∙ ap grants_of begun.guests) ∙ free-behind (desc_of m).size size states some room
+    ap (λ gs. free_base m.machine.desc.size gs size) (no_more.granted ∙ ap grants_of begun.guests) ∙ free-behind m.machine.desc.size size states some room
 
-module _ (states : List State) (s : State) (before after : Monitor) (old new : Machinery) where
+module _ (states : List State) (s : State) (before after : Kept) (old new : Machinery) where
   -- what is known of a state more that was loaded
   pub record IsNext : Type 0 where
     pub begun : IsBegun 2 states before old
     pub no_more : HoldsNoMore before
     pub least : 2 ≤ length s.cells
-    pub room : 2 + cells_in states + length s.cells ≤ (desc_of before).size
-    pub admitted : Admits s before after old new
-    pub stands : Stands (desc_of before) new.state after.guests after.current
+    pub room : 2 + cells_in states + length s.cells ≤ before.machine.desc.size
+    pub admitted : StateTaken s before after old new
+    pub stands : Stands before.machine.desc new.state after.guests after.current
 
   module _ (h : IsNext) where
     at : h.admitted.base ≡ 2 + cells_in states
@@ -85,17 +84,17 @@ state-room d states i s fit within is =
     let same = ap (λ (t : State). length t.cells) is in
     (one.size_least, omega (arith, more, same, fit.room))
 
-module _ (d : Desc) (states : List State) (i : ℕ) (s : State) (before after : Monitor) (first old new : Machinery) where
+module _ (d : Desc) (states : List State) (i : ℕ) (s : State) (before after : Kept) (first old new : Machinery) where
   pub record IsOne : Type 0 where
-    pub desc : desc_of before ≡ d
+    pub desc : before.machine.desc ≡ d
     pub fit : HaveRoom d 2 states
     pub within : i < length states
     pub is : s ≡ get_or states i s
     pub begun : IsBegun 2 (take i states) before old
     pub no_more : HoldsNoMore before
     pub made : old ≡ loaded_from 2 (take i states) first
-    pub admitted : Admits s before after old new
-    pub stands : Stands (desc_of before) new.state after.guests after.current
+    pub admitted : StateTaken s before after old new
+    pub stands : Stands before.machine.desc new.state after.guests after.current
 
   module _ (h : IsOne) where
     next : IsNext (take i states) s before after old new
@@ -125,8 +124,8 @@ module _ (d : Desc) (states : List State) (i : ℕ) (s : State) (before after : 
         ∙ sym (loaded-push 2 (take i states) s first) ∙ ap (λ l. loaded_from 2 l first) more
 
 -- no state is refused for want of room
-pub one-fits : (d : Desc) (states : List State) (i : ℕ) (s : State) (before : Monitor) (h : Machinery) → desc_of before ≡ d → HaveRoom d 2 states → i < length states →
-    s ≡ get_or states i s → IsBegun 2 (take i states) before h → HoldsNoMore before → base_for before (length s.cells) ≡ None → ⊥
+pub one-fits : (d : Desc) (states : List State) (i : ℕ) (s : State) (before : Kept) (h : Machinery) → before.machine.desc ≡ d → HaveRoom d 2 states → i < length states →
+    s ≡ get_or states i s → IsBegun 2 (take i states) before h → HoldsNoMore before → place_for before (length s.cells) ≡ None → ⊥
 one-fits d states i s before h desc fit within is begun no_more none =
     let room = state-room d states i s fit within is in
     let fits = subst (λ (e : Desc). 2 + cells_in (take i states) + length s.cells ≤ e.size) (sym desc) room.1 in

@@ -1,0 +1,5 @@
+pub mod UserLemmas
+pub mod SteppedLemmas
+pub mod TurnedLemmas
+pub mod PlanLemmas
+pub mod TurnRows

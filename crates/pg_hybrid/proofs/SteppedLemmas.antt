@@ -1,0 +1,107 @@
+-- Turns of the guest that the hardware runs from user mode: a burst, and what is interpreted behind it.
+use Rattle.std.proofs.Common.{◌≡◌, ℕ, suc, ◌+◌, Bool, true, false, refl, sym, ◌∙◌, ap, subst, arith}
+use Rattle.pg_word.specs.declared.psw.Mode.TheVariants.{U}
+use Rattle.pg_ast.specs.declared.tree.Desc.{Desc}
+use Rattle.pg_meaning.specs.States.{State}
+use Rattle.pg_meaning.specs.Steps.{step, steps}
+use Rattle.pg_valid.specs.Valid.{IsValid}
+use Rattle.pg_type.specs.Accepting.{IsHybridAccepted}
+use Rattle.pg_hw.specs.declared.counts.Counts.{Counts}
+use Rattle.pg_hw.specs.Tallies.{Bottom, raised_by}
+use Rattle.pg_hw.specs.Machinery.{Machinery}
+use Rattle.pg_hw.specs.Bursts.{untrapped_among, supervisor_among}
+use Rattle.pg_hw.specs.Running.{Ran}
+use Rattle.pg_routine.specs.Granting.{GrantPoked}
+use Rattle.pg_control.specs.declared.guest.Guest.{Guest}
+use Rattle.pg_control.specs.Guests.{virtual}
+use Rattle.pg_control.specs.Direct.{is_direct, direct_among}
+use Rattle.pg_control.specs.Current.{Holds, Runs, with_psw}
+use Rattle.pg_control.specs.Advancing.{Advanced}
+use Rattle.pg_control.proofs.AdvanceLemmas.{Advanced-then, Advanced-direct, Advanced-halted, Advanced-interpreted}
+use Rattle.pg_control.proofs.BurstLemmas.{Halted, Stopped, StopCounts, StopCounts-of}
+use Rattle.pg_control.proofs.DirectLemmas.{IsAlikeIn, user-alike}
+use Rattle.pg_control.proofs.RunLemmas.{Directly}
+use Rattle.pg_hybrid.specs.UserTurns.{user_among, hybrid_among}
+use Rattle.pg_hybrid.specs.Current.{Interpreted, Stepped}
+use Rattle.pg_hybrid.proofs.UserLemmas.{UserRun, UserRun-all, direct-once, trapped-users, trapped-hybrid}
+
+-- a machine that a hybrid monitor may run does the steps of a guest in user mode alike
+pub alike-of : (d : Desc) (g : Guest) → ∥ IsHybridAccepted d ∥₁ → g.psw.mode ≡ U → IsAlikeIn d g.psw.mode
+alike-of d g accepted user = subst (IsAlikeIn d) (sym user) (user-alike d accepted)
+
+-- ---- turns that were direct
+
+pub Stepped-direct : (d : Desc) (n : ℕ) (old new : Machinery) (g h : Guest) → ∥ IsHybridAccepted d ∥₁ → IsValid d → Runs d old.state g → g.psw.mode ≡ U → Directly d n old.state g → Ran d n old new →
+    h ≡ with_psw g (record g.psw { p = new.state.psw.p }) → Stepped d n true old new g h
+Stepped-direct d n old new g h accepted valid runs user run ran guest =
+    let v = virtual old.state.cells g in
+    let all : UserRun d n old.state g = UserRun-all d n old.state g (alike-of d g accepted user) valid runs user run.untrapped in
+    let went = Advanced-direct d n old.state new.state g h run ran.state guest in
+    let loads = ap (λ (c : Counts). c.loads) ran.tally in
+    let pokes = ap (λ (c : Counts). c.pokes) ran.tally in
+    record {
+      advanced = went.0;
+      runs = λ on. went.1;
+      once = λ one. direct-once d g.base v (ap (λ k. direct_among d g.base k v) (sym one) ∙ run.direct ∙ one);
+      tally = record {
+        steps = omega (arith, ap (λ (c : Counts). c.steps) ran.tally, all.users);
+        untrapped = omega (arith, ap (λ (c : Counts). c.untrapped) ran.tally, run.untrapped, all.hybrid);
+        loads = record { at_least = omega (arith, loads); at_most = omega (arith, loads) };
+        pokes = record { at_least = omega (arith, pokes); at_most = omega (arith, pokes) };
+      };
+      loads = loads;
+      users = all.users;
+      bottom = record {
+        steps = omega (arith, ran.bottom.steps, all.users);
+        untrapped = omega (arith, ran.bottom.untrapped.at_least, ran.bottom.untrapped.at_most, run.untrapped, run.supervisor, all.hybrid);
+      };
+    }
+
+-- ---- turns that ended with one that was interpreted
+
+pub Interpreted-of : (d : Desc) (old new : Machinery) (g h : Guest) → IsValid d → Holds d old.state g → GrantPoked g.base (step d (virtual old.state.cells g)).cells 8 old new →
+    h ≡ with_psw g (step d (virtual old.state.cells g)).psw → Interpreted d old new g h
+Interpreted-of d old new g h valid held poked who = record {
+  advanced = Advanced-interpreted d old.state new.state g h valid held poked.state who;
+  psw = ap (λ (x : State). x.psw) poked.state;
+  tally = poked.tally;
+  bottom = poked.bottom;
+}
+
+first-stop : (d : Desc) (n m base : ℕ) (v : State) → n ≡ suc m → is_direct d base (steps d m v) ≡ false → n ≡ 1 → is_direct d base v ≡ false
+unfolding steps
+first-stop d n m base v done turned one =
+    let none : m ≡ 0 = omega (arith, done, one) in ap (λ k. is_direct d base (steps d k v)) (sym none) ∙ turned
+
+pub Stepped-halted : (d : Desc) (n : ℕ) (old between new : Machinery) (g h k : Guest) → ∥ IsHybridAccepted d ∥₁ → IsValid d → Runs d old.state g → g.psw.mode ≡ U →
+    (stopped : Stopped d n old.state g) → Halted d stopped.before old.state between.state g h → Ran d n old between → Interpreted d between new h k → Stepped d n false old new g k
+Stepped-halted d n old between new g h k accepted valid runs user stopped halted ran done =
+    let v = virtual old.state.cells g in
+    let m = stopped.before in
+    let before = stopped.directly in
+    let all : UserRun d m old.state g = UserRun-all d m old.state g (alike-of d g accepted user) valid runs user before.untrapped in
+    let counts : StopCounts d n m old.state g =
+    subst (λ j. StopCounts d j m old.state g) (sym stopped.done) (StopCounts-of d m old.state g before stopped.stops halted.turned) in
+    let users : user_among d n v ≡ n = subst (λ j. user_among d j v ≡ j) (sym stopped.done) (trapped-users d m old.state g all) in
+    let hybrid : hybrid_among d g.base n v ≡ m = ap (λ j. hybrid_among d g.base j v) stopped.done ∙ trapped-hybrid d m old.state g all halted.turned in
+    let steps_on : m + 1 ≡ n = omega (arith, stopped.done) in
+    let loads = done.tally.loads ∙ ap (λ (c : Counts). c.loads) ran.tally in
+    let pokes = ap (λ (c : Counts). c.pokes) ran.tally in
+    record {
+      advanced = subst (λ j. Advanced d j old.state new.state g k) steps_on
+          (Advanced-then d m 1 old.state between.state new.state g h k (Advanced-halted d m old.state between.state g h before halted) done.advanced);
+      runs = λ on. absurd (let wrong : ⊥ = cc in wrong);
+      once = first-stop d n m g.base v stopped.done halted.turned;
+      tally = record {
+        steps = omega (arith, done.tally.steps, ap (λ (c : Counts). c.steps) ran.tally, users);
+        untrapped = omega (arith, done.tally.untrapped, ap (λ (c : Counts). c.untrapped) ran.tally, counts.untrapped, hybrid);
+        loads = record { at_least = omega (arith, loads); at_most = omega (arith, loads) };
+        pokes = record { at_least = omega (arith, done.tally.pokes.at_least, pokes); at_most = omega (arith, done.tally.pokes.at_most, pokes, hybrid, stopped.done) };
+      };
+      loads = loads;
+      users = users;
+      bottom = record {
+        steps = omega (arith, ap (λ (c : Bottom). c.steps) done.bottom, ran.bottom.steps, users);
+        untrapped = omega (arith, ap (λ (c : Bottom). c.untrapped) done.bottom, ran.bottom.untrapped.at_least, ran.bottom.untrapped.at_most, counts.untrapped, counts.supervisor, hybrid);
+      };
+    }

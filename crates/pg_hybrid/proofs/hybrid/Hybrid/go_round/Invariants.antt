@@ -1,0 +1,17 @@
+use Rattle.std.proofs.Common.{◌≡◌, length}
+use Rattle.pg_control.specs.Standing.{Stands}
+use Rattle.pg_control.specs.Schedules.{round_of}
+use Rattle.pg_hybrid.specs.Plans.{HybridFollowed}
+use Rattle.pg_hybrid.proofs.hybrid.Hybrid.go_round.Given as goal
+
+-- the round so far
+abbrev pub invariant-loop-k : goal.invariant-loop-k
+invariant-loop-k g l = record {
+  machine : l.self.accepted.machine.now ≡ l.initial.self.accepted.machine.now;
+  granted : l.self.granted ≡ l.initial.self.granted;
+  stands : Stands l.initial.self.accepted.machine.now.desc (g.H.Hardware.machinery l.hw).state l.self.guests l.self.current;
+  number : length l.self.guests ≡ length l.initial.self.guests;
+  fixed : g.H.Hardware.fixed l.hw ≡ g.H.Hardware.fixed l.initial.hw;
+  followed : HybridFollowed l.initial.self.accepted.machine.now.desc (round_of 0 l.k l.turns) (g.H.Hardware.machinery l.initial.hw) (g.H.Hardware.machinery l.hw)
+      l.initial.self.guests l.self.guests;
+}

@@ -1,0 +1,32 @@
+-- Turns of the guest that is at work: what is interpreted, and what the hardware steps.
+use Rattle.std.specs.Prelude.{◌≡◌, ℕ, Bool, true}
+use Rattle.pg_ast.specs.declared.tree.Desc.{Desc}
+use Rattle.pg_meaning.specs.States.{State}
+use Rattle.pg_hw.specs.Machinery.{Machinery}
+use Rattle.pg_routine.specs.Granting.{PokedWithin}
+use Rattle.pg_control.specs.declared.guest.Guest.{Guest}
+use Rattle.pg_control.specs.Guests.{virtual}
+use Rattle.pg_control.specs.Advancing.{Advanced}
+use Rattle.pg_control.specs.Counting.{BottomTurns}
+use Rattle.pg_control.specs.Current.{Runs}
+use Rattle.pg_control.specs.Direct.{is_direct}
+use Rattle.pg_hybrid.specs.UserTurns.{user_among, hybrid_among}
+use Rattle.pg_hybrid.specs.Turns.{CountsHybrid}
+
+-- a turn that was interpreted: the hardware has made no step, and its PSW is as it was
+pub record Interpreted (d : Desc) (old new : Machinery) (g h : Guest) : Type 0 where
+  pub advanced : Advanced d 1 old.state new.state g h
+  pub psw : new.state.psw ≡ old.state.psw
+  pub tally : PokedWithin 8 old.tally new.tally
+  pub bottom : new.bottom ≡ old.bottom
+
+-- n turns from user mode of the guest that the hardware runs, of which the last one may have trapped
+pub record Stepped (d : Desc) (n : ℕ) (goes_on : Bool) (old new : Machinery) (g h : Guest) : Type 0 where
+  pub advanced : Advanced d n old.state new.state g h
+  -- the hardware runs the guest still
+  pub runs : goes_on ≡ true → Runs d new.state h
+  pub once : n ≡ 1 → is_direct d g.base (virtual old.state.cells g) ≡ goes_on
+  pub tally : CountsHybrid n (user_among d n (virtual old.state.cells g)) (hybrid_among d g.base n (virtual old.state.cells g)) old.tally new.tally
+  pub loads : new.tally.loads ≡ old.tally.loads
+  pub users : user_among d n (virtual old.state.cells g) ≡ n
+  pub bottom : BottomTurns (user_among d n (virtual old.state.cells g)) (hybrid_among d g.base n (virtual old.state.cells g)) old.bottom new.bottom

@@ -1,0 +1,6 @@
+pub mod UserTurns
+pub mod Turns
+pub mod Plans
+pub mod Current
+pub mod Hybrids
+pub mod WorkedTurns
