@@ -1,0 +1,4 @@
+pub mod Places
+pub mod WordLemmas
+pub mod FieldLemmas
+pub mod DecodeLemmas
