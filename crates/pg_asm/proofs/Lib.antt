@@ -2,3 +2,4 @@ pub mod Places
 pub mod WordLemmas
 pub mod FieldLemmas
 pub mod DecodeLemmas
+pub mod LineLemmas

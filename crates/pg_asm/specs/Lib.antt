@@ -1,2 +1,4 @@
 pub mod Words
 pub mod Said
+pub mod Lines
+pub mod Sources

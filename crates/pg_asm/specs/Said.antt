@@ -1,9 +1,7 @@
 -- What the lines of a source say, each by its parts.
-use Rattle.std.specs.Prelude.{ℕ, ◌-◌, Bool, ◌&&◌, ◌==◌, nat_le, if◌then◌else◌, List, [], ◌∷◌, length, take, slice_index, codes, bytes_eq, Option, None, Some}
-use Rattle.std.specs.List.{list_all}
+use Rattle.std.specs.Prelude.{ℕ, ◌-◌, Bool, ◌&&◌, ◌==◌, nat_le, if◌then◌else◌, List, [], ◌∷◌, length, take, drop, slice_index, codes, bytes_eq, Option, None, Some}
 use Rattle.std.specs.Option.{option_map}
-use Rattle.std.specs.Str.Parse.{digits_value}
-use Rattle.pg_token.specs.Words.{is_digit, is_name}
+use Rattle.pg_token.specs.Words.{is_name}
 use Rattle.pg_text.specs.Cutting.{dec_number}
 use Rattle.pg_text.specs.Printing.{hex_word_of}
 use Rattle.pg_valid.specs.Overlaps.{is_field_letter}
@@ -36,12 +34,14 @@ most_place_digits = 7
 abbrev pub value_said : List ℕ → Option Value
 value_said text = elim (dec_number text) [ Some v ↦ Some (Number v) | None ↦ if is_name text then Some (Named text) else None ]
 
+-- a part that begins with a letter from 'a' to 'z' and '='
+abbrev pub begins_operand : List ℕ → Bool
+begins_operand part = nat_le 2 (length part) && is_field_letter (slice_index part 0) && (slice_index part 1 == 61)
+
 -- `f=V`
 abbrev pub operand_said : List ℕ → Option Operand
-operand_said [] = None
-operand_said (f ∷ []) = None
-operand_said (f ∷ e ∷ text) =
-    if is_field_letter f && (e == 61) then option_map (λ v. record { letter = f; value = v }) (value_said text) else None
+operand_said part =
+    if begins_operand part then option_map (λ v. record { letter = slice_index part 0; value = v }) (value_said (drop 2 part)) else None
 
 -- one more in front
 abbrev pub in_front : {X : Type 0} → Option X → Option (List X) → Option (List X)
@@ -56,25 +56,23 @@ operands_said (part ∷ parts) = in_front (operand_said part) (operands_said par
 
 -- ---- lines
 
--- `@N`
-abbrev pub at_said : List ℕ → Option Said
-at_said digits =
-    if nat_le 1 (length digits) && nat_le (length digits) most_place_digits && list_all is_digit digits then Some (At (digits_value 10 digits)) else None
+-- behind `@`: from 1 to 7 decimal digits
+abbrev pub place_said : List ℕ → Option ℕ
+place_said digits = if nat_le (length digits) most_place_digits then dec_number digits else None
 
 -- `NAME:`
-abbrev pub label_said : List ℕ → Option Said
+abbrev pub label_said : List ℕ → Option (List ℕ)
 label_said part =
-    if (slice_index part (length part - 1) == 58) && is_name (take (length part - 1) part) then Some (Label (take (length part - 1) part)) else None
+    if (slice_index part (length part - 1) == 58) && is_name (take (length part - 1) part) then Some (take (length part - 1) part) else None
 
 -- a place or a label
 abbrev pub mark_said : List ℕ → Option Said
 mark_said [] = None
-mark_said (c ∷ cs) = if c == 64 then at_said cs else label_said (c ∷ cs)
+mark_said (c ∷ cs) = if c == 64 then option_map At (place_said cs) else option_map Label (label_said (c ∷ cs))
 
 -- a line of one part alone
 abbrev pub alone : List (List ℕ) → Option Said → Option Said
-alone [] said = said
-alone (part ∷ parts) said = None
+alone behind said = if length behind == 0 then said else None
 
 -- what stands behind `word`: one part
 abbrev pub word_said : ℕ → List (List ℕ) → Option Said
