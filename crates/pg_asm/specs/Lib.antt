@@ -2,3 +2,4 @@ pub mod Words
 pub mod Said
 pub mod Lines
 pub mod Sources
+pub mod Passes

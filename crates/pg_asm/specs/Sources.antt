@@ -101,6 +101,13 @@ unfoldable pub numbers_of : Labels → List Operand → Option (List ℕ)
 numbers_of labels [] = Some []
 numbers_of labels (o ∷ os) = in_front (number_of labels o.value) (numbers_of labels os)
 
+-- the operands are for these fields, each once, in this order
+unfoldable pub same_letters : List LetterField → List Operand → Bool
+same_letters [] [] = true
+same_letters [] (o ∷ os) = false
+same_letters (f ∷ fs) [] = false
+same_letters (f ∷ fs) (o ∷ os) = (f.letter == o.letter) && same_letters fs os
+
 -- the word of a pattern and these values on line n, or what is wrong with them
 abbrev pub fitted : ℕ → List ℕ → Option (List ℕ) → Result ℕ AsmFault
 fitted n pattern None = Err (LabelFault n)
@@ -109,8 +116,7 @@ fitted n pattern (Some values) = if fit (fields_of pattern) values then Ok (word
 -- the operands have to be for the pattern's fields, each once, from the highest
 abbrev pub encoded : Labels → ℕ → List ℕ → List Operand → Result ℕ AsmFault
 encoded labels n pattern operands =
-    if bytes_eq (map (λ (o : Operand). o.letter) operands) (map (λ (f : LetterField). f.letter) (fields_of pattern)) then fitted n pattern (numbers_of labels operands)
-    else Err (Field n)
+    if same_letters (fields_of pattern) operands then fitted n pattern (numbers_of labels operands) else Err (Field n)
 
 -- the word of an instruction on line n, or what is wrong with it: Name, Field, Label, Range
 abbrev pub instr_word : Desc → Labels → ℕ → List ℕ → List Operand → Result ℕ AsmFault

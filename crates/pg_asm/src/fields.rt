@@ -59,6 +59,7 @@ pub fn first_place(places: &[u8]) -> Option<(u8, &[u8])>
 pub fn fields_of(pattern: &[u8]) -> FieldList
     requires { length pattern.now ≤ 64 }
     ensures fields { result.items ≡ fields_of pattern.now }
+    ensures few { length result.items ≤ 64 }
     ensures low { All (λ field. field.low < 64) result.items }
 {
     let mut fields = ArrayVec::new();

@@ -28,3 +28,6 @@ pub returns-clause-low : goal.returns-clause-low
 returns-clause-low c =
     let all = fields-end c.loop-byte.fields.items c.loop-byte.before c.loop-byte.left.now _ c.in_default.ensures c.loop-byte.invariant.so_far in
     subst (All (λ (f : LetterField). f.low < 64)) (sym all) (fields-low 0 c.args.pattern.now 64 c.requires)
+
+pub returns-clause-few : goal.returns-clause-few
+returns-clause-few c = omega (arith, c.loop-byte.invariant.room)
