@@ -1,0 +1,5 @@
+pub mod Words
+pub mod Said
+pub mod Lines
+pub mod Sources
+pub mod Passes

@@ -1,0 +1,37 @@
+//! What follows from the definitions alone, for those who read them: none of it does anything when it runs.
+
+ghost use Rattle.std.specs.Prelude.{◌≡◌, ℕ, ◌<◌, List, length, true, Some, slice_get};
+ghost use Rattle.pg_ast.specs.declared.tree.Instr.{Instr as Instrs};
+ghost use Rattle.pg_meaning.specs.Patterns.{matches};
+ghost use Rattle.pg_valid.specs.Valid.{IsValid};
+ghost use Rattle.pg_asm.specs.Words.{IsWordOf, kept_bits, word_by, fields_of, fit, pattern_of, decoded};
+
+use pg_ast::Desc;
+
+/// There is at most one word of a pattern and values.
+pub fn one_word()
+    ensures { (pattern values : List ℕ) (x y : ℕ) → IsWordOf pattern values x → IsWordOf pattern values y → x ≡ y }
+{}
+
+/// Where the values fit the fields there is one.
+pub fn fitting_values_have_a_word()
+    ensures { (pattern values : List ℕ) → fit (fields_of pattern) values ≡ true → IsWordOf pattern values (word_by pattern values) }
+{}
+
+/// The word of an instruction and values is decoded to that instruction and these values.
+pub fn words_of_decode(desc: &Desc)
+    requires { IsValid desc.now }
+    ensures { (number word : ℕ) (i : Instrs) (values : List ℕ) → slice_get desc.now.instrs number ≡ Some i → IsWordOf i.pattern.bytes values word →
+        decoded desc.now.instrs word ≡ Some (number, values) }
+{}
+
+/// The instruction that a word is decoded to matches it. The values fit its fields, and their word is that word, but for free places.
+pub fn decoded_words_are_words_of(desc: &Desc)
+    ensures there { (word number : ℕ) (values : List ℕ) → decoded desc.now.instrs word ≡ Some (number, values) → number < length desc.now.instrs }
+    ensures matched { (word number : ℕ) (values : List ℕ) → decoded desc.now.instrs word ≡ Some (number, values) →
+        matches (pattern_of desc.now.instrs number) word ≡ true }
+    ensures fit { (word number : ℕ) (values : List ℕ) → decoded desc.now.instrs word ≡ Some (number, values) →
+        fit (fields_of (pattern_of desc.now.instrs number)) values ≡ true }
+    ensures again { (word number : ℕ) (values : List ℕ) → decoded desc.now.instrs word ≡ Some (number, values) →
+        word_by (pattern_of desc.now.instrs number) values ≡ kept_bits (pattern_of desc.now.instrs number) word }
+{}
