@@ -68,7 +68,7 @@ impl Reader {
     /// A line that no certificate has.
     #[tactic(auto, unfolding(crate::specs::Reading::after_own))]
     fn with_own(self, alloc: Global, line: u32, bytes: &[u8]) -> Result<Reader, SavedFault>
-        ensures { IsNext (after_own line (reader_of self.entry) bytes.now) result }
+        ensures { IsNext (after_own line (reader_of self) bytes.now) result }
     {
         match self {
             Reader::Fresh => read_first(alloc, line, bytes),
@@ -82,7 +82,7 @@ impl Reader {
 
     /// The size of the state.
     fn with_size(self, line: u32, size: u32) -> Result<Reader, SavedFault>
-        ensures { IsNext (with_size line size (reader_of self.entry)) result }
+        ensures { IsNext (with_size line size (reader_of self)) result }
     {
         match self {
             Reader::Counted(steps) => Ok(Reader::Sized(steps, size)),
@@ -96,7 +96,7 @@ impl Reader {
 
     /// Its program status word.
     fn with_psw(self, alloc: Global, line: u32, psw: Psw) -> Result<Reader, SavedFault>
-        ensures { IsNext (with_psw line psw (reader_of self.entry)) result }
+        ensures { IsNext (with_psw line psw (reader_of self)) result }
     {
         match self {
             Reader::Sized(steps, size) => Ok(Reader::Drawing(steps, drawn(alloc, size, psw))),
@@ -110,7 +110,7 @@ impl Reader {
 
     /// A row of its cells. `Memory` where memory ran out.
     fn with_cells(self, line: u32, first: u32, words: &[u64]) -> Result<Reader, SavedFault>
-        ensures { IsNext (with_cells line first words.now (reader_of self.entry)) result }
+        ensures { IsNext (with_cells line first words.now (reader_of self)) result }
     {
         match self {
             Reader::Drawing(steps, state) => match with_row(state, first, words) {
@@ -128,7 +128,7 @@ impl Reader {
 
     /// The last line.
     fn with_end(self, line: u32) -> Result<Reader, SavedFault>
-        ensures { IsNext (with_end line (reader_of self.entry)) result }
+        ensures { IsNext (with_end line (reader_of self)) result }
     {
         match self {
             Reader::Drawing(steps, state) => Ok(Reader::Over(steps, state)),
@@ -143,7 +143,7 @@ impl Reader {
     /// A line, by what it says.
     #[tactic(auto, unfolding(crate::specs::Reading::after_form))]
     fn with_form(self, alloc: Global, line: u32, form: &Line) -> Result<Reader, SavedFault>
-        ensures { IsNext (after_form line (reader_of self.entry) form.now) result }
+        ensures { IsNext (after_form line (reader_of self) form.now) result }
     {
         match form {
             Line::Size(size) => self.with_size(line, *size),
@@ -168,7 +168,7 @@ impl Reader {
         bytes: &[u8],
     ) -> Result<Reader, SavedFault>
         requires { IsShape shape.now }
-        ensures { IsNext (after_saved_line shape.now line (reader_of self.entry) bytes.now) result }
+        ensures { IsNext (after_saved_line shape.now line (reader_of self) bytes.now) result }
     {
         match parse_line(alloc, shape, bytes) {
             Ok(form) => self.with_form(alloc, line, &form),
@@ -181,7 +181,7 @@ impl Reader {
 
     /// No line comes any more: what the text says, or that the line of this number is missing.
     pub(crate) fn finish(self, line: u32) -> Result<Saved, SavedFault>
-        ensures { IsAnswer (finished line (reader_of self.entry)) result }
+        ensures { IsAnswer (finished line (reader_of self)) result }
     {
         match self {
             Reader::Over(steps, state) => Ok(Saved { steps, state }),
