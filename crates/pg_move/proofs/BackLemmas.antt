@@ -1,6 +1,6 @@
 -- The text of what is saved is read back, and is within its room.
 use Rattle.std.proofs.Common.{◌≡◌, ◌≢◌, ℕ, zero, suc, ◌+◌, ◌-◌, ◌*◌, ◌/◌, ◌<◌, ◌≤◌, ◌^◌, Bool, true, false, if◌then◌else◌, List, [], ◌∷◌, ◌++◌, length, take, drop, map, get_or, Option, None, Some, Result, Ok, Err, All, refl, sym, ap, subst, ◌∙◌, arith, lit<, append-nil, append_assoc, length-append, eq-eqb}
-use Rattle.std.specs.Prelude.{◌==◌, ◌&&◌, ◌||◌, bytes_eq, nat_lt, not, ⊥, codes}
+use Rattle.std.specs.Prelude.{◌==◌, ◌&&◌, ◌||◌, bytes_eq, nat_lt, not, codes}
 use Rattle.std.specs.List.{list_any, list_all, slice_split, join_with_byte}
 use Rattle.std.specs.Fmt.{decimal}
 use Rattle.std.proofs.lemmas.Bool.{and_from, and_parts, le-ltb}
@@ -22,7 +22,7 @@ use Rattle.pg_cert.specs.declared.line.Heading.TheVariants.{HybridOne}
 use Rattle.pg_cert.specs.declared.line.Line.{Line}
 use Rattle.pg_cert.specs.declared.line.Line.TheVariants as line
 use Rattle.pg_cert.specs.Lines.{line_parts, line_text, is_line, IsLine}
-use Rattle.pg_cert.specs.Reading.{read_number, read_parts, but_last, last_byte, part_at}
+use Rattle.pg_cert.specs.Reading.{then_read as read_then, read_number, read_parts, but_last, last_byte, part_at}
 use Rattle.pg_cert.specs.Parsing.{Said, Says, NoToken, NoForm, OtherVersion, is_foreign, before_end, parts_of, family_word, is_decimal, is_first, said_of_no_line, said_of_read, said}
 use Rattle.pg_cert.specs.Texts.{row_lines, rows_before, state_lines, lines_text}
 use Rattle.pg_cert.proofs.Spelled.{list_all-implied, decimal_is_digits, read_number-decimal}
@@ -141,7 +141,7 @@ module _ (shape : Shape) (k : ℕ) (most : k ≤ most_steps) where
       ∙ ap (λ ps. said_of_read shape (steps_body ++ 10 ∷ []) (read_parts shape.w ps)) steps_parts
       ∙ by (bytes_eq (decimal k) (codes "1"))
     where
-      by : (b : Bool) → said_of_read shape (steps_body ++ 10 ∷ []) (if b then Some (line.First HybridOne) else None) ≡ NoForm
+      by : (b : Bool) → said_of_read shape (steps_body ++ 10 ∷ []) (read_then (if b then Some HybridOne else None) (λ heading. Some (line.First heading))) ≡ NoForm
       by true = no_form
       by false = no_form
 
