@@ -3,4 +3,7 @@ mod ReadLemmas
 mod RangeLemmas
 mod StorageLemmas
 pub mod SpellLemmas
-pub mod BackLemmas
+mod BackLemmas
+mod RoomLemmas
+mod PutLemmas
+mod CaptureLemmas

@@ -1,13 +1,15 @@
 -- How far the lines of a text have been read.
-use Rattle.std.proofs.Common.{◌≡◌, ℕ, suc, ◌+◌, ◌≤◌, Bool, true, List, [], ◌∷◌, length, Result, Ok, Err, refl, sym, ap, subst, ◌∙◌, arith}
-use Rattle.std.specs.Prelude.{◌==◌}
-use Rattle.std.proofs.lemmas.Bool.{eqb-true}
+use Rattle.std.proofs.Common.{◌≡◌, ℕ, suc, ◌+◌, ◌≤◌, Bool, true, if◌then◌else◌, List, [], ◌∷◌, length, Result, Ok, Err, refl, sym, ap, subst, ◌∙◌, arith}
+use Rattle.std.specs.Prelude.{◌==◌, nat_lt, IfOk}
+use Rattle.std.proofs.lemmas.Bool.{eqb-true, le-ltb}
 use Rattle.pg_word.specs.declared.shape.Shape.{Shape}
 use Rattle.pg_move.specs.declared.fault.SavedFault.{SavedFault}
+use Rattle.pg_move.specs.declared.fault.SavedFault.TheVariants as fault
 use Rattle.pg_move.specs.declared.saved.Saved.{Saved}
-use Rattle.pg_move.specs.Texts.{SavedGuest}
-use Rattle.pg_move.specs.Reading.{SavedReader, Fresh, cut_lines, after_saved_line, then_read, finished, read_lines}
-use Rattle.pg_move.specs.Seen.{IsAnswer}
+use Rattle.pg_move.specs.Texts.{IsSaved, most_bytes}
+use Rattle.pg_move.specs.Reading.{SavedReader, Fresh, cut_lines, after_saved_line, then_read, finished, read_lines, saved_due}
+use Rattle.pg_move.specs.Seen.{guest_of, IsAnswer}
+use Rattle.pg_move.proofs.SpellLemmas.{texts_spelled}
 
 -- what is left of a text, behind the lines before this number, says what the whole text does
 pub record IsReadSoFar (shape : Shape) (bytes left : List ℕ) (n : ℕ) (r : SavedReader) : Type 0 where
@@ -48,3 +50,13 @@ read_over shape bytes left n r result none h a =
 pub none_left : (left : List ℕ) (b : Bool) → b ≡ (length left == 0) → b ≡ true → left ≡ []
 none_left [] b e f = refl
 none_left (c ∷ cs) b e f = absurd (omega (arith, eqb-true (length (c ∷ cs)) 0 (sym e ∙ f)))
+
+-- what is answered is in range
+pub read_in_range : (shape : Shape) (bytes : List ℕ) (r : Result Saved SavedFault) → length bytes ≤ most_bytes →
+    IsAnswer (read_lines shape 1 Fresh (cut_lines bytes)) r → IfOk r (λ saved. IsSaved shape (guest_of saved))
+unfolding saved_due
+read_in_range shape bytes (Ok saved) l h =
+    let due : saved_due shape bytes ≡ Ok (guest_of saved) =
+    ap (λ (b : Bool). if b then Err fault.Long else read_lines shape 1 Fresh (cut_lines bytes)) (le-ltb most_bytes (length bytes) l) ∙ h in
+    (texts_spelled shape bytes (guest_of saved) due).0
+read_in_range shape bytes (Err f) l h = tt

@@ -14,11 +14,18 @@
 #![tactic(auto)]
 
 mod fault;
+pub mod laws;
 mod lines;
+mod moving;
+mod putting;
 mod reader;
 mod reading;
 mod saved;
+mod writing;
 
 pub use fault::SavedFault;
+pub use moving::{adopt, capture};
+pub use putting::put_saved;
 pub use reading::{SAVED_BYTES, read_saved};
 pub use saved::{MOST_STEPS, Saved};
+pub use writing::{saved_room, write_saved};

@@ -1,10 +1,10 @@
 //! Whole texts that are read.
 
-ghost use Rattle.std.specs.Prelude.{◌≡◌, ◌+◌, ◌≤◌, ◌<◌, ◌∷◌, ◌≢◌, [], length};
+ghost use Rattle.std.specs.Prelude.{◌≡◌, ◌+◌, ◌≤◌, ◌<◌, ◌∷◌, ◌≢◌, [], length, IfOk};
 ghost use Rattle.pg_word.specs.Shape.{IsShape};
-ghost use Rattle.pg_move.specs.Texts.{most_bytes};
+ghost use Rattle.pg_move.specs.Texts.{IsSaved, most_bytes};
 ghost use Rattle.pg_move.specs.Reading.{cut_lines, Fresh, read_lines, saved_due};
-ghost use Rattle.pg_move.specs.Seen.{IsAnswer};
+ghost use Rattle.pg_move.specs.Seen.{guest_of, IsAnswer};
 
 use crate::fault::SavedFault;
 use crate::reader::Reader;
@@ -61,7 +61,8 @@ fn read_lines(alloc: Global, shape: &Shape, bytes: &[u8]) -> Result<Saved, Saved
 #[tactic(auto, unfolding(crate::specs::Reading::saved_due))]
 pub fn read_saved(alloc: Global, shape: &Shape, bytes: &[u8]) -> Result<Saved, SavedFault>
     requires { IsShape shape.now }
-    ensures { IsAnswer (saved_due shape.now bytes.now) result }
+    ensures answer { IsAnswer (saved_due shape.now bytes.now) result }
+    ensures saved { IfOk result (λ saved. IsSaved shape.now (guest_of saved)) }
 {
     if bytes.len() > SAVED_BYTES {
         return Err(SavedFault::Long);
