@@ -1,9 +1,9 @@
 -- The text of what is saved is read back, and is within its room.
-use Rattle.std.proofs.Common.{◌≡◌, ◌≢◌, ℕ, zero, suc, ◌+◌, ◌-◌, ◌*◌, ◌/◌, ◌<◌, ◌≤◌, ◌^◌, Bool, true, false, if◌then◌else◌, List, [], ◌∷◌, ◌++◌, length, take, drop, map, get_or, Option, None, Some, Result, Ok, Err, All, refl, sym, ap, subst, ◌∙◌, arith, lit<, append-nil, append_assoc, length-append, eq-eqb}
-use Rattle.std.specs.Prelude.{◌==◌, ◌&&◌, ◌||◌, bytes_eq, nat_lt, not, codes}
-use Rattle.std.specs.List.{list_any, list_all, slice_split, join_with_byte}
+use Rattle.std.proofs.Common.{◌≡◌, ◌≢◌, ℕ, zero, suc, ◌+◌, ◌-◌, ◌*◌, ◌<◌, ◌≤◌, ◌^◌, Bool, true, false, if◌then◌else◌, List, [], ◌∷◌, ◌++◌, length, drop, None, Some, Result, Ok, Err, All, refl, sym, ap, subst, ◌∙◌, arith, append-nil, append_assoc, length-append, eq-eqb}
+use Rattle.std.specs.Prelude.{◌==◌, ◌&&◌, ◌||◌, bytes_eq, not, codes}
+use Rattle.std.specs.List.{list_any, list_all, slice_split}
 use Rattle.std.specs.Fmt.{decimal}
-use Rattle.std.proofs.lemmas.Bool.{and_from, and_parts, le-ltb}
+use Rattle.std.proofs.lemmas.Bool.{and_from, and_parts}
 use Rattle.std.proofs.lemmas.Bool.Decides.{nat_tests}
 use Rattle.std.proofs.lemmas.List.{get_or_push}
 use Rattle.std.proofs.lemmas.List.Elements.{All-nil, All-cons, All-head, All-tail, All-append}
@@ -14,7 +14,6 @@ use Rattle.pg_word.specs.Shape.{IsShape}
 use Rattle.pg_word.specs.Sparse.{storage_of}
 use Rattle.pg_word.proofs.SparseLemmas.{length-storage_of}
 use Rattle.pg_token.specs.Words.{is_digit}
-use Rattle.pg_meaning.specs.States.{State}
 use Rattle.pg_image.specs.Lines.{line_words, line_count, state_text}
 use Rattle.pg_cert.specs.declared.cert.Family.{Family}
 use Rattle.pg_cert.specs.declared.cert.Family.TheVariants.{Plain, Hybrid}
@@ -23,20 +22,20 @@ use Rattle.pg_cert.specs.declared.line.Line.{Line}
 use Rattle.pg_cert.specs.declared.line.Line.TheVariants as line
 use Rattle.pg_cert.specs.Lines.{line_parts, line_text, is_line, IsLine}
 use Rattle.pg_cert.specs.Reading.{then_read as read_then, read_number, read_parts, but_last, last_byte, part_at}
-use Rattle.pg_cert.specs.Parsing.{Said, Says, NoToken, NoForm, OtherVersion, is_foreign, before_end, parts_of, family_word, is_decimal, is_first, said_of_no_line, said_of_read, said}
-use Rattle.pg_cert.specs.Texts.{row_lines, rows_before, state_lines, lines_text}
+use Rattle.pg_cert.specs.Parsing.{NoToken, NoForm, OtherVersion, is_foreign, before_end, parts_of, family_word, is_decimal, is_first, said_of_no_line, said_of_read, said}
+use Rattle.pg_cert.specs.Texts.{row_lines, rows_before, lines_text}
 use Rattle.pg_cert.proofs.Spelled.{list_all-implied, decimal_is_digits, read_number-decimal}
 use Rattle.pg_cert.proofs.OneText.{is_graphic, graphic, split_joined, but_last-push}
 use Rattle.pg_cert.proofs.Said.{said-line, text_ends, ends_once}
 use Rattle.pg_cert.proofs.StateText.{lines_of_state}
 use Rattle.pg_cert.proofs.TextLemmas.{lines_text-append}
-use Rattle.pg_drawn.specs.Drawn.{Drawn, drawn, listed, with_row, state_of}
+use Rattle.pg_drawn.specs.Drawn.{Drawn, drawn, listed, state_of}
 use Rattle.pg_drawn.proofs.RowsBack.{cells_before, cells_again, zeros_passed, rows_drawn, row_drawn}
 use Rattle.pg_drawn.proofs.DrawnLines.{sparse_of, drawn_lines}
 use Rattle.pg_move.specs.declared.fault.SavedFault.{SavedFault}
 use Rattle.pg_move.specs.declared.fault.SavedFault.TheVariants as fault
-use Rattle.pg_move.specs.Texts.{SavedGuest, IsSaved, most_steps, most_bytes, first_text, steps_text, end_text, saved_text}
-use Rattle.pg_move.specs.Reading.{SavedReader, Fresh, Begun, Counted, Sized, Drawing, Over, cut_lines, number_of_steps, steps_counted, after_own, drawn_on, after_form, after_said, after_saved_line, then_read, finished, read_lines, saved_due}
+use Rattle.pg_move.specs.Texts.{SavedGuest, IsSaved, most_steps, first_text, steps_text, end_text, saved_text}
+use Rattle.pg_move.specs.Reading.{SavedReader, Fresh, Begun, Counted, Drawing, Over, cut_lines, number_of_steps, steps_counted, after_own, drawn_on, after_form, after_said, after_saved_line, then_read, read_lines}
 use Rattle.pg_move.proofs.CutLemmas.{line_cut}
 use Rattle.pg_move.proofs.RangeLemmas.{size_in_range, psw_in_range, rows_in_range, size_small}
 use Rattle.pg_move.proofs.StorageLemmas.{listed_all, listed_within, listed_again}

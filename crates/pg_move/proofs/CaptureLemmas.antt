@@ -1,5 +1,5 @@
 -- The cells of a guest, listed one after another.
-use Rattle.std.proofs.Common.{◌≡◌, ◌≢◌, ℕ, zero, suc, ◌+◌, ◌-◌, ◌<◌, ◌≤◌, Bool, true, false, if◌then◌else◌, List, [], ◌∷◌, ◌++◌, length, take, drop, get_or, Some, All, refl, sym, ap, subst, ◌∙◌, arith, append-nil, length-drop}
+use Rattle.std.proofs.Common.{◌≡◌, ◌≢◌, ℕ, suc, ◌+◌, ◌<◌, ◌≤◌, Bool, true, false, if◌then◌else◌, List, [], ◌∷◌, ◌++◌, length, take, drop, get_or, Option, Some, All, sym, ap, subst, ◌∙◌, arith, append-nil, length-drop}
 use Rattle.std.specs.Prelude.{◌==◌, slice_get}
 use Rattle.std.proofs.lemmas.Bool.{eq-eqb, ne_eqb}
 use Rattle.std.proofs.lemmas.List.{take_more, take_all, length-take, length-take-le, get_or-take, get_or-drop}
@@ -7,8 +7,14 @@ use Rattle.std.proofs.lemmas.Option.{get_or_from_slice_get}
 use Rattle.pg_word.specs.declared.psw.Psw.{Psw}
 use Rattle.pg_word.specs.declared.sparse.Sparse.{Sparse}
 use Rattle.pg_word.specs.Sparse.{IsPastLast, storage_of}
-use Rattle.pg_meaning.specs.States.{State}
+use Rattle.pg_meaning.specs.States.{State, shape_of}
 use Rattle.pg_type.specs.Listed.{state_of}
+use Rattle.pg_ast.specs.declared.tree.Desc.{Desc}
+use Rattle.pg_control.specs.declared.guest.Guest.{Guest}
+use Rattle.pg_control.specs.Guests.{virtual}
+use Rattle.pg_control.specs.Standing.{Stands}
+use Rattle.pg_control.proofs.GuestLemmas.{Holds-of}
+use Rattle.pg_move.specs.Texts.{most_steps, IsSaved}
 use Rattle.pg_drawn.specs.Drawn.{listed}
 use Rattle.pg_drawn.proofs.RowLemmas.{listed_until}
 use Rattle.pg_move.proofs.StorageLemmas.{listed_again}
@@ -94,3 +100,17 @@ module _ (held : List ℕ) (base size : ℕ) (psw : Psw) (within : base + size �
       let words : storage_of state.size state.cells ≡ storage =
       ap (λ cs. storage_of state.size cs) cells ∙ ap (λ k. storage_of k (listed 0 storage)) (h.size_is ∙ sym n) ∙ listed_again storage in
       ap (λ (cs : List ℕ). record { cells = cs; psw = state.psw }) words ∙ ap (λ (x : Psw). record { cells = storage; psw = x }) h.psw_is
+
+-- what is captured of a guest is in range
+pub captured-saved : (d : Desc) (real : State) (gs : List Guest) (current : Option ℕ) (k : ℕ) (g : Guest) (steps : ℕ) (s : State) →
+    Stands d real gs current → slice_get gs k ≡ Some g → steps ≤ most_steps → s ≡ virtual real.cells g →
+    IsSaved (shape_of d) (record { steps = steps; state = s })
+captured-saved d real gs current k g steps s stands e most same =
+    let state = (Holds-of d real gs current k g stands e).virtual_state in
+    subst (λ x. IsSaved (shape_of d) (record { steps = steps; state = x })) (sym same) (record {
+      steps = most;
+      least = state.size_least;
+      most = state.size_most;
+      words = state.words;
+      fields = state.fields;
+    })

@@ -1,5 +1,5 @@
 -- The lines of a state whose numbers and words are in range.
-use Rattle.std.proofs.Common.{◌≡◌, ℕ, zero, suc, ◌-◌, ◌*◌, ◌%◌, ◌^◌, ◌<◌, ◌≤◌, min, Bool, true, false, not, if◌then◌else◌, List, [], ◌∷◌, ◌++◌, length, take, drop, All, refl, ap, ◌∙◌, lit<, arith, length-drop, eq-eqb}
+use Rattle.std.proofs.Common.{◌≡◌, ℕ, zero, suc, ◌-◌, ◌*◌, ◌%◌, ◌^◌, ◌<◌, ◌≤◌, min, Bool, true, false, not, if◌then◌else◌, List, [], ◌∷◌, length, drop, All, refl, lit<, arith, length-drop, eq-eqb}
 use Rattle.std.specs.Prelude.{◌==◌, ◌&&◌, ◌||◌, nat_lt, nat_le}
 use Rattle.std.specs.List.{list_any, list_all}
 use Rattle.std.proofs.Math.Nat.{pow-le-pow_right}
@@ -12,7 +12,6 @@ use Rattle.pg_word.specs.declared.psw.Psw.{Psw as Psws}
 use Rattle.pg_word.specs.Shape.{IsShape}
 use Rattle.pg_word.specs.Psw.{IsPsw}
 use Rattle.pg_image.specs.Lines.{line_cells, line_words, line_count}
-use Rattle.pg_cert.specs.declared.line.Line.{Line}
 use Rattle.pg_cert.specs.declared.line.Line.TheVariants.{Size, Psw, Cells}
 use Rattle.pg_cert.specs.Lines.{most_number, is_line, IsLine}
 use Rattle.pg_cert.specs.Texts.{row_lines, rows_before}

@@ -1,6 +1,6 @@
 -- How far the lines of a text have been read.
 use Rattle.std.proofs.Common.{◌≡◌, ℕ, suc, ◌+◌, ◌≤◌, Bool, true, if◌then◌else◌, List, [], ◌∷◌, length, Result, Ok, Err, refl, sym, ap, subst, ◌∙◌, arith}
-use Rattle.std.specs.Prelude.{◌==◌, nat_lt, IfOk}
+use Rattle.std.specs.Prelude.{◌==◌, IfOk}
 use Rattle.std.proofs.lemmas.Bool.{eqb-true, le-ltb}
 use Rattle.pg_word.specs.declared.shape.Shape.{Shape}
 use Rattle.pg_move.specs.declared.fault.SavedFault.{SavedFault}

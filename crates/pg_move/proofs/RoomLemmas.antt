@@ -1,6 +1,6 @@
 -- How long texts are: each is within its room, and so within what is read.
-use Rattle.std.proofs.Common.{◌≡◌, ℕ, zero, suc, ◌+◌, ◌*◌, ◌/◌, ◌%◌, ◌<◌, ◌≤◌, ◌^◌, Bool, true, false, if◌then◌else◌, List, [], ◌∷◌, ◌++◌, length, take, drop, Ok, Err, ap, ◌∙◌, lit<, arith, length-append}
-use Rattle.std.specs.Prelude.{◌==◌, nat_lt, codes}
+use Rattle.std.proofs.Common.{◌≡◌, ℕ, zero, suc, ◌+◌, ◌*◌, ◌/◌, ◌%◌, ◌<◌, ◌≤◌, ◌^◌, Bool, true, false, if◌then◌else◌, List, [], ◌∷◌, ◌++◌, length, drop, Ok, Err, ap, ◌∙◌, lit<, arith, length-append}
+use Rattle.std.specs.Prelude.{◌==◌, codes}
 use Rattle.std.specs.List.{list_all}
 use Rattle.std.specs.Fmt.{decimal}
 use Rattle.std.proofs.Math.Nat.{mul-le-mul, mul-le-mul_right, mul-suc, pow-le-pow_right}
@@ -14,7 +14,7 @@ use Rattle.pg_word.specs.Psw.{IsPsw}
 use Rattle.pg_image.specs.Lines.{size_text, psw_text, cells_text, cells_shown, line_cells, line_words, line_count, lines_before, state_text}
 use Rattle.pg_image.proofs.Lengths.{length-size_text, length-psw_text, length-cells_text}
 use Rattle.pg_move.specs.declared.fault.SavedFault.TheVariants as fault
-use Rattle.pg_move.specs.Texts.{SavedGuest, IsSaved, most_steps, most_bytes, first_text, steps_text, end_text, saved_text, row_room, room_of}
+use Rattle.pg_move.specs.Texts.{SavedGuest, IsSaved, most_bytes, first_text, steps_text, end_text, saved_text, row_room, room_of}
 use Rattle.pg_move.specs.Reading.{Fresh, cut_lines, read_lines, saved_due}
 use Rattle.pg_move.proofs.RangeLemmas.{size_small}
 use Rattle.pg_move.proofs.BackLemmas.{text_back}

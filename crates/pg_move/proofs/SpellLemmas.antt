@@ -1,5 +1,5 @@
 -- Bytes that are not refused are the text of what they say, which is in range.
-use Rattle.std.proofs.Common.{◌≡◌, ◌≢◌, ℕ, suc, ◌^◌, ◌<◌, ◌≤◌, Bool, true, false, if◌then◌else◌, List, [], ◌∷◌, ◌++◌, length, Option, None, Some, Result, Ok, Err, All, refl, sym, ap, subst, ◌∙◌, arith, append-nil, append_assoc}
+use Rattle.std.proofs.Common.{◌≡◌, ℕ, suc, ◌^◌, ◌<◌, ◌≤◌, Bool, true, false, if◌then◌else◌, List, [], ◌∷◌, ◌++◌, length, Option, None, Some, Result, Ok, Err, All, refl, sym, ap, subst, ◌∙◌, arith, append-nil, append_assoc}
 use Rattle.std.specs.Prelude.{bytes_eq, nat_lt, nat_le, ◌&&◌}
 use Rattle.std.proofs.lemmas.Bool.{and_parts, leb-true, ltb-true}
 use Rattle.std.proofs.lemmas.List.Elements.{All-nil, All-append}
@@ -14,7 +14,7 @@ use Rattle.pg_word.proofs.SparseLemmas.{length-storage_of}
 use Rattle.pg_image.specs.Lines.{state_text}
 use Rattle.pg_cert.specs.declared.line.Line.{Line}
 use Rattle.pg_cert.specs.declared.line.Line.TheVariants as line
-use Rattle.pg_cert.specs.Lines.{line_parts, line_text, is_psw, is_line, IsLine}
+use Rattle.pg_cert.specs.Lines.{line_parts, line_text, is_line, IsLine}
 use Rattle.pg_cert.specs.Reading.{read_number}
 use Rattle.pg_cert.specs.Parsing.{Said, Says, NoToken, NoForm, OtherVersion, said}
 use Rattle.pg_cert.specs.Texts.{lines_text}

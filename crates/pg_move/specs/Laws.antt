@@ -8,7 +8,6 @@ use Rattle.pg_type.specs.Agreeing.{Agree}
 use Rattle.pg_hw.specs.Machinery.{Machinery}
 use Rattle.pg_control.specs.declared.guest.Guest.{Guest}
 use Rattle.pg_control.specs.Guests.{virtuals}
-use Rattle.pg_control.specs.Standing.{Stands}
 use Rattle.pg_control.specs.Admitting.{Kept, StateTaken}
 use Rattle.pg_move.specs.Texts.{SavedGuest, IsSaved, saved_text, room_of}
 use Rattle.pg_move.specs.Reading.{saved_due}

@@ -1,5 +1,5 @@
 -- What bytes say of a saved guest, or why they are refused: line by line, and the first line at fault refuses.
-use Rattle.std.specs.Prelude.{◌≡◌, ℕ, suc, Bool, ◌&&◌, ◌==◌, nat_lt, if◌then◌else◌, List, [], ◌∷◌, length, drop, codes, bytes_eq, Option, None, Some, Result, Ok, Err}
+use Rattle.std.specs.Prelude.{ℕ, suc, Bool, ◌&&◌, ◌==◌, nat_lt, if◌then◌else◌, List, [], ◌∷◌, length, drop, codes, bytes_eq, Option, None, Some, Result, Ok, Err}
 use Rattle.pg_word.specs.declared.shape.Shape.{Shape}
 use Rattle.pg_word.specs.declared.psw.Psw.{Psw as Psws}
 use Rattle.pg_cert.specs.declared.line.Line.{Line}

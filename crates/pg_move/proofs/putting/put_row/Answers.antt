@@ -1,5 +1,4 @@
-use Rattle.std.proofs.Common.{◌*◌, length, ap, ◌∙◌, arith}
-use Rattle.pg_image.specs.Lines.{line_cells}
+use Rattle.std.proofs.Common.{length, ap, ◌∙◌, arith}
 use Rattle.pg_report.specs.Spans.{span}
 use Rattle.pg_move.proofs.RoomLemmas.{line_length}
 use Rattle.pg_move.proofs.putting.put_row.Goals as goal

@@ -3,7 +3,7 @@ use Rattle.pg_move.proofs.PutLemmas.{cells_fit, written}
 use Rattle.pg_move.proofs.writing.write_saved.Goals as goal
 
 pub put_state-requires-clause-fit : goal.put_state-requires-clause-fit
-put_state-requires-clause-fit c = cells_fit c.args.shape.now.w c.args.saved.now.state c.as_slice-_cells.ensures.listed c.requires.saved.words
+put_state-requires-clause-fit c = cells_fit c.args.shape.now.w c.args.saved.now.state c.as_slice-cells.ensures.listed c.requires.saved.words
 
 pub returns : goal.returns
 returns c =
