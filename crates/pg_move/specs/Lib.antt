@@ -2,3 +2,4 @@ pub mod Texts
 pub mod Reading
 pub mod Seen
 pub mod Laws
+pub mod WorkedTexts

@@ -1,6 +1,7 @@
 //! What follows from the definitions alone: none of it does anything when it runs.
 
 ghost use Rattle.pg_move.specs.Laws.{SavedTextsHaveRoom, SavedTextsReadBack, ReadTextsAreSpelled, CapturedStatesAreStates, SavedStatesAreStates, AdoptedGuestsGoOn};
+ghost use Rattle.pg_move.specs.WorkedTexts.{TextOfThreeSteps, AnotherVersion, NothingAtAll, ForeignByte};
 
 /// The text of what is saved is within the room for the size of its state.
 pub fn saved_texts_have_room()
@@ -30,4 +31,12 @@ pub fn saved_states_are_states()
 /// A guest that is adopted stands at the state at which it was captured, behind all guests that were there.
 pub fn adopted_guests_go_on()
     ensures { AdoptedGuestsGoOn }
+{}
+
+/// The text of a guest behind three steps; and texts of another version, of nothing, and with a foreign byte.
+pub fn worked_texts()
+    ensures three_steps { TextOfThreeSteps }
+    ensures another_version { AnotherVersion }
+    ensures nothing { NothingAtAll }
+    ensures foreign { ForeignByte }
 {}
