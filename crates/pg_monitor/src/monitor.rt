@@ -14,6 +14,7 @@ use pg_alloc::Grants;
 use pg_control::{Guest, take_storage};
 use pg_hw::Hardware;
 use pg_interp::Frame;
+use pg_machine::Machine;
 use pg_type::Accepted;
 use sqlite_items::Items;
 use std::alloc::{AllocError, Global};
@@ -80,6 +81,13 @@ impl<'m> Monitor<'m> {
             current: None,
             frame: Frame::new(),
         })
+    }
+
+    /// The machine that its hardware is, and each of its guests believes to have.
+    pub fn machine(&self) -> &'m Machine
+        ensures { result.now ≡ self.now.accepted.machine.now }
+    {
+        self.accepted.machine()
     }
 
     /// The guest of a number.

@@ -37,7 +37,7 @@ pub use refusal::{put_refusal, put_usage};
 pub use replay::{ReplayFault, put_replay};
 pub use run::{put_guest, put_steps};
 pub use sparse::put_sparse;
-pub use state::put_state;
+pub use state::{put_state, row_line};
 pub use summary::{put_instructions, put_summary};
 pub use text::put_text;
 pub use verdict::{put_outcome, put_verdict};

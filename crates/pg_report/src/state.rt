@@ -4,7 +4,7 @@
 //! monitor both are those of its guest. The text has a line for the size, one for the program status word, and one for
 //! each `LINE_CELLS` cells that are not all zero. The cells are read a line at a time, so that a line is all that is held of them.
 
-ghost use Rattle.std.specs.Prelude.{◌≡◌, ◌+◌, ◌*◌, ◌^◌, ◌<◌, ◌≤◌, length, ◌==◌, All};
+ghost use Rattle.std.specs.Prelude.{◌≡◌, ◌+◌, ◌*◌, ◌^◌, ◌<◌, ◌≤◌, [], length, ◌==◌, All, None, IfSome};
 ghost use Rattle.std.specs.List.{list_all};
 ghost use Rattle.arrayvec.specs.ArrayVec.{array_vec_len};
 ghost use Rattle.pg_edge.specs.Sink.{Puts};
@@ -15,7 +15,7 @@ ghost use Rattle.pg_report.specs.Spans.{span};
 use arrayvec::ArrayVec;
 use pg_edge::{Failed, Sink};
 use pg_hw::Hardware;
-use pg_image::{LINE_CELLS, cell_line, psw_line, size_line};
+use pg_image::{LINE_CELLS, Line, cell_line, psw_line, size_line};
 use pg_word::{Psw, Shape};
 
 /// How many cells a line shows, to reckon addresses with.
@@ -85,12 +85,35 @@ fn put_line<S: Sink, H: Hardware>(
     ensures { Puts (S.written out.old) (S.written out.new) (S.faults out.old) (S.faults out.new)
         (cells_shown shape.now.w (line_cells * k) (line_words k (span base size (H.machinery hw.now).state.cells))) result }
 {
-    let line = words_of(hw, base, size, k);
-    let words = line.as_slice();
-    if are_zero(words) {
-        return Ok(());
+    match row_line(shape, hw, base, size, k) {
+        None => Ok(()),
+        Some(line) => out.put(line.as_slice()),
     }
-    out.put(cell_line(shape, CELLS * k, words).as_slice())
+}
+
+/// The line of cells of this number, of the `size` cells of the hardware from `base` on: `None` where all of them are zero.
+pub fn row_line<H: Hardware>(
+    shape: &Shape,
+    hw: &H,
+    base: u32,
+    size: u32,
+    k: u32,
+) -> Option<Line>
+    requires shape { IsShape shape.now }
+    requires within { base + size ≤ length (H.machinery hw.now).state.cells }
+    requires addressable { base + size < 2 ^ 32 }
+    requires some { line_cells * k < size }
+    requires fit { All (λ word. word < 2 ^ shape.now.w) (span base size (H.machinery hw.now).state.cells) }
+    ensures none { result ≡ None → cells_shown shape.now.w (line_cells * k) (line_words k (span base size (H.machinery hw.now).state.cells)) ≡ [] }
+    ensures text { IfSome result (λ line. line.items ≡ cells_shown shape.now.w (line_cells * k) (line_words k (span base size (H.machinery hw.now).state.cells))) }
+    ensures len { IfSome result (λ line. array_vec_len line ≤ 12 + 17 * line_cells) }
+{
+    let row = words_of(hw, base, size, k);
+    let words = row.as_slice();
+    if are_zero(words) {
+        return None;
+    }
+    Some(cell_line(shape, CELLS * k, words))
 }
 
 /// The words of the line of this number: `LINE_CELLS`, or what is left of the cells.
