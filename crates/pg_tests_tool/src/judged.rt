@@ -32,35 +32,29 @@ pub(crate) fn refuses(alloc: Global, front: &str, rest: &str, fault: &str) -> Re
     at.expect_untouched(SHOW, Status::Description, &line)
 }
 
-/// The same of the descriptions with this front and the rest and the fault of each row.
-pub(crate) fn refuses_all(alloc: Global, front: &str, rows: &[(&str, &str)]) -> Result<(), Fail> {
-    for (rest, fault) in rows {
+/// A front, the rest, and what the whole is refused for.
+pub(crate) type Row = (&'static str, &'static str, &'static str);
+
+/// The same of the description of each row.
+pub(crate) fn refuses_all(alloc: Global, rows: &[Row]) -> Result<(), Fail> {
+    for (front, rest, fault) in rows {
         refuses(alloc, front, rest, fault)?;
     }
     Ok(())
 }
 
-/// Each image is refused for this of the machine of a description, and the hardware is untouched.
-pub(crate) fn refuses_images(alloc: Global, desc: &str, rows: &[(&str, &str)]) -> Result<(), Fail> {
-    for (image, fault) in rows {
-        let line = format!(in alloc; "image 0: {fault}\n")?;
-        let mut at = Setting::new(alloc, &[("d", desc), ("i", image)], &[])?;
-        at.expect_untouched(SHOW, Status::Image, &line)?;
-    }
-    Ok(())
-}
-
-/// So many times a text, and another one behind.
+/// A front, so many times a text, and the rest.
 pub(crate) fn repeated(
     alloc: Global,
+    front: &str,
     text: &str,
     times: u32,
-    last: &str,
+    rest: &str,
 ) -> Result<String, AllocError> {
-    let mut whole = String::new(alloc);
+    let mut whole = String::from_str(alloc, front)?;
     for _ in 0..times {
         whole.push_str(text)?;
     }
-    whole.push_str(last)?;
+    whole.push_str(rest)?;
     Ok(whole)
 }

@@ -1,6 +1,6 @@
 //! The limits of a description: what is just within each is taken, and one more is refused with its line.
 
-use crate::judged::{HEAD, INSTR, refuses, refuses_all, repeated, takes};
+use crate::judged::{HEAD, INSTR, Row, refuses, refuses_all, repeated, takes};
 use std::alloc::{AllocError, Global};
 use std::test::Fail;
 
@@ -43,10 +43,9 @@ const LIMITS: [Limit; 3] = [
 #[test]
 fn a_body_has_8_accesses_200_statements_and_1024_expressions(rt: HostRuntime) -> Result<(), Fail> {
     for limit in &LIMITS {
-        let body = repeated(rt.alloc(), limit.stmt, limit.times, limit.within)?;
-        takes(rt.alloc(), INSTR, &body)?;
-        let body = repeated(rt.alloc(), limit.stmt, limit.times, limit.past)?;
-        refuses(rt.alloc(), INSTR, &body, limit.fault)?;
+        let stmts = repeated(rt.alloc(), INSTR, limit.stmt, limit.times, "")?;
+        takes(rt.alloc(), &stmts, limit.within)?;
+        refuses(rt.alloc(), &stmts, limit.past, limit.fault)?;
     }
     Ok(())
 }
@@ -62,121 +61,107 @@ fn lets(alloc: Global, count: u8, value: &str) -> Result<String, AllocError> {
     Ok(body)
 }
 
-#[test]
-fn a_body_has_32_lets(rt: HostRuntime) -> Result<(), Fail> {
-    takes(rt.alloc(), INSTR, &lets(rt.alloc(), 32, "0:1")?)?;
-    refuses(
-        rt.alloc(),
-        INSTR,
-        &lets(rt.alloc(), 33, "0:1")?,
-        "limit 3 0",
-    )
-}
+/// What stands before a body: an instruction that traps once or 201 times, and the next one.
+const BEHIND: &str = "} instr i \"0001............\" { ";
 
-/// An instruction that traps so many times, and another one up to its body.
-fn behind_traps(alloc: Global, times: u32) -> Result<String, AllocError> {
-    let body = repeated(alloc, "trap; ", times, "}")?;
-    format!(in alloc; "{INSTR}{body} instr i \"0001............\" {{ ")
-}
+/// How often the first instruction traps, which has 200 statements at most; how many lets the second has, 32 at most, each of which
+/// accesses a cell; and the first instruction over a limit, and the least limit that it is over.
+const SECONDS: [(u32, u8, &str); 2] = [(1, 33, "limit 2 1"), (201, 32, "limit 4 0")];
 
 #[test]
 fn the_first_instruction_over_a_limit_is_told_and_its_least_one(
     rt: HostRuntime,
 ) -> Result<(), Fail> {
-    // The second instruction has 33 lets, and as many accesses.
-    let front = behind_traps(rt.alloc(), 1)?;
-    refuses(
-        rt.alloc(),
-        &front,
-        &lets(rt.alloc(), 33, "mem[0:4]")?,
-        "limit 2 1",
-    )?;
-    // The first has 201 statements, the second 32 accesses.
-    let front = behind_traps(rt.alloc(), 201)?;
-    refuses(
-        rt.alloc(),
-        &front,
-        &lets(rt.alloc(), 32, "mem[0:4]")?,
-        "limit 4 0",
-    )
+    for (traps, count, fault) in SECONDS {
+        let front = repeated(rt.alloc(), INSTR, "trap; ", traps, BEHIND)?;
+        let body = lets(rt.alloc(), count, "mem[0:4]")?;
+        refuses(rt.alloc(), &front, &body, fault)?;
+    }
+    Ok(())
 }
 
 /// So many instructions, at most 512, each told by the first nine bits of its word.
 fn instrs(alloc: Global, count: u32) -> Result<String, AllocError> {
     let mut desc = String::new(alloc);
     for k in 0..count {
-        let (a, b, c) = (k / 64 % 8, k / 8 % 8, k % 8);
-        desc.push_str(&format!(in alloc; "instr i{a}{b}{c} \"{k:09b}.......\" {{ }}\n")?)?;
+        desc.push_str(&format!(in alloc; "instr i{k} \"{k:09b}.......\" {{ }}\n")?)?;
     }
     Ok(desc)
 }
 
 #[test]
-fn a_description_has_256_instructions(rt: HostRuntime) -> Result<(), Fail> {
+fn there_are_256_instructions_and_32_lets(rt: HostRuntime) -> Result<(), Fail> {
     takes(rt.alloc(), HEAD, &instrs(rt.alloc(), 256)?)?;
-    refuses(rt.alloc(), HEAD, &instrs(rt.alloc(), 257)?, "limit 1 256")
-}
-
-#[test]
-fn a_name_has_32_bytes(rt: HostRuntime) -> Result<(), Fail> {
-    let front = format!(in rt.alloc(); "{HEAD}instr abcdefghijabcdefghijabcdefghijab")?;
-    takes(rt.alloc(), &front, " \"0000............\" { }")?;
-    refuses(rt.alloc(), &front, "c \"0000............\" { }", "token 46")
-}
-
-#[test]
-fn a_machine_has_a_shape(rt: HostRuntime) -> Result<(), Fail> {
-    let taken = [
-        "machine { word 16; address 5; size 8; }",
-        "machine { word 64; address 20; size 1048575; }",
-        "machine { word 64; address 20; size 1048575; causes on; }",
-        "machine { word 16; address 4; size 8; causes on; }",
-    ];
-    for desc in taken {
-        takes(rt.alloc(), desc, "")?;
-    }
-    Ok(())
-}
-
-#[test]
-fn another_shape_is_refused(rt: HostRuntime) -> Result<(), Fail> {
-    let refused = [
-        // Three addresses, the mode and a cause's two bits do not go into the word.
-        "machine { word 16; address 5; size 8; causes on; }",
-        "machine { word 16; address 6; size 8; }",
-        "machine { word 64; address 21; size 8; }",
-        "machine { word 16; address 3; size 4; }",
-        "machine { word 16; address 4; size 16; }",
-        "machine { word 16; address 4; size 3; }",
-        "machine { word 20; address 4; size 8; }",
-        "machine { word 72; address 4; size 8; }",
-    ];
-    for desc in refused {
-        refuses(rt.alloc(), desc, "", "shape")?;
-    }
-    Ok(())
-}
-
-#[test]
-fn the_first_class_is_told_where_two_are_broken(rt: HostRuntime) -> Result<(), Fail> {
-    let shape = "machine { word 16; address 6; size 8; } instr h \"0000............\" { ";
-    refuses(rt.alloc(), shape, "pc = z; }", "shape")?;
-    let rows = [
-        ("} instr i \"000\" { }", "pattern 1"),
-        ("} instr h \"0000............\" { }", "twice h"),
-    ];
-    refuses_all(rt.alloc(), INSTR, &rows)?;
-    // Addresses of 6 bits do not go into the word, and nine accesses are one too many.
+    refuses(rt.alloc(), HEAD, &instrs(rt.alloc(), 257)?, "limit 1 256")?;
+    takes(rt.alloc(), INSTR, &lets(rt.alloc(), 32, "0:1")?)?;
     refuses(
         rt.alloc(),
-        shape,
-        &lets(rt.alloc(), 9, "mem[0:6]")?,
+        INSTR,
+        &lets(rt.alloc(), 33, "0:1")?,
+        "limit 3 0",
+    )?;
+    // Addresses of 6 bits do not go into the word, and nine accesses are one too many.
+    refuses(rt.alloc(), WIDE, &lets(rt.alloc(), 9, "mem[0:6]")?, "shape")
+}
+
+/// A head whose addresses do not go into the word, and an instruction up to its body.
+const WIDE: &str = "machine { word 16; address 6; size 8; } instr h \"0000............\" { ";
+
+/// A head and an instruction, up to the 32 bytes of its name.
+const NAMED: &str =
+    "machine { word 16; address 4; size 8; } instr abcdefghijabcdefghijabcdefghijab";
+
+/// Descriptions that are taken, in two parts.
+const TAKEN: [(&str, &str); 6] = [
+    // A machine has a shape.
+    ("machine { word 16; address 5; size 8; }", ""),
+    ("machine { word 64; address 20; size 1048575; }", ""),
+    (
+        "machine { word 64; address 20; size 1048575; causes on; }",
+        "",
+    ),
+    ("machine { word 16; address 4; size 8; causes on; }", ""),
+    // A name has 32 bytes.
+    (NAMED, " \"0000............\" { }"),
+    // Lines end with CR LF too, and the last comment needs no end.
+    (
+        "machine { word 16;\r\naddress 4; # bits\r\nsize 8; }\r\n# no more",
+        "",
+    ),
+];
+
+/// Descriptions that are refused.
+const REFUSED: [Row; 12] = [
+    // Three addresses, the mode and a cause's two bits do not go into the word.
+    (
+        "machine { word 16; address 5; size 8; causes on; }",
+        "",
         "shape",
-    )
+    ),
+    ("machine { word 16; address 6; size 8; }", "", "shape"),
+    ("machine { word 64; address 21; size 8; }", "", "shape"),
+    ("machine { word 16; address 3; size 4; }", "", "shape"),
+    ("machine { word 16; address 4; size 16; }", "", "shape"),
+    ("machine { word 16; address 4; size 3; }", "", "shape"),
+    ("machine { word 20; address 4; size 8; }", "", "shape"),
+    ("machine { word 72; address 4; size 8; }", "", "shape"),
+    // A name of 33 bytes.
+    (NAMED, "c \"0000............\" { }", "token 46"),
+    // The first class is told where two are broken.
+    (WIDE, "pc = z; }", "shape"),
+    (INSTR, "} instr i \"000\" { }", "pattern 1"),
+    (INSTR, "} instr h \"0000............\" { }", "twice h"),
+];
+
+#[test]
+fn descriptions_within_the_limits_are_taken(rt: HostRuntime) -> Result<(), Fail> {
+    for (front, rest) in TAKEN {
+        takes(rt.alloc(), front, rest)?;
+    }
+    Ok(())
 }
 
 #[test]
-fn lines_end_with_cr_lf_too_and_the_last_comment_needs_no_end(rt: HostRuntime) -> Result<(), Fail> {
-    let desc = "machine { word 16;\r\naddress 4; # bits\r\nsize 8; }\r\n# no more";
-    takes(rt.alloc(), desc, "")
+fn descriptions_past_a_limit_are_refused(rt: HostRuntime) -> Result<(), Fail> {
+    refuses_all(rt.alloc(), &REFUSED)
 }

@@ -1,5 +1,6 @@
 //! Commands that come to their end, with the texts that were worked out by hand.
 
+use crate::judged::{HEAD, SHOW};
 use pg_samples::{IDLE, M0, M0_WITH_CAUSES};
 use pg_setting::Setting;
 use pg_tool::Status;
@@ -16,12 +17,12 @@ instr t \"00001001_................_aaaaaaaa\" { let v = mem[a];
   if (cut(v, 7, 0) < 16:8) { mem[a] = sext(cut(v, 3, 0), 32); } else { mem[a] = (v << 4:3); } }
 ";
 
-const ROWS: [Row; 12] = [
+const ROWS: [Row; 13] = [
     // No step shows the image.
     (
         M0,
         "2: 02000002\n",
-        "bare d i --grant 8 --steps 0",
+        SHOW,
         "size 8
 psw s 2 0 8
 0: 00000000 00000000 02000002 00000000 00000000 00000000 00000000 00000000
@@ -133,6 +134,13 @@ psw s 0 0 0
 0: 00040408 00000000 04000408 00000000 0000000a 00000000 00000000 01000707
 8: 00000000 00000000 00000000 00000005 00000000 00000000 00000000 00000000
 ",
+    ),
+    // An address of an image has at most seven digits.
+    (
+        HEAD,
+        "0000002: 0001",
+        SHOW,
+        "size 8\npsw s 2 0 8\n0: 0000 0000 0001 0000 0000 0000 0000 0000\n",
     ),
 ];
 

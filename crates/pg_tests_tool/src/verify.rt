@@ -3,7 +3,6 @@
 use pg_samples::{HEAD, M0, OPEN, OPEN_TOLD, RTU};
 use pg_setting::Setting;
 use pg_tool::Status;
-use std::alloc::Global;
 use std::test::Fail;
 
 /// Two states show that the instruction is not privileged. Nothing is told of its other kinds.
@@ -51,67 +50,97 @@ psw u 0 0 4
 /// An empty certificate, as it was written once.
 const EMPTY: &str = "pgcert 1\nend\n";
 
-/// A description, a certificate of it, how a command on both ends, and what it writes.
-type Row<'a> = (&'a str, &'a str, Status, &'a str);
+/// A description `d`, a certificate `c`, a command on both, how it ends, and what it writes.
+type Row = (
+    &'static str,
+    &'static str,
+    &'static str,
+    Status,
+    &'static str,
+);
 
-/// The rows of a command that leaves the hardware as it was made.
-fn expect(alloc: Global, command: &str, rows: &[Row<'_>]) -> Result<(), Fail> {
-    let line = format!(in alloc; "{command} d c")?;
-    for (desc, cert, status, text) in rows {
-        let mut at = Setting::new(alloc, &[("d", desc)], cert.as_bytes())?;
-        at.expect_untouched(&line, *status, text)?;
+const ROWS: [Row; 14] = [
+    // What holds and what is open is told.
+    (HEAD, EMPTY, "verify d c", Status::Done, "accepted\n"),
+    (RTU, OPEN, "verify d c", Status::Unsettled, OPEN_TOLD),
+    // Shown states are replayed.
+    (HEAD, EMPTY, "replay d c", Status::Done, ""),
+    (RTU, OPEN, "replay d c", Status::Done, REPLAYED),
+    (
+        RTU,
+        SHOWN,
+        "replay d c",
+        Status::Certificate,
+        "certificate: missing rtu control\n",
+    ),
+    // A certificate that is not there.
+    (HEAD, EMPTY, "verify d x", Status::Missing, ""),
+    // A fault has its line.
+    (
+        RTU,
+        SHOWN,
+        "verify d c",
+        Status::Certificate,
+        "certificate: missing rtu control\n",
+    ),
+    (
+        RTU,
+        SAME_MODE,
+        "verify d c",
+        Status::Certificate,
+        "certificate: pair 2\n",
+    ),
+    (
+        RTU,
+        "pgcert 3\nend\n",
+        "verify d c",
+        Status::Certificate,
+        "certificate: version 1\n",
+    ),
+    (
+        RTU,
+        "pgcert 1\nfinding rtu privileged refuted\nend\n",
+        "verify d c",
+        Status::Certificate,
+        "certificate: closed 2\n",
+    ),
+    (
+        RTU,
+        "pgcert 1\nfinding add privileged refuted\nend\n",
+        "verify d c",
+        Status::Certificate,
+        "certificate: instr 2\n",
+    ),
+    (
+        RTU,
+        "pgcert 1\n\tend\n",
+        "verify d c",
+        Status::Certificate,
+        "certificate: token 2\n",
+    ),
+    (
+        M0,
+        "pgcert 1\n",
+        "verify d c",
+        Status::Certificate,
+        "certificate: missing add privileged\n",
+    ),
+    (
+        M0,
+        "",
+        "verify d c",
+        Status::Certificate,
+        "certificate: grammar 1\n",
+    ),
+];
+
+#[test]
+fn certificates_come_to_what_was_worked_out(rt: HostRuntime) -> Result<(), Fail> {
+    for (desc, cert, line, status, text) in ROWS {
+        let mut at = Setting::new(rt.alloc(), &[("d", desc)], cert.as_bytes())?;
+        at.expect_untouched(line, status, text)?;
     }
     Ok(())
-}
-
-#[test]
-fn what_holds_and_what_is_open_is_told(rt: HostRuntime) -> Result<(), Fail> {
-    let rows = [
-        (HEAD, EMPTY, Status::Done, "accepted\n"),
-        (RTU, OPEN, Status::Unsettled, OPEN_TOLD),
-    ];
-    expect(rt.alloc(), "verify", &rows)
-}
-
-#[test]
-fn shown_states_are_replayed(rt: HostRuntime) -> Result<(), Fail> {
-    let missing = "certificate: missing rtu control\n";
-    let rows = [
-        (HEAD, EMPTY, Status::Done, ""),
-        (RTU, OPEN, Status::Done, REPLAYED),
-        (RTU, SHOWN, Status::Certificate, missing),
-    ];
-    expect(rt.alloc(), "replay", &rows)
-}
-
-/// A certificate, and the fault that it is refused for.
-type Refusal<'a> = (&'a str, &'a str);
-
-/// A certificate of the description is refused for the fault of each row.
-fn refuses(alloc: Global, desc: &str, rows: &[Refusal<'_>]) -> Result<(), Fail> {
-    for (cert, fault) in rows {
-        let line = format!(in alloc; "certificate: {fault}\n")?;
-        expect(alloc, "verify", &[(desc, cert, Status::Certificate, &line)])?;
-    }
-    Ok(())
-}
-
-#[test]
-fn a_fault_has_its_line(rt: HostRuntime) -> Result<(), Fail> {
-    let of_rtu = [
-        (SHOWN, "missing rtu control"),
-        (SAME_MODE, "pair 2"),
-        ("pgcert 3\nend\n", "version 1"),
-        (
-            "pgcert 1\nfinding rtu privileged refuted\nend\n",
-            "closed 2",
-        ),
-        ("pgcert 1\nfinding add privileged refuted\nend\n", "instr 2"),
-        ("pgcert 1\n\tend\n", "token 2"),
-    ];
-    let of_m0 = [("pgcert 1\n", "missing add privileged"), ("", "grammar 1")];
-    refuses(rt.alloc(), RTU, &of_rtu)?;
-    refuses(rt.alloc(), M0, &of_m0)
 }
 
 #[test]
@@ -121,10 +150,4 @@ fn a_fault_behind_the_first_part_is_found(rt: HostRuntime) -> Result<(), Fail> {
     cert.extend_from_slice(b"\t\n")?;
     let mut at = Setting::new(rt.alloc(), &[("d", HEAD)], &cert)?;
     at.expect("verify d c", Status::Certificate, "certificate: token 1\n")
-}
-
-#[test]
-fn a_certificate_that_is_not_there_has_its_status(rt: HostRuntime) -> Result<(), Fail> {
-    let mut at = Setting::new(rt.alloc(), &[("d", HEAD)], &[])?;
-    at.expect("verify d x", Status::Missing, "")
 }
