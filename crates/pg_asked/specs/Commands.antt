@@ -11,12 +11,13 @@ use Rattle.pg_asked.specs.Print.{print}
 use Rattle.pg_asked.specs.Generating.{gen}
 use Rattle.pg_asked.specs.Migrate.{migrate}
 use Rattle.pg_asked.specs.Hcheck.{hcheck}
+use Rattle.pg_asked.specs.Hybrid.{hybrid}
 use Rattle.pg_asked.specs.declared.names.CommandName.{CommandName}
-use Rattle.pg_asked.specs.declared.names.CommandName.TheVariants.{Bare, Check, Gen, Hcheck, Migrate, Print, Replay, Run, Verify}
+use Rattle.pg_asked.specs.declared.names.CommandName.TheVariants.{Bare, Check, Gen, Hcheck, Hybrid, Migrate, Print, Replay, Run, Verify}
 
 -- the commands, in the order in which they are told
 abbrev pub commands : List CommandName
-commands = Bare ∷ Check ∷ Verify ∷ Replay ∷ Run ∷ Print ∷ Gen ∷ Migrate ∷ Hcheck ∷ []
+commands = Bare ∷ Check ∷ Verify ∷ Replay ∷ Run ∷ Print ∷ Gen ∷ Migrate ∷ Hcheck ∷ Hybrid ∷ []
 
 -- how a command is called
 abbrev pub synopsis : CommandName → Synopsis
@@ -29,6 +30,7 @@ synopsis Print = print
 synopsis Gen = gen
 synopsis Migrate = migrate
 synopsis Hcheck = hcheck
+synopsis Hybrid = hybrid
 
 -- the command of a name, among these
 abbrev pub named : List CommandName → Text → Option CommandName

@@ -3,6 +3,7 @@ pub mod Check
 pub mod Commands
 pub mod Generating
 pub mod Hcheck
+pub mod Hybrid
 pub mod Migrate
 pub mod Print
 pub mod Replay

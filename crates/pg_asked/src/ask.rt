@@ -31,6 +31,8 @@ pub enum Request {
     Migrate(MigrateWords),
     /// `hcheck`: classify each instruction by the kinds of hybrid machines, and save the certificate.
     Hcheck(CheckWords),
+    /// `hybrid`: run images as guests under a hybrid monitor.
+    Hybrid(RunWords),
 }
 
 /// Why there is no request.

@@ -16,7 +16,7 @@
 //!
 //! - `ask`: what is asked for, and why there is nothing that is asked for. `names`: the commands and their table. `synopsis`:
 //!   how a command is called, as plain data.
-//! - `bare`, `check`, `verify`, `replay`, `run`, `print`, `generating` (the command `gen`), `migrate`, `hcheck`: the commands.
+//! - `bare`, `check`, `verify`, `replay`, `run`, `print`, `generating` (the command `gen`), `migrate`, `hcheck`, `hybrid`: the commands.
 //! - `running`: the arguments of commands that run images. `values`: what arguments give.
 #![tactic(auto)]
 
@@ -25,6 +25,7 @@ mod bare;
 mod check;
 mod generating;
 mod hcheck;
+mod hybrid;
 mod migrate;
 mod names;
 mod print;

@@ -9,6 +9,7 @@ use crate::bare::BARE;
 use crate::check::CHECK;
 use crate::generating::GEN;
 use crate::hcheck::HCHECK;
+use crate::hybrid::HYBRID;
 use crate::migrate::MIGRATE;
 use crate::print::PRINT;
 use crate::replay::REPLAY;
@@ -37,6 +38,8 @@ pub enum CommandName {
     Migrate,
     /// `hcheck`
     Hcheck,
+    /// `hybrid`
+    Hybrid,
 }
 
 /// All the commands, in the order in which they are told.
@@ -53,6 +56,7 @@ pub fn commands() -> &'static [CommandName]
         CommandName::Gen,
         CommandName::Migrate,
         CommandName::Hcheck,
+        CommandName::Hybrid,
     ]
 }
 
@@ -85,6 +89,7 @@ impl CommandName {
             CommandName::Gen => GEN,
             CommandName::Migrate => MIGRATE,
             CommandName::Hcheck => HCHECK,
+            CommandName::Hybrid => HYBRID,
         }
     }
 }

@@ -8,7 +8,7 @@ use crate::running::{GRANT, STEPS};
 use crate::synopsis::{Argument, Range, Synopsis};
 use crate::values::{FileName, Grant, Images, Slice, Steps};
 
-/// The words of `run`.
+/// The words of a command that runs images as guests, `run` or `hybrid`.
 #[derive(Drop)]
 pub struct RunWords {
     /// The name of the file with the machine's description.
@@ -28,16 +28,19 @@ pub struct RunWords {
 /// How it is called.
 pub(crate) const RUN: Synopsis = Synopsis {
     name: "run",
-    arguments: &[
-        Argument::File("DESC"),
-        Argument::File("CERT"),
-        Argument::Files("IMAGE"),
-        GRANT,
-        STEPS,
-        SLICE,
-    ],
+    arguments: RUN_ARGUMENTS,
     usage: "pgv run DESC CERT IMAGE.. --grant G --steps N [--slice K]\n",
 };
+
+/// The arguments of a command that runs images as guests.
+pub(crate) const RUN_ARGUMENTS: &[Argument] = &[
+    Argument::File("DESC"),
+    Argument::File("CERT"),
+    Argument::Files("IMAGE"),
+    GRANT,
+    STEPS,
+    SLICE,
+];
 
 /// How many steps a guest does before the next has its turn: 1 to 1,000,000.
 const SLICE: Argument = Argument::OptionalNumber(

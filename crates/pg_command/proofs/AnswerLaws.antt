@@ -1,6 +1,6 @@
 -- What the words ask for, by whether the line has a fault at them.
-use Rattle.std.proofs.Common.{◌≡◌, ◌≢◌, ◌∙◌, ◌⊎◌, ap, sym, subst, refl, Bool, true, false, true≢false, List, [], ◌∷◌, Option, Some, None, codes, inl, inr}
-use Rattle.std.specs.Prelude.{◌↔◌, Err, IsErrOf, Ok, Result}
+use Rattle.std.proofs.Common.{◌≡◌, ◌≢◌, ◌∙◌, ◌⊎◌, ap, sym, subst, refl, Bool, true, false, true≢false, List, [], ◌∷◌, Option, Some, None, inl, inr}
+use Rattle.std.specs.Prelude.{◌↔◌, Err, IsErrOf, Ok, Result, option_and_then}
 use Rattle.std.specs.Option.{is_some}
 use Rattle.clap.specs.Walk.{Row, Text}
 use Rattle.clap.specs.Simple.{subcommand_of}
@@ -8,12 +8,12 @@ use Rattle.clap.specs.Kinds.{IsAmong, Kinds}
 use Rattle.clap.specs.Faults.{fault_of}
 use Rattle.clap.specs.declared.error.kind.ErrorKind.{ErrorKind}
 use Rattle.clap.specs.declared.error.kind.ErrorKind.TheVariants.{OutOfMemory}
-use Rattle.pg_command.specs.Asked.{NamesTooManyImages, named_as, request_of, unless_fault}
+use Rattle.pg_command.specs.Asked.{NamesTooManyImages, RunsImages, asked_of, named_as, request_of, unless_fault}
 use Rattle.pg_command.specs.Entered.{HoldsCommand}
 use Rattle.pg_command.specs.Run.{HasTooManyImages}
-use Rattle.pg_command.proofs.AskLaws.{AsksTooMuch, all_ask, run_asks_nothing}
+use Rattle.pg_command.proofs.AskLaws.{AsksTooMuch, all_ask, too_many_asks_nothing}
 use Rattle.pg_command.proofs.EnteredLaws.{asks_of}
-use Rattle.pg_command.proofs.LineLaws.{line_holds}
+use Rattle.pg_command.proofs.LineLaws.{line_holds, named_by}
 use Rattle.pg_command.proofs.RowLaws.{fault_absurd}
 use Rattle.pg_command.specs.Line.{line}
 use Rattle.pg_asked.specs.Commands.{synopsis}
@@ -46,9 +46,11 @@ holds_request entered held =
       | inr much ↦ inr much
     ]
 
--- of too many images `run` asks for nothing
-run_refuses : (entered : Option (Text × List Row)) (rows : List Row) → entered ≡ Some (codes "run", rows) → HasTooManyImages rows → named_as entered ≡ None
-run_refuses entered rows is many = ap named_as is ∙ run_asks_nothing rows many
+-- of too many images a command that runs them asks for nothing
+images_refused : (entered : Option (Text × List Row)) (command : CommandName) (rows : List Row) → RunsImages command →
+    entered ≡ Some ((synopsis command).name, rows) → HasTooManyImages rows → named_as entered ≡ None
+images_refused entered command rows runs is many =
+    ap named_as is ∙ ap (option_and_then (λ c. asked_of c rows)) (named_by command) ∙ too_many_asks_nothing command rows runs many
 
 hides_nothing : {X : Type 0} (ks : Kinds) (asked : Option X) → asked ≡ None → unless_fault ks asked ≡ None
 hides_nothing [] asked none = none
@@ -57,7 +59,7 @@ hides_nothing (k ∷ ks) asked none = refl
 too_many_ask_nothing : (words : List Text) → NamesTooManyImages words → request_of words ≡ None
 unfolding request_of
 too_many_ask_nothing words many =
-    hides_nothing (fault_of line words) (named_as (subcommand_of line words)) (run_refuses (subcommand_of line words) many.rows many.is_run many.are_too_many)
+    hides_nothing (fault_of line words) (named_as (subcommand_of line words)) (images_refused (subcommand_of line words) many.command many.rows many.runs many.is_named many.are_too_many)
 
 has_fault : (ks : Kinds) → (ks ≡ []) ⊎ (ks ≢ [])
 has_fault [] = inl refl
@@ -69,13 +71,15 @@ nothing_without_fault words nothing none =
     elim (holds_request (subcommand_of line words) held) [
       | inl some ↦ absurd (true≢false (sym (ap is_some (asks_by_name words none) ∙ some) ∙ ap is_some nothing))
       | inr much ↦ record {
+        command = held.command;
         rows = held.rows;
-        is_run = held.is_entered ∙ ap (λ (command : CommandName). Some ((synopsis command).name, held.rows)) much.0;
+        runs = much.0;
+        is_named = held.is_entered;
         are_too_many = much.1;
       }
     ]
 
--- nothing is asked for exactly where the line has a fault, or `run` is named with too many images
+-- nothing is asked for exactly where the line has a fault, or a command that runs images is named with too many
 pub nothing_at_fault : (words : List Text) → (request_of words ≡ None) ↔ ((fault_of line words ≢ []) ⊎ NamesTooManyImages words)
 nothing_at_fault words = (
   (λ nothing. elim (has_fault (fault_of line words)) [

@@ -9,7 +9,7 @@ use Rattle.clap.specs.Faults.{entered_fault, fault_of, is_simple_and_free, level
 use Rattle.clap.proofs.OnLiterals.{clap_on_literals}
 use Rattle.pg_asked.specs.Commands.{commands, named, synopsis}
 use Rattle.pg_asked.specs.declared.names.CommandName.{CommandName}
-use Rattle.pg_asked.specs.declared.names.CommandName.TheVariants.{Bare, Check, Gen, Hcheck, Migrate, Print, Replay, Run, Verify}
+use Rattle.pg_asked.specs.declared.names.CommandName.TheVariants.{Bare, Check, Gen, Hcheck, Hybrid, Migrate, Print, Replay, Run, Verify}
 use Rattle.pg_command.specs.Line.{line}
 use Rattle.pg_command.specs.Entered.{HoldsCommand}
 use Rattle.pg_command.proofs.LeafLaws.{command_met}
@@ -27,7 +27,7 @@ line_plain = refl
 -- ---- the table
 
 -- no two commands have one name
-named_by : (command : CommandName) → named commands (synopsis command).name ≡ Some command
+pub named_by : (command : CommandName) → named commands (synopsis command).name ≡ Some command
 named_by Bare = refl
 named_by Check = refl
 named_by Verify = refl
@@ -37,6 +37,7 @@ named_by Print = refl
 named_by Gen = refl
 named_by Migrate = refl
 named_by Hcheck = refl
+named_by Hybrid = refl
 
 -- no two arguments of a command have one name
 abbrev has_own_names : CommandName → Bool

@@ -1,14 +1,14 @@
 -- What the words of a command line ask for.
-use Rattle.std.specs.Prelude.{◌≡◌, List, [], ◌∷◌, Option, Some, None, codes, option_and_then, option_map}
+use Rattle.std.specs.Prelude.{◌≡◌, ◌⊎◌, List, [], ◌∷◌, Option, Some, None, option_and_then, option_map}
 use Rattle.clap.specs.Walk.{Row, Text}
 use Rattle.clap.specs.Simple.{subcommand_of}
 use Rattle.clap.specs.Faults.{fault_of}
 use Rattle.clap.specs.Kinds.{Kinds}
-use Rattle.pg_asked.specs.Commands.{commands, named}
+use Rattle.pg_asked.specs.Commands.{commands, named, synopsis}
 use Rattle.pg_asked.specs.declared.ask.Request.{Request}
 use Rattle.pg_asked.specs.declared.ask.Request.TheVariants as request
 use Rattle.pg_asked.specs.declared.names.CommandName.{CommandName}
-use Rattle.pg_asked.specs.declared.names.CommandName.TheVariants.{Bare, Check, Gen, Hcheck, Migrate, Print, Replay, Run, Verify}
+use Rattle.pg_asked.specs.declared.names.CommandName.TheVariants.{Bare, Check, Gen, Hcheck, Hybrid, Migrate, Print, Replay, Run, Verify}
 use Rattle.pg_command.specs.Line.{line}
 use Rattle.pg_command.specs.Bare.{bare_of}
 use Rattle.pg_command.specs.Check.{check_of}
@@ -30,6 +30,7 @@ asked_of Print rows = option_map request.Print (print_of rows)
 asked_of Gen rows = option_map request.Gen (gen_of rows)
 asked_of Migrate rows = option_map request.Migrate (migrate_of rows)
 asked_of Hcheck rows = option_map request.Hcheck (check_of rows)
+asked_of Hybrid rows = option_map request.Hybrid (run_of rows)
 
 -- what the command of a name asks for
 abbrev pub named_as : Option (Text × List Row) → Option Request
@@ -41,12 +42,18 @@ unless_fault [] asked = asked
 unless_fault (fault ∷ more) asked = None
 
 -- what the words ask for, of which the first is the program's name: nothing where the line refuses them, and else
--- what the command that they name asks for, which is nothing where `run` is named with too many images
+-- what the command that they name asks for, which is nothing where one that runs images is named with too many
 unfoldable pub request_of : List Text → Option Request
 request_of words = unless_fault (fault_of line words) (named_as (subcommand_of line words))
 
--- the words name `run`, with more than 8 images
+-- a command that runs images as guests
+abbrev pub RunsImages : CommandName → Type 0
+RunsImages command = (command ≡ Run) ⊎ (command ≡ Hybrid)
+
+-- the words name such a command, with more than 8 images
 pub record NamesTooManyImages (words : List Text) : Type 0 where
+  pub command : CommandName
   pub rows : List Row
-  pub is_run : subcommand_of line words ≡ Some (codes "run", rows)
+  pub runs : RunsImages command
+  pub is_named : subcommand_of line words ≡ Some ((synopsis command).name, rows)
   pub are_too_many : HasTooManyImages rows

@@ -4,7 +4,7 @@ ghost use Rattle.clap.specs.Words.{found_of, rows_of, subcommand_rows_of};
 ghost use Rattle.pg_command.specs.Asked.{asked_of, named_as};
 ghost use Rattle.pg_command.specs.Entered.{HoldsCommand, HoldsRows};
 
-use crate::{bare, check, generating, hcheck, migrate, print, replay, run, verify};
+use crate::{bare, check, generating, hcheck, hybrid, migrate, print, replay, run, verify};
 use clap::ArgMatches;
 use pg_asked::{CommandName, Request};
 use std::alloc::{AllocError, Global};
@@ -38,5 +38,6 @@ fn asked_of(
         CommandName::Gen => generating::asked(alloc, matches),
         CommandName::Migrate => migrate::asked(alloc, matches),
         CommandName::Hcheck => hcheck::asked(alloc, matches),
+        CommandName::Hybrid => hybrid::asked(alloc, matches),
     }
 }

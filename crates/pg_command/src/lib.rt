@@ -19,8 +19,8 @@
 //! # Modules
 //!
 //! - `line`: the whole line. `entered`: the command that was named, and what it asks for.
-//! - `bare`, `check`, `verify`, `replay`, `run`, `print`, `generating` (the command `gen`), `migrate`, `hcheck`: what each command
-//!   asks for. `running`: what the arguments of commands that run images give.
+//! - `bare`, `check`, `verify`, `replay`, `run`, `print`, `generating` (the command `gen`), `migrate`, `hcheck`, `hybrid`: what each
+//!   command asks for. `running`: what the arguments of commands that run images give.
 //! - `arguments`: how `clap` is told of an argument, and how its value is read.
 #![tactic(auto)]
 
@@ -37,6 +37,7 @@ mod check;
 mod entered;
 mod generating;
 mod hcheck;
+mod hybrid;
 mod line;
 mod migrate;
 mod print;
@@ -57,12 +58,13 @@ use std::alloc::Global;
 /// What the words ask for, of which the first is the program's name.
 ///
 /// # Errors
-/// `Refused` where the command line takes no such words, or `run` is named with more than 8 images, and `Memory` where there
+/// `Refused` where the command line takes no such words, or a command that runs images is named with more than 8, and `Memory` where there
 /// is no memory to read them.
 pub fn request(alloc: Global, words: &[String]) -> Result<Request, Fault>
     ensures ok { IfOk result (λ r. request_of (map string_bytes words.now) ≡ Some r) }
     ensures refused { IsErrOf result Refused → request_of (map string_bytes words.now) ≡ None }
-    // nothing is asked for exactly where the rules of `clap` refuse the line, or `run` is named with more than 8 images
+    // nothing is asked for exactly where the rules of `clap` refuse the line, or a command that runs images is named with more
+    // than 8
     ensures faults { (request_of (map string_bytes words.now) ≡ None)
         ↔ ((fault_of line (map string_bytes words.now) ≢ []) ⊎ NamesTooManyImages (map string_bytes words.now)) }
 {

@@ -24,11 +24,27 @@ pub(crate) fn asked(alloc: Global, matches: &ArgMatches<'_>) -> Result<Option<Re
     // more images are refused, and never for want of memory
     ensures refused { asked_of name.Run (rows_of (found_of matches.now)) ≡ None → result ≡ Ok None }
 {
+    match few_words(alloc, matches) {
+        Ok(Some(words)) => Ok(Some(Request::Run(words))),
+        Ok(None) => Ok(None),
+        Err(refused) => Err(refused),
+    }
+}
+
+/// The words of `run`, and of `hybrid`, if they name no more than 8 images.
+pub(crate) fn few_words(
+    alloc: Global,
+    matches: &ArgMatches<'_>,
+) -> Result<Option<RunWords>, AllocError>
+    requires { HoldsRows name.Run (rows_of (found_of matches.now)) }
+    ensures words { IfOk result (λ w. run_of (rows_of (found_of matches.now)) ≡ w) }
+    ensures refused { run_of (rows_of (found_of matches.now)) ≡ None → result ≡ Ok None }
+{
     let names = texts(matches, "IMAGE");
     if names.len() > Images::MOST {
         return Ok(None);
     }
-    Ok(Some(Request::Run(words(alloc, matches, names)?)))
+    Ok(Some(words(alloc, matches, names)?))
 }
 
 /// The words of the command, whose images have these names.

@@ -1,5 +1,6 @@
 -- `run`: what it leaves, by the verdict of its certificate.
 use Rattle.std.proofs.Common.{◌≡◌, ◌∙◌, ap, List, All, length, map, ℕ, Option, refl, sym, subst}
+use Rattle.pg_cert.specs.declared.cert.Family.{Family}
 use Rattle.pg_cert.specs.declared.cert.Family.TheVariants.{Plain}
 use Rattle.pg_cert.specs.declared.report.Verdict.TheVariants.{Accepted}
 use Rattle.pg_asked.specs.declared.run.RunWords.{RunWords}
@@ -26,15 +27,15 @@ use Rattle.pg_tool_run.specs.Run.{JudgedRun, RunDue, GuestsEnd, RunEnds, files_o
 use Rattle.pg_tool_run.proofs.LoadingLemmas.{guests-read}
 
 -- the certificate was read
-pub run-read : (told : Option Files) (r : RunWords) (j : JudgedRun) → RunDue r told (Came j) → IsRead Plain (judged_by j)
+pub run-read : (family : Family) (told : Option Files) (r : RunWords) (j : JudgedRun) → RunDue family r told (Came j) → IsRead family (judged_by j)
 unfolding RunDue
-run-read told r j h = subst (λ (x : JudgedRun). IsRead Plain (judged_by x)) (sym h.2) (guests-read Plain (files_of r) told h.0 h.1)
+run-read family told r j h = subst (λ (x : JudgedRun). IsRead family (judged_by x)) (sym h.2) (guests-read family (files_of r) told h.0 h.1)
 
 -- the verdict was told, and nothing ran
-pub run-told : (told : Option Files) (r : RunWords) (j : JudgedRun) (old new : World) → RunDue r told (Came j) → ¬ (verdict_on (judged_by j) ≡ Accepted) → IsUntouched old new →
+pub run-told : (told : Option Files) (r : RunWords) (j : JudgedRun) (old new : World) → RunDue Plain r told (Came j) → ¬ (verdict_on (judged_by j) ≡ Accepted) → IsUntouched old new →
     RunEnds j old new (verdict_status (verdict_on (judged_by j))) (verdict_told (judged_by j))
 run-told told r j old new due other same = record {
-  by_verdict = ends-told (verdict_on (judged_by j)) (GuestsEnd j) Plain (judged_by j) old new _ _ other (verdict-ends Plain (judged_by j) old new (run-read told r j due) same);
+  by_verdict = ends-told (verdict_on (judged_by j)) (GuestsEnd j) Plain (judged_by j) old new _ _ other (verdict-ends Plain (judged_by j) old new (run-read Plain told r j due) same);
 }
 
 -- the guests ran

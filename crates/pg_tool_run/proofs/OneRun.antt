@@ -1,6 +1,6 @@
--- `run` comes to one thing, for told files.
+-- A command that runs images comes to one thing, for told files.
 use Rattle.std.proofs.Common.{Some}
-use Rattle.pg_cert.specs.declared.cert.Family.TheVariants.{Plain}
+use Rattle.pg_cert.specs.declared.cert.Family.{Family}
 use Rattle.pg_asked.specs.declared.run.RunWords.{RunWords}
 use Rattle.pg_edge.specs.Shelf.{Files}
 use Rattle.pg_steps.specs.Steps.{Gives, IsOne}
@@ -9,6 +9,6 @@ use Rattle.pg_tool_run.specs.Loading.{GuestsDue}
 use Rattle.pg_tool_run.specs.Run.{RunDue, files_of, judged_run_of}
 use Rattle.pg_tool_run.proofs.LoadingLemmas.{one-guests}
 
-pub one-run : (files : Files) (r : RunWords) → IsOne (RunDue r (Some files))
+pub one-run : (family : Family) (files : Files) (r : RunWords) → IsOne (RunDue family r (Some files))
 unfolding RunDue
-one-run files r = one-then (GuestsDue Plain (files_of r) (Some files)) (λ l. Gives (judged_run_of r l)) (one-guests Plain (files_of r) files) (λ l. one-gives (judged_run_of r l))
+one-run family files r = one-then (GuestsDue family (files_of r) (Some files)) (λ l. Gives (judged_run_of r l)) (one-guests family (files_of r) files) (λ l. one-gives (judged_run_of r l))

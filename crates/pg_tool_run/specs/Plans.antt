@@ -1,6 +1,6 @@
--- What the code has for the work of `run`, as that of the definition.
+-- What the code has for a run, as that of the definition.
 use Rattle.pg_tool_run.specs.Run.{JudgedRun}
-use Rattle.pg_tool_run.specs.declared.run.plan.RunPlan.{RunPlan}
+use Rattle.pg_tool_run.specs.declared.plan.RunPlan.{RunPlan}
 
 -- images as guests, with what was kept of a certificate
 abbrev pub judged_run : RunPlan → JudgedRun

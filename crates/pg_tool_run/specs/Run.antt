@@ -2,6 +2,7 @@
 use Rattle.std.specs.Prelude.{◌≡◌, ℕ, List, All, length, map, Option, None}
 use Rattle.pg_alloc.specs.Fit.{kept_cells}
 use Rattle.pg_ast.specs.declared.tree.Desc.{Desc}
+use Rattle.pg_cert.specs.declared.cert.Family.{Family}
 use Rattle.pg_cert.specs.declared.cert.Family.TheVariants.{Plain}
 use Rattle.pg_cert.specs.declared.report.Report.{Report}
 use Rattle.pg_cert.specs.declared.report.Verdict.TheVariants as verdict
@@ -43,9 +44,9 @@ files_of r = record { desc = r.desc; images = r.images; cert = r.cert; grant = r
 abbrev pub judged_run_of : RunWords → Loaded → JudgedRun
 judged_run_of r l = record { desc = l.desc; images = l.images; slice = r.slice; steps = r.steps; grant = r.grant; report = l.report }
 
--- description, room, images and certificate, and then the run
-unfoldable pub RunDue : RunWords → Option Files → Step Refusal JudgedRun
-RunDue r told = Then (GuestsDue Plain (files_of r) told) (λ l. Gives (judged_run_of r l))
+-- description, room, images and a certificate of this family, and then the run
+unfoldable pub RunDue : Family → RunWords → Option Files → Step Refusal JudgedRun
+RunDue family r told = Then (GuestsDue family (files_of r) told) (λ l. Gives (judged_run_of r l))
 
 -- the description, and what is kept of the certificate of it
 abbrev pub judged_by : JudgedRun → Judged
@@ -80,7 +81,7 @@ pub record RunStarves (j : JudgedRun) (old new : World) : Type 0 where
 abbrev pub run_command : RunWords → Command
 run_command r = record {
   Work = JudgedRun;
-  due = RunDue r;
+  due = RunDue Plain r;
   saved = None;
   ends = RunEnds;
   unsaved = λ j old new. ⊥;

@@ -1,36 +1,25 @@
 //! `run`: images as guests under a monitor.
 //!
-//! Description, room, images and certificate are loaded (`load_guests`), in the order of the definition (`RunDue`,
-//! `specs/Run.antt`). Where its verdict does not accept
-//! the machine it is told, and nothing runs. Else the images run as guests of one monitor (`pg_guests`), and their text is
-//! put. Memory is taken before the first turn; where it is refused no turn was made, but the hardware may be set up (`SetUp`).
+//! Description, room, images and certificate are loaded (`prepare_run`), in the order of the definition (`RunDue`,
+//! `specs/Run.antt`). Where its verdict does not accept the machine it is told, and nothing runs. Else the images run as guests of
+//! one monitor (`pg_guests`), and their text is put. Memory is taken before the first turn; where it is refused no turn was made,
+//! but the hardware may be set up (`SetUp`).
 
-ghost use Rattle.std.specs.Prelude.{◌≡◌, None, IfOk};
-ghost use Rattle.pg_cert.specs.declared.report.Verdict.TheVariants.{Accepted};
-ghost use Rattle.pg_judged.specs.Judged.{verdict_on};
-ghost use Rattle.pg_judged.specs.Views.{judged};
+ghost use Rattle.std.specs.Prelude.{◌≡◌, None};
 ghost use Rattle.pg_steps.specs.Able.{IsAble};
-ghost use Rattle.pg_steps.specs.Answering.{Comes, OnlyReads};
 ghost use Rattle.pg_steps.specs.Commands.{Carries};
 ghost use Rattle.pg_steps.specs.World.{Keeps, around};
-ghost use Rattle.pg_tool_run.specs.Plans.{judged_run};
-ghost use Rattle.pg_tool_run.specs.Run.{RunDue, run_command};
-ghost use Rattle.pg_type.specs.Accepting.{IsAccepted};
+ghost use Rattle.pg_tool_run.specs.Run.{run_command};
 
-mod plan;
-
-use crate::files::GuestFiles;
-use crate::loading::load_guests;
+use crate::preparing::prepare_run;
 use pg_asked::RunWords;
 use pg_cert::Family;
 use pg_edge::{Shelf, Sink};
 use pg_guests::run_guests;
 use pg_hw::Hardware;
 use pg_judged::{is_accepted, tell_verdict};
-use pg_monitor::KEPT_CELLS;
 use pg_shown::put_guests;
-use pg_steps::{Status, Stop, stopped};
-use plan::RunPlan;
+use pg_steps::{Status, stopped};
 use std::alloc::Global;
 
 /// Carries out `run`.
@@ -48,7 +37,7 @@ pub fn carry_run<F: Shelf, S: Sink, H: Hardware>(
         (around F.Shelf S.Sink H.Hardware shelf.new out.new hw.new) }
     ensures fixed { H.fixed hw.new ≡ H.fixed hw.old }
 {
-    let plan = match prepare_run(alloc, words, shelf) {
+    let plan = match prepare_run(alloc, Family::Plain, words, shelf) {
         Ok(plan) => plan,
         Err(stop) => return stopped(&stop, out),
     };
@@ -65,30 +54,5 @@ pub fn carry_run<F: Shelf, S: Sink, H: Hardware>(
     match put_guests(out, &plan.judged.machine, guests, turns, direct, hw) {
         Ok(()) => Status::Done,
         Err(_) => Status::WriteFault,
-    }
-}
-
-/// The run that is to be done, with the certificate of its machine; or why there is none.
-fn prepare_run<F: Shelf>(alloc: Global, words: &RunWords, shelf: &mut F) -> Result<RunPlan, Stop>
-    ensures comes { Comes judged_run (RunDue words.now (F.files shelf.old)) (F.reads shelf.old) (F.reads shelf.new) result }
-    ensures accepts { IfOk result (λ p. verdict_on (judged p.judged) ≡ Accepted → IsAccepted p.judged.machine.desc) }
-    ensures reads { OnlyReads F.Shelf shelf.old shelf.new }
-{
-    let files = GuestFiles {
-        desc: &words.desc,
-        images: words.images.as_slice(),
-        cert: &words.cert,
-        grant: words.grant.cells(),
-        kept: KEPT_CELLS,
-    };
-    match load_guests(alloc, Family::Plain, &files, shelf) {
-        Ok(loaded) => Ok(RunPlan {
-            judged: loaded.judged,
-            images: loaded.images,
-            grant: files.grant,
-            slice: words.slice.steps(),
-            steps: words.steps.count(),
-        }),
-        Err(stop) => Err(stop),
     }
 }

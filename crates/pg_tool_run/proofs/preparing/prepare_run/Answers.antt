@@ -1,7 +1,6 @@
 use Rattle.std.proofs.Common.{◌≡◌, ◌∙◌, ◌≤◌, ℕ, List, length, Err, ap, subst, arith}
 use Rattle.std.proofs.lemmas.List.Elements.{All-weaker}
 use Rattle.pg_alloc.specs.Fit.{kept_cells}
-use Rattle.pg_cert.specs.declared.cert.Family.TheVariants.{Plain}
 use Rattle.pg_inputs.specs.Images.{Fills}
 use Rattle.pg_steps.specs.Answering.{Comes}
 use Rattle.pg_steps.specs.Steps.{Came, Gives}
@@ -11,7 +10,7 @@ use Rattle.pg_tool_run.specs.Plans.{judged_run}
 use Rattle.pg_tool_run.specs.Run.{JudgedRun, RunDue, files_of, judged_run_of}
 use Rattle.pg_tool_run.specs.Views.{loaded}
 use Rattle.pg_tool_run.proofs.RunLemmas.{can-run}
-use Rattle.pg_tool_run.proofs.run.prepare_run.Goals as goal
+use Rattle.pg_tool_run.proofs.preparing.prepare_run.Goals as goal
 
 pub invariant_of-result : goal.invariant_of-result
 invariant_of-result g c =
@@ -36,9 +35,9 @@ returns-in-Err-clause-comes g c =
     let before = g.F.Shelf.reads c.args.shelf.now in
     let after = g.F.Shelf.reads c.load_guests.new.shelf in
     let of : List (List ℕ) → ℕ → GuestFiles = λ images grant. record { desc = r.desc; images = images; cert = r.cert; grant = grant; kept = kept_cells } in
-    let came = subst (λ n. Comes loaded (GuestsDue Plain (of r.images n) told) before after (Err c.in-Err.stop)) c.cells.ensures.cells
-    (subst (λ xs. Comes loaded (GuestsDue Plain (of xs c.cells.result) told) before after (Err c.in-Err.stop)) c.as_slice.ensures.names c.in-Err.ensures.comes) in
-    comes-stopped loaded judged_run (GuestsDue Plain (files_of r) told) (λ l. Gives (judged_run_of r l)) before after after c.in-Err.stop came (omega arith)
+    let came = subst (λ n. Comes loaded (GuestsDue c.args.family (of r.images n) told) before after (Err c.in-Err.stop)) c.cells.ensures.cells
+    (subst (λ xs. Comes loaded (GuestsDue c.args.family (of xs c.cells.result) told) before after (Err c.in-Err.stop)) c.as_slice.ensures.names c.in-Err.ensures.comes) in
+    comes-stopped loaded judged_run (GuestsDue c.args.family (files_of r) told) (λ l. Gives (judged_run_of r l)) before after after c.in-Err.stop came (omega arith)
 
 pub returns-in-Ok-clause-comes : goal.returns-in-Ok-clause-comes
 unfolding RunDue
@@ -47,7 +46,7 @@ returns-in-Ok-clause-comes g c =
     let l = loaded c.in-Ok.loaded in
     let told = g.F.Shelf.files c.args.shelf.now in
     let of : List (List ℕ) → ℕ → GuestFiles = λ images grant. record { desc = r.desc; images = images; cert = r.cert; grant = grant; kept = kept_cells } in
-    let came = subst (λ n. GuestsDue Plain (of r.images n) told (Came l)) c.cells.ensures.cells
-    (subst (λ xs. GuestsDue Plain (of xs c.cells.result) told (Came l)) c.as_slice.ensures.names c.in-Ok.ensures.comes) in
+    let came = subst (λ n. GuestsDue c.args.family (of r.images n) told (Came l)) c.cells.ensures.cells
+    (subst (λ xs. GuestsDue c.args.family (of xs c.cells.result) told (Came l)) c.as_slice.ensures.names c.in-Ok.ensures.comes) in
     let run : ℕ → ℕ → ℕ → JudgedRun = λ grant slice steps. record { desc = l.desc; images = l.images; slice = slice; steps = steps; grant = grant; report = l.report } in
     (l, came, ap (λ n. run n c.steps.result c.count.result) c.cells.ensures.cells ∙ ap (λ n. run r.grant n c.count.result) c.steps.ensures.steps ∙ ap (run r.grant r.slice) c.count.ensures.count)
