@@ -3,3 +3,4 @@ pub mod Said
 pub mod Lines
 pub mod Sources
 pub mod Passes
+pub mod Texts

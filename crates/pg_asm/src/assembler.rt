@@ -47,7 +47,12 @@ fn filled(alloc: Global, cells: &[Option<u64>]) -> Result<Image, AllocError>
 ///
 /// `size` is from 2 to the greatest size of the machine.
 #[tactic(auto, unfolding(crate::specs::Sources::source_due))]
-pub fn assemble(alloc: Global, machine: &Machine, bytes: &[u8], size: u32) -> Result<Image, AsmFault>
+pub fn assemble(
+    alloc: Global,
+    machine: &Machine,
+    bytes: &[u8],
+    size: u32,
+) -> Result<Image, AsmFault>
     requires least { 2 ≤ size }
     requires most { size ≤ machine.now.desc.size }
     ensures due { IsSourceDue result (source_due machine.now.desc size bytes.now) }

@@ -81,7 +81,11 @@ pub fn value_in(word: u64, field: &LetterField) -> u64
     ensures { result ≡ value_in word field.now }
 {
     let above = word >> field.low;
-    if field.width >= 64 { above } else { above % (1 << field.width) }
+    if field.width >= 64 {
+        above
+    } else {
+        above % (1 << field.width)
+    }
 }
 
 /// Whether a value has no more than so many bits.

@@ -103,13 +103,7 @@ fn label_of(part: &[u8]) -> Option<&[u8]>
     ensures { option_copied result ≡ label_said part.now }
 {
     match part {
-        [name @ .., b':'] => {
-            if is_name(name) {
-                Some(name)
-            } else {
-                None
-            }
-        }
+        [name @ .., b':'] => { if is_name(name) { Some(name) } else { None } }
         _ => None,
     }
 }

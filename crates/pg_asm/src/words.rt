@@ -59,7 +59,7 @@ fn kept_bit(byte: u8, word: u64, at: usize) -> u64
 
 /// A word with 0 in the free places of a pattern, and above it.
 #[tactic(auto, unfolding(crate::specs::Words::kept_bits))]
-fn kept_bits(pattern: &[u8], word: u64) -> u64
+pub fn kept_bits(pattern: &[u8], word: u64) -> u64
     requires { length pattern.now ≤ 64 }
     ensures { result ≡ kept_bits pattern.now word }
 {
@@ -122,7 +122,11 @@ pub fn word_of(machine: &Machine, number: usize, values: &[u64]) -> u64
 
 /// The number of the instruction whose pattern matches a word, and the values of its fields, from the highest. `None` where no
 /// pattern matches it. The error is want of memory.
-pub fn decode(alloc: Global, machine: &Machine, word: u64) -> Result<Option<(usize, ValueList)>, AllocError>
+pub fn decode(
+    alloc: Global,
+    machine: &Machine,
+    word: u64,
+) -> Result<Option<(usize, ValueList)>, AllocError>
     ensures { IfOk result (λ found. found ≡ decoded machine.now.desc.instrs word) }
 {
     match machine.decode(word) {

@@ -10,7 +10,7 @@ use Rattle.pg_asm.proofs.place.place_all.Given as goal
 abbrev pub invariant-loop-left : goal.invariant-loop-left
 invariant-loop-left l = record {
   so_far : words_due l.machine.desc l.labels l.n l.place l.cells (said_from l.machine.desc.word l.n (lines_left (option_copied l.left)))
-    ≡ words_due l.machine.desc l.labels 1 first_place l.initial.cells (said_from l.machine.desc.word 1 (lines_of l.bytes));
+      ≡ words_due l.machine.desc l.labels 1 first_place l.initial.cells (said_from l.machine.desc.word 1 (lines_of l.bytes));
   formed : result_err (said_from l.machine.desc.word l.n (lines_left (option_copied l.left))) ≡ None;
   fit : AreFit l.machine.desc.word l.initial.cells → AreFit l.machine.desc.word l.cells;
   room : l.n + bytes_left (option_copied l.left) ≤ length l.bytes + 2;
