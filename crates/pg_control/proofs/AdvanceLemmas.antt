@@ -105,13 +105,15 @@ Advanced-direct d n old now g h run moved guest =
     let v = virtual old.cells g in
     let vn = steps d n v in
     let who : h ≡ with_psw g vn.psw = guest ∙ ap (λ (x : State). with_psw g (record g.psw { p = x.psw.p })) moved ∙ sym (ap (with_psw g) run.kept) in
-    let runs : Runs d now h = subst (λ (x : State). Runs d x h) (sym moved) (subst (Runs d (steps d n old)) (sym who) run.runs) in
-    (record {
-      holds = runs.holds;
-      guest = who;
-      state = subst (λ (x : State). virtual x.cells h ≡ vn) (sym moved) (subst (λ x. virtual (steps d n old).cells x ≡ vn) (sym who) run.state);
-      outside = kept-beside old.cells now.cells vn.cells g (ap (λ (x : State). x.cells) moved ∙ run.storage) run.length (omega (arith, run.within));
-    }, runs)
+    let runs : Runs d now h = subst (λ (x : State). Runs d x h) (sym moved) (subst (Runs d (steps d n old)) (sym who) run.runs) in (
+      record {
+        holds = runs.holds;
+        guest = who;
+        state = subst (λ (x : State). virtual x.cells h ≡ vn) (sym moved) (subst (λ x. virtual (steps d n old).cells x ≡ vn) (sym who) run.state);
+        outside = kept-beside old.cells now.cells vn.cells g (ap (λ (x : State). x.cells) moved ∙ run.storage) run.length (omega (arith, run.within));
+      },
+      runs,
+    )
 
 -- turns of the hardware behind which a step trapped
 pub Advanced-halted : (d : Desc) (m : ℕ) (old mid : State) (g h : Guest) → Directly d m old g → Halted d m old mid g h → Advanced d m old mid g h

@@ -34,6 +34,12 @@ impl<'m> Hybrid<'m> {
         ensures fixed { H.fixed hw.new ≡ H.fixed hw.old }
     {
         let machine = self.accepted.machine();
-        admit_image(machine, hw, &mut self.granted, &mut self.guests, image.as_slice())
+        admit_image(
+            machine,
+            hw,
+            &mut self.granted,
+            &mut self.guests,
+            image.as_slice(),
+        )
     }
 }

@@ -66,12 +66,18 @@ pub(crate) fn burst_on<H: Hardware>(
     match psw.mode {
         Mode::U => {
             guest.psw.p = psw.p;
-            Burst { done, goes_on: true }
+            Burst {
+                done,
+                goes_on: true,
+            }
         }
         Mode::S => {
             guest.psw.p = unpack(m.shape(), hw.peek(OLD_PSW_CELL)).p;
             interpret(m, hw, guest, frame);
-            Burst { done, goes_on: false }
+            Burst {
+                done,
+                goes_on: false,
+            }
         }
     }
 }

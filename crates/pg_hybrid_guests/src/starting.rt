@@ -9,8 +9,8 @@ ghost use Rattle.pg_shown.specs.Setting.{HaveRoom, SetUp, loaded_for, loaded_fro
 ghost use Rattle.pg_shown.specs.Begun.{HoldsNoMore, IsBegun, LoadedSome};
 
 use pg_hw::Hardware;
-use pg_image::Image;
 use pg_hybrid::{GuestFault, Hybrid};
+use pg_image::Image;
 use pg_type::HybridAccepted;
 use std::alloc::{AllocError, Global};
 

@@ -37,7 +37,13 @@ impl<'m> Monitor<'m> {
         ensures fixed { H.fixed hw.new ≡ H.fixed hw.old }
     {
         let machine = self.accepted.machine();
-        admit_image(machine, hw, &mut self.granted, &mut self.guests, image.as_slice())
+        admit_image(
+            machine,
+            hw,
+            &mut self.granted,
+            &mut self.guests,
+            image.as_slice(),
+        )
     }
 
     /// Loads a state as a new guest, which goes on from it, as `load` does an image. The number of the guest.

@@ -15,9 +15,7 @@ const GOES_ON: [u64; 8] = [0, 0x0103_0008, 0x8000_0000, 0, 0, 0, 0, 0];
 const STAYS: [u64; 8] = [0, 0x0002_0008, 0x8000_0000, 0, 0, 0, 0, 0];
 
 #[test]
-fn another_guest_stays_loaded_beside_turns_in_supervisor_mode(
-    rt: HostRuntime,
-) -> Result<(), Fail> {
+fn another_guest_stays_loaded_beside_turns_in_supervisor_mode(rt: HostRuntime) -> Result<(), Fail> {
     let machine = machine(rt.alloc())?;
     let mut hw = Rig::new(rt.alloc());
     let mut monitor = of_two(rt.alloc(), accepted(&machine), &mut hw, &GOES_ON, &STAYS)?;
@@ -26,8 +24,27 @@ fn another_guest_stays_loaded_beside_turns_in_supervisor_mode(
     monitor.run_sliced(&mut hw, 2, 6);
     assert!(rt; are_at(&monitor, whole(Mode::U, 8), whole(Mode::S, 2)));
     assert!(rt; hw.counts() == counts(5, 5, 24, 1));
-    assert!(rt; has_words(&hw, &[(0, 0), (1, 0x0002_0040), (2, 0x0002_0008), (10, 0x0002_0008), (18, 0)]));
-    assert!(rt; hw.psw() == Psw { mode: Mode::U, p: 8, l: 2, b: 8 });
+    assert!(rt;
+        has_words(
+            &hw,
+            &[
+                (0, 0),
+                (1, 0x0002_0040),
+                (2, 0x0002_0008),
+                (10, 0x0002_0008),
+                (18, 0)
+            ]
+        )
+    );
+    assert!(rt;
+        hw.psw()
+            == Psw {
+                mode: Mode::U,
+                p: 8,
+                l: 2,
+                b: 8
+            }
+    );
     Ok(())
 }
 
