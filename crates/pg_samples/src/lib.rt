@@ -75,4 +75,5 @@ pgv print DESC
 pgv gen NUMBER SIZE --cert FILE
 pgv migrate DESC CERT FILE
 pgv hcheck DESC --cert FILE [--budget K]
+pgv hybrid DESC CERT IMAGE.. --grant G --steps N [--slice K]
 ";

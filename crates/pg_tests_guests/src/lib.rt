@@ -3,7 +3,8 @@
 //! one has nothing to prove.
 //!
 //! - `worked`: runs that were worked out by hand. `beside`: guests beside bare machines. `hostile`: guests that reach for what is not
-//!   theirs. `accepted`: which machines run guests. `refused`: runs that are refused, and calls that fail.
+//!   theirs. `accepted`: which machines run guests. `refused`: runs that are refused, and calls that fail. `hybrid`: guests under a
+//!   hybrid monitor.
 #![tactic(auto)]
 
 #[cfg(test)]
@@ -12,6 +13,8 @@ mod accepted;
 mod beside;
 #[cfg(test)]
 mod hostile;
+#[cfg(test)]
+mod hybrid;
 #[cfg(test)]
 mod refused;
 #[cfg(test)]

@@ -236,8 +236,26 @@ fn lines_of_run_that_are_taken(rt: HostRuntime) -> Result<(), Fail> {
     Ok(())
 }
 
+#[test]
+fn words_of_hybrid_are_those_of_run(rt: HostRuntime) -> Result<(), Fail> {
+    let line = "pgv|hybrid|d|c|i|j|--grant=8|--steps=3|--slice=7";
+    let got = asked(rt.alloc(), line)?;
+    match &got {
+        Ok(Request::Hybrid(words)) => {
+            assert!(rt; words.desc.as_str() == "d", "{line}");
+            assert!(rt; words.cert.as_str() == "c", "{line}");
+            assert!(rt; words.images.len() == 2, "{line}");
+            assert!(rt; words.grant.cells() == 8, "{line}");
+            assert!(rt; words.steps.count() == 3, "{line}");
+            assert!(rt; words.slice.steps() == 7, "{line}");
+        }
+        _ => assert!(rt; false, "{line}"),
+    }
+    Ok(())
+}
+
 /// Lines that are refused.
-const REFUSED: [&str; 96] = [
+const REFUSED: [&str; 98] = [
     "pgv",
     "pgv|verify",
     "pgv|--help",
@@ -332,6 +350,8 @@ const REFUSED: [&str; 96] = [
     "pgv|hcheck|d",
     "pgv|hcheck|d|e|--cert=c",
     "pgv|hcheck|d|--cert=c|--budget=0",
+    "pgv|hybrid|d|c|--grant=8|--steps=3",
+    "pgv|hybrid|d|c|i|--grant=8|--steps=3|--slice=0",
     "",
     "pgv|",
 ];

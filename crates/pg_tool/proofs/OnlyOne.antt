@@ -1,6 +1,6 @@
 -- A command line comes to one thing, for told files.
 use Rattle.std.proofs.Common.{List, ℕ, Option, Some, None, Ok, Err, sym, ◌∙◌, ap}
-use Rattle.pg_cert.specs.declared.cert.Family.TheVariants.{Plain}
+use Rattle.pg_cert.specs.declared.cert.Family.TheVariants.{Plain, Hybrid}
 use Rattle.pg_command.specs.Asked.{request_of}
 use Rattle.pg_asked.specs.declared.ask.Request.{Request}
 use Rattle.pg_asked.specs.declared.ask.Request.TheVariants as request
@@ -19,11 +19,12 @@ one-command files (request.Bare b) = one-bare files b
 one-command files (request.Check c) = one-desc files c.desc
 one-command files (request.Verify v) = one-judged Plain files v.desc v.cert
 one-command files (request.Replay r) = one-judged Plain files r.desc r.cert
-one-command files (request.Run r) = one-run files r
+one-command files (request.Run r) = one-run Plain files r
 one-command files (request.Print p) = one-print files p
 one-command files (request.Gen g) = one-gen files g
 one-command files (request.Migrate m) = one-judged Plain files m.desc m.cert
 one-command files (request.Hcheck c) = one-desc files c.desc
+one-command files (request.Hybrid r) = one-run Hybrid files r
 
 one-refused : IsOne WordsRefused
 one-refused (Ok a) b h k = absurd a

@@ -14,6 +14,7 @@ use Rattle.pg_steps.specs.Commands.{Command}
 use Rattle.pg_steps.specs.Steps.{Step, Came, Refused, Misread}
 use Rattle.pg_tool_plain.specs.Bare.{bare_command}
 use Rattle.pg_tool_run.specs.Run.{run_command}
+use Rattle.pg_tool_run.specs.Hybrid.{hybrid_command}
 use Rattle.pg_tool_plain.specs.Print.{print_command}
 use Rattle.pg_tool_judging.specs.Verify.{verify_command}
 use Rattle.pg_tool_judging.specs.Replay.{replay_command}
@@ -53,6 +54,7 @@ command_of (request.Print p) = print_command p
 command_of (request.Gen g) = gen_command g
 command_of (request.Migrate m) = migrate_command m
 command_of (request.Hcheck c) = check_command Hybrid c
+command_of (request.Hybrid r) = hybrid_command r
 
 abbrev pub command_or_none : Option Request → Command
 command_or_none None = no_command

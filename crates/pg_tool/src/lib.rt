@@ -35,7 +35,7 @@ pub use pg_steps::{Refusal, Status};
 use pg_tool_gen::carry_gen;
 use pg_tool_judging::{carry_check, carry_migrate, carry_replay, carry_verify};
 use pg_tool_plain::{carry_bare, carry_print};
-use pg_tool_run::carry_run;
+use pg_tool_run::{carry_hybrid, carry_run};
 pub use pg_type::Kind;
 use std::alloc::Global;
 
@@ -142,6 +142,7 @@ fn carry<F: Shelf, S: Sink, H: Hardware, W: Watcher>(
             hw,
             watcher,
         ),
+        Request::Hybrid(words) => carry_hybrid(alloc, words, shelf, out, hw),
     }
 }
 

@@ -1,4 +1,5 @@
 pub mod LoadingLemmas
 pub mod RunLemmas
 pub mod EndsLemmas
+pub mod HybridLemmas
 pub mod OneRun

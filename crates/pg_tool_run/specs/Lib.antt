@@ -1,4 +1,5 @@
 pub mod Loading
 pub mod Run
+pub mod Hybrid
 pub mod Views
 pub mod Plans

@@ -1,13 +1,16 @@
-//! The commands that run guests: `run`.
+//! The commands that run guests: `run` and `hybrid`.
 //!
 //! - `files`, `loading`: what every such command loads first. `plan`, `preparing`: a run made ready.
-//! - `run`: images as guests under a monitor, where a certificate says that one may run the machine.
+//! - `run`: images as guests under a monitor, where a certificate says that one may run the machine. `hybrid`: the same under a
+//!   hybrid monitor.
 #![tactic(auto)]
 
 mod files;
+mod hybrid;
 mod loading;
 mod plan;
 mod preparing;
 mod run;
 
+pub use hybrid::carry_hybrid;
 pub use run::carry_run;
