@@ -92,8 +92,19 @@ texts_have_room shape g numbers h =
     let two : List ℕ = size_text n ++ psw_text g.state.psw in
     let all_rows : List ℕ = lines_before shape.w (line_count n) cells in
     let head : List ℕ = first_text ++ steps_text g.steps in
-    omega (arith, length-append (head ++ (two ++ all_rows)) end_text, length-append head (two ++ all_rows), length-append two all_rows,
-    length-append (size_text n) (psw_text g.state.psw), length-append first_text (steps_text g.steps), size, size_len, psw, steps, rows)
+    omega (
+      arith,
+      length-append (head ++ (two ++ all_rows)) end_text,
+      length-append head (two ++ all_rows),
+      length-append two all_rows,
+      length-append (size_text n) (psw_text g.state.psw),
+      length-append first_text (steps_text g.steps),
+      size,
+      size_len,
+      psw,
+      steps,
+      rows,
+    )
 
 room_most : (shape : Shape) (size : ℕ) → IsShape shape → size ≤ shape.q → room_of shape size ≤ most_bytes
 room_most shape size numbers l =

@@ -80,10 +80,12 @@ lines_more shape ls l = lines_text-append shape ls (l ∷ []) ∙ ap (λ bs. lin
 
 head_more : (shape : Shape) (steps : ℕ) (ls : List Line) (l : Line) (done bytes : List ℕ) → IsHead shape steps ls done →
     bytes ≡ line_text shape l → IsHead shape steps (ls ++ l ∷ []) (done ++ bytes)
-head_more shape steps ls l done bytes h e =
-    (h.0, ap (λ bs. bs ++ bytes) h.1 ∙ append_assoc (head_text steps) (lines_text shape ls) bytes
-    ∙ ap (λ bs. head_text steps ++ (lines_text shape ls ++ bs)) e
-    ∙ ap (λ bs. head_text steps ++ bs) (sym (lines_more shape ls l)))
+head_more shape steps ls l done bytes h e = (
+  h.0,
+  ap (λ bs. bs ++ bytes) h.1 ∙ append_assoc (head_text steps) (lines_text shape ls) bytes
+      ∙ ap (λ bs. head_text steps ++ (lines_text shape ls ++ bs)) e
+      ∙ ap (λ bs. head_text steps ++ bs) (sym (lines_more shape ls l)),
+)
 
 -- ---- the first line and the steps
 
@@ -110,9 +112,11 @@ module _ (shape : Shape) (n : ℕ) (done bytes : List ℕ) where
     where
       counted : (k : ℕ) (b : Bool) → k ≤ most_steps → bytes_eq bytes (steps_text k) ≡ b →
           ◌≡◌ {A = Result SavedReader SavedFault} (if b then Ok (Counted k) else Err (fault.Grammar n)) (Ok q) → IsAt shape q (done ++ bytes)
-      counted k true most t e = subst (λ r. IsAt shape r (done ++ bytes)) (same_ok (Counted k) q e)
-          (most, ap (λ bs. bs ++ bytes) h ∙ ap (λ bs. first_text ++ bs) ((bytes_eq-Decides bytes (steps_text k)).0 t)
-          ∙ sym (append-nil (head_text k)))
+      counted k true most t e = subst (λ r. IsAt shape r (done ++ bytes)) (same_ok (Counted k) q e) (
+        most,
+        ap (λ bs. bs ++ bytes) h ∙ ap (λ bs. first_text ++ bs) ((bytes_eq-Decides bytes (steps_text k)).0 t)
+            ∙ sym (append-nil (head_text k)),
+      )
       counted k false most t e = no_ok (fault.Grammar n) q e
 
       by : (o : Option ℕ) → number_of_steps bytes ≡ o → steps_counted n bytes o ≡ Ok q → IsAt shape q (done ++ bytes)
@@ -181,14 +185,16 @@ module _ (shape : Shape) (n : ℕ) (done bytes : List ℕ) where
   psw_spelled : (steps size : ℕ) (psw : Psws) → IsLine shape (line.Psw psw) → bytes ≡ line_text shape (line.Psw psw) →
       IsAt shape (Sized steps size) done → IsAt shape (Drawing steps (drawn size psw)) (done ++ bytes)
   psw_spelled steps size psw l t h =
-      let more = head_more shape steps (line.Size size ∷ []) (line.Psw psw) done bytes h.2 t in
-      (record {
-        drawn = drawn_new size psw;
-        least = h.0;
-        most = h.1;
-        fields = psw_fits shape psw l;
-        words = All-nil (λ (c : ℕ × ℕ). c.1 < 2 ^ shape.w);
-      }, subst (λ ls. IsHead shape steps ls (done ++ bytes)) (drawn_new-lines size psw) more)
+      let more = head_more shape steps (line.Size size ∷ []) (line.Psw psw) done bytes h.2 t in (
+        record {
+          drawn = drawn_new size psw;
+          least = h.0;
+          most = h.1;
+          fields = psw_fits shape psw l;
+          words = All-nil (λ (c : ℕ × ℕ). c.1 < 2 ^ shape.w);
+        },
+        subst (λ ls. IsHead shape steps ls (done ++ bytes)) (drawn_new-lines size psw) more,
+      )
 
   cells_spelled : (steps first : ℕ) (words : List ℕ) (s : Drawn) (q : SavedReader) → IsLine shape (line.Cells first words) →
       bytes ≡ line_text shape (line.Cells first words) → drawn_on n steps (with_row first words s) ≡ Ok q →
@@ -268,17 +274,19 @@ over_spelled shape steps s done h =
     let fit = h.0 in
     let n = length-storage_of s.size s.cells in
     let text : lines_text shape (drawn_lines s ++ line.End ∷ []) ≡ lines_text shape (drawn_lines s) ++ line_text shape line.End =
-    lines_more shape (drawn_lines s) line.End in
-    (record {
-      steps = h.1.0;
-      least = subst (λ k. 2 ≤ k) (sym n) fit.least;
-      most = subst (λ k. k ≤ shape.q) (sym n) fit.most;
-      words = storage_fits shape.w s.size s.cells fit.words (pow_pos shape.w);
-      fields = fit.fields;
-    }, h.1.1 ∙ ap (λ bs. head_text steps ++ bs) (text
-    ∙ ap (λ bs. bs ++ line_text shape line.End) (lines_of_state shape (sparse_of s fit.drawn.within))
-    ∙ ap (λ bs. state_text shape.w (storage_of s.size s.cells) s.psw ++ bs) (end_line shape))
-    ∙ sym (append_assoc (head_text steps) (state_text shape.w (storage_of s.size s.cells) s.psw) end_text))
+    lines_more shape (drawn_lines s) line.End in (
+      record {
+        steps = h.1.0;
+        least = subst (λ k. 2 ≤ k) (sym n) fit.least;
+        most = subst (λ k. k ≤ shape.q) (sym n) fit.most;
+        words = storage_fits shape.w s.size s.cells fit.words (pow_pos shape.w);
+        fields = fit.fields;
+      },
+      h.1.1 ∙ ap (λ bs. head_text steps ++ bs) (text
+          ∙ ap (λ bs. bs ++ line_text shape line.End) (lines_of_state shape (sparse_of s fit.drawn.within))
+          ∙ ap (λ bs. state_text shape.w (storage_of s.size s.cells) s.psw ++ bs) (end_line shape))
+          ∙ sym (append_assoc (head_text steps) (state_text shape.w (storage_of s.size s.cells) s.psw) end_text),
+    )
 
 finished_spelled : (shape : Shape) (n : ℕ) (r : SavedReader) (g : SavedGuest) (done : List ℕ) → finished n r ≡ Ok g →
     IsAt shape r done → IsSpelled shape g done

@@ -60,10 +60,12 @@ pub(crate) fn is_version(alloc: Global, bytes: &[u8]) -> Result<bool, AllocError
     ensures { IfOk result (λ is. is ≡ is_version bytes.now) }
 {
     let parts = Parts::cut(alloc, but_last(bytes))?;
-    Ok(ends_in_lf(bytes)
-        && parts.len() == 2
-        && is_same(parts.part(0), b"pgguest")
-        && is_decimal(parts.part(1)))
+    Ok(
+        ends_in_lf(bytes)
+            && parts.len() == 2
+            && is_same(parts.part(0), b"pgguest")
+            && is_decimal(parts.part(1)),
+    )
 }
 
 /// The number that stands where that of the steps does, if one does.

@@ -36,14 +36,7 @@ fn put(bytes: &[u8], into: &mut Vec<u8>)
 }
 
 /// Puts the row of cells of this number, of the `size` cells of the hardware from `base` on, unless all of them are zero.
-fn put_row<H: Hardware>(
-    shape: &Shape,
-    hw: &H,
-    base: u32,
-    size: u32,
-    k: u32,
-    into: &mut Vec<u8>,
-)
+fn put_row<H: Hardware>(shape: &Shape, hw: &H, base: u32, size: u32, k: u32, into: &mut Vec<u8>)
     requires shape { IsShape shape.now }
     requires within { base + size ≤ length (H.machinery hw.now).state.cells }
     requires addressable { base + size < 2 ^ 32 }

@@ -92,13 +92,7 @@ fn put_line<S: Sink, H: Hardware>(
 }
 
 /// The line of cells of this number, of the `size` cells of the hardware from `base` on: `None` where all of them are zero.
-pub fn row_line<H: Hardware>(
-    shape: &Shape,
-    hw: &H,
-    base: u32,
-    size: u32,
-    k: u32,
-) -> Option<Line>
+pub fn row_line<H: Hardware>(shape: &Shape, hw: &H, base: u32, size: u32, k: u32) -> Option<Line>
     requires shape { IsShape shape.now }
     requires within { base + size ≤ length (H.machinery hw.now).state.cells }
     requires addressable { base + size < 2 ^ 32 }

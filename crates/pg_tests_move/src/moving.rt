@@ -56,7 +56,12 @@ fn a_guest_stands_where_it_was_captured(rt: HostRuntime) -> Result<(), Fail> {
     let number = adopt(&mut monitor, &mut hw, &saved)?;
     assert_eq!(rt; number, 0);
     let guest = monitor.guest(0);
-    let stands = Psw { mode: Mode::S, p: 3, l: 0, b: 16 };
+    let stands = Psw {
+        mode: Mode::S,
+        p: 3,
+        l: 0,
+        b: 16,
+    };
     assert!(rt; guest.base == 22 && guest.size == 16 && guest.psw == stands);
     assert!(rt; hw.size() == 64 && hw.peek(22) == 6 && hw.peek(37) == 9 && hw.peek(38) == 0);
 

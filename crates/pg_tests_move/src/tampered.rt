@@ -48,9 +48,15 @@ fn lines_are_left_out_and_doubled(rt: HostRuntime) -> Result<(), Fail> {
     let alloc = rt.alloc();
     for (number, left_out) in [1, 2, 3, 4, 0, 0, 7].iter().enumerate() {
         let text = without(alloc, number)?;
-        assert!(rt; grammar_of(alloc, text.as_slice()) == Some(*left_out), "without {number}");
+        assert!(rt;
+            grammar_of(alloc, text.as_slice()) == Some(*left_out),
+            "without {number}"
+        );
         let text = doubled(alloc, number)?;
-        assert!(rt; grammar_of(alloc, text.as_slice()) == Some(number as u32 + 2), "doubled {number}");
+        assert!(rt;
+            grammar_of(alloc, text.as_slice()) == Some(number as u32 + 2),
+            "doubled {number}"
+        );
     }
     Ok(())
 }
@@ -69,7 +75,10 @@ fn lines_are_exchanged(rt: HostRuntime) -> Result<(), Fail> {
     ];
     for (number, (lines, want)) in table.iter().enumerate() {
         let text = text_of(alloc, lines)?;
-        assert!(rt; grammar_of(alloc, text.as_slice()) == Some(*want), "row {number}");
+        assert!(rt;
+            grammar_of(alloc, text.as_slice()) == Some(*want),
+            "row {number}"
+        );
     }
     Ok(())
 }
@@ -91,7 +100,10 @@ fn texts_that_are_cut_off_are_refused(rt: HostRuntime) -> Result<(), Fail> {
     let text = text_of(alloc, &[0, 1, 2, 3, 4, 5, 6])?;
     let text = text.as_slice();
     for len in 0..text.len() {
-        assert!(rt; grammar_of(alloc, &text[..len]) == Some(line_at(text, len)), "{len} bytes");
+        assert!(rt;
+            grammar_of(alloc, &text[..len]) == Some(line_at(text, len)),
+            "{len} bytes"
+        );
     }
     Ok(())
 }
@@ -111,7 +123,10 @@ fn bytes_are_changed(rt: HostRuntime) -> Result<(), Fail> {
                     read = read.saturating_add(1);
                 }
                 Err(fault) => {
-                    assert!(rt; !matches!(fault, SavedFault::Token(_) | SavedFault::Long), "byte {at}");
+                    assert!(rt;
+                        !matches!(fault, SavedFault::Token(_) | SavedFault::Long),
+                        "byte {at}"
+                    );
                 }
             }
         }

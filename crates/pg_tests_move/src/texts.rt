@@ -73,7 +73,10 @@ fn texts_and_what_they_say(rt: HostRuntime) -> Result<(), Fail> {
     let alloc = rt.alloc();
     for (number, (text, want)) in TABLE.iter().enumerate() {
         match told(alloc, text) {
-            Ok(again) => assert!(rt; again.as_slice() == *text && want.is_empty(), "row {number}"),
+            Ok(again) => assert!(rt;
+                again.as_slice() == *text && want.is_empty(),
+                "row {number}"
+            ),
             Err(fault) => {
                 let shown = format!(in alloc; "{fault}")?;
                 assert_eq!(rt; shown.as_str(), *want, "row {number}");

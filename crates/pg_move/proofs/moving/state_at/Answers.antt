@@ -17,12 +17,12 @@ loop-at-preserved g c =
     let at = c.loop-at.at in
     elim c.if-word-ne0.branch [
       | then-word-ne0+in_ok-push w ↦ subst (λ (s : Sparse). IsCaptured held guest.base guest.size guest.psw s (at + 1)) (sym w.state-is)
-        (captured-word held guest.base guest.size guest.psw c.requires.within c.loop-at.state w.push.new.self at c.peek-word.result
-        c.loop-at-test.true c.peek-word.ensures w.if-word-ne0.true w.in_ok-push.ensures.size w.in_ok-push.ensures.psw w.in_ok-push.ensures.ok
-        c.loop-at.invariant)
+          (captured-word held guest.base guest.size guest.psw c.requires.within c.loop-at.state w.push.new.self at c.peek-word.result
+          c.loop-at-test.true c.peek-word.ensures w.if-word-ne0.true w.in_ok-push.ensures.size w.in_ok-push.ensures.psw w.in_ok-push.ensures.ok
+          c.loop-at.invariant)
       | else-word-ne0 w ↦ subst (λ (s : Sparse). IsCaptured held guest.base guest.size guest.psw s (at + 1)) (sym w.state-is)
-        (captured-zero held guest.base guest.size guest.psw c.requires.within c.loop-at.state at c.peek-word.result
-        c.loop-at-test.true c.peek-word.ensures w.if-word-ne0.false c.loop-at.invariant)
+          (captured-zero held guest.base guest.size guest.psw c.requires.within c.loop-at.state at c.peek-word.result
+          c.loop-at-test.true c.peek-word.ensures w.if-word-ne0.false c.loop-at.invariant)
     ]
 
 pub returns : goal.returns
