@@ -1,4 +1,5 @@
 use Rattle.std.proofs.Common.{refl}
+use Rattle.std.specs.Fmt.{digits}
 use Rattle.pg_image.specs.Lines.{size_text, psw_text, words_text, cells_text, cells_shown, lines_before, state_text}
 use Rattle.pg_text.specs.Printing.{hex_text}
 use Rattle.pg_cert.specs.Lines.{line_parts, line_text, is_line}
@@ -9,7 +10,7 @@ use Rattle.pg_move.specs.Reading.{cut_lines, is_version, after_own, after_form, 
 use Rattle.pg_move.proofs.laws.worked_texts.Goals as goal
 
 pub returns-clause-three_steps : goal.returns-clause-three_steps
-unfolding saved_text steps_text size_text psw_text words_text cells_text cells_shown lines_before state_text hex_text
+unfolding saved_text steps_text digits size_text psw_text words_text cells_text cells_shown lines_before state_text hex_text
 returns-clause-three_steps c = refl
 
 pub returns-clause-another_version : goal.returns-clause-another_version
