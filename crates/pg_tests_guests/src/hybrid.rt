@@ -74,7 +74,12 @@ steps 12 direct 2
 #[test]
 fn guests_of_a_hybrid_monitor_come_to_what_was_worked_out(rt: HostRuntime) -> Result<(), Fail> {
     let desc = format!(in rt.alloc(); "{M0}{RTU}")?;
-    let files = [("d", desc.as_str()), ("c", ""), ("calls", CALLS), ("loop", LOOP)];
+    let files = [
+        ("d", desc.as_str()),
+        ("c", ""),
+        ("calls", CALLS),
+        ("loop", LOOP),
+    ];
     let mut at = Setting::new(rt.alloc(), &files, &[])?;
     at.run("hcheck d --cert c")?;
     for run in &WORKED {
@@ -121,8 +126,16 @@ fn what_keeps_guests_from_their_first_turn(rt: HostRuntime) -> Result<(), Fail> 
     let mut at = Setting::new(rt.alloc(), &files, &[])?;
     at.run("check d --cert plain")?;
     for (line, text, status) in [
-        ("hybrid d x x --grant 63 --steps 0", "room 63 62\n", Status::Room),
-        ("hybrid d plain i --grant 8 --steps 1", "certificate: grammar 1\n", Status::Certificate),
+        (
+            "hybrid d x x --grant 63 --steps 0",
+            "room 63 62\n",
+            Status::Room,
+        ),
+        (
+            "hybrid d plain i --grant 8 --steps 1",
+            "certificate: grammar 1\n",
+            Status::Certificate,
+        ),
         ("hybrid d plain x --grant 8 --steps 1", "", Status::Missing),
     ] {
         at.expect_untouched(line, status, text)?;
