@@ -1,7 +1,6 @@
 -- `hybrid`: images as guests of one hybrid monitor, where a certificate of the hybrid family says that one may run the machine.
 use Rattle.std.specs.Prelude.{◌≡◌, ℕ, List, All, length, map, None}
 use Rattle.pg_cert.specs.declared.cert.Family.TheVariants.{Hybrid}
-use Rattle.pg_cert.specs.declared.report.Verdict.TheVariants as verdict
 use Rattle.pg_asked.specs.declared.run.RunWords.{RunWords}
 use Rattle.pg_type.specs.Accepting.{IsHybridAccepted}
 use Rattle.pg_meaning.specs.Steps.{bare}
