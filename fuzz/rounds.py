@@ -249,6 +249,7 @@ ROUNDS = (
     CheckedRound("tame-guest-runs", guests.tame),
     CheckedRound("guest-windows", guests.windows),
     CheckedRound("guest-systems", guests.systems),
+    CheckedRound("guest-hybrids", guests.hybrids),
     CheckedRound("guest-certificates", guests.certified),
     CheckedListRound("guest-rows", guests.rows),
     RandomRound("operators", operators),

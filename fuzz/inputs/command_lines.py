@@ -286,10 +286,10 @@ FILES_ALONE = {"print": ["d"], "verify": ["n", "v"], "replay": ["n", "v"], "migr
 
 def random_line(rng: Random) -> Case:
     """A line that is taken, with up to three edits."""
-    command = rng.choice(["bare", "run", "run", "print", "verify", "check", "replay", "migrate", "hcheck", "gen"])
-    files = ["n", "v", "i", *["z"] * rng.choice([0, 0, 1, 6])] if command == "run" else ["d", "i"]
+    command = rng.choice(["bare", "run", "hybrid", "print", "verify", "check", "replay", "migrate", "hcheck", "gen"])
+    files = ["n", "v", "i", *["z"] * rng.choice([0, 0, 1, 6])] if command in ("run", "hybrid") else ["d", "i"]
     words = [*files, "--grant=8", "--steps=3"] if rng.random() < 0.5 else [*files, *BOTH]
-    if command == "run" and rng.random() < 0.5:
+    if command in ("run", "hybrid") and rng.random() < 0.5:
         words += rng.choice([SLICE, ["--slice=5"]])
     if command in FILES_ALONE and rng.random() < 0.7:
         words = FILES_ALONE[command]

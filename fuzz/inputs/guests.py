@@ -9,7 +9,7 @@ from random import Random
 
 from inputs import certificates
 from inputs.bodies import Manner
-from inputs.case import Case, running_guests
+from inputs.case import CERTIFICATE_FILE, DESCRIPTION_FILE, Case, running_guests
 from inputs.certificate_edits import spoiled
 from inputs.checker import Means
 from inputs.checks import described, listed_bodies, pieced_body, small_shape
@@ -94,6 +94,16 @@ def certified(rng: Random, means: Means) -> Iterator[Case]:
         certificate = rng.choices([_own, _written, _of_another, _of_an_older, _damaged, _hybrid], [30, 12, 10, 20, 20, 8])[0]
         text = certificate(rng, means, description)
         yield _with_guests(rng, description, text, rng.choice([0, 1, 3, 9]))
+
+
+def hybrids(rng: Random, means: Means) -> Iterator[Case]:
+    """Runs of all other kinds under a hybrid monitor, most by what `hcheck` saves of their machine."""
+    for case in rng.choice([rough, tame, windows, systems, certified])(rng, means):
+        files = dict(case.files)
+        if rng.random() < 0.9:
+            files[CERTIFICATE_FILE] = checked(means, files[DESCRIPTION_FILE], command="hcheck")
+        other = case.other_words and ("hybrid", *case.other_words[1:])
+        yield case._replace(words=("hybrid", *case.words[1:]), files=files, other_words=other)
 
 
 def rows(means: Means) -> list[Case]:

@@ -30,10 +30,14 @@ USAGE = (
     "pgv gen NUMBER SIZE --cert FILE\n"
     "pgv migrate DESC CERT FILE\n"
     "pgv hcheck DESC --cert FILE [--budget K]\n"
+    "pgv hybrid DESC CERT IMAGE.. --grant G --steps N [--slice K]\n"
 )
 
 SEARCHES = {"check": PURE, "hcheck": HYBRID}
 """Commands that ask questions, and of which kinds."""
+
+RUNS = {"run": PURE, "hybrid": HYBRID}
+"""Commands that run guests, and by certificates of which kinds."""
 
 SAVING = (*SEARCHES, "migrate", "gen")
 """Commands that save a file."""
@@ -216,14 +220,16 @@ def _bare(asked: Request, description: tree.Description, load: Load) -> Answer:
 def _run(asked: Request, text: bytes, description: tree.Description, load: Load, questions: Questions) -> Answer:
     """The room for all guests, the images in order, the certificate and what it comes to, then the run.
 
-    How many turns a guest has at a time plays no part in what is answered.
+    How many turns a guest has at a time plays no part in what is answered. Under `hybrid` the hardware makes the turns that begin
+    in user mode alone.
     """
+    family = RUNS[asked.command]
     _, certificate, *images = asked.files
     grant, steps = asked.numbers["grant"], asked.numbers["steps"]
     _ask_for_room(len(images) * grant, description.size - MONITOR_CELLS)
     storages = [_image(number, load(name), description, grant) for number, name in enumerate(images)]
-    ending = verifying(description, load(certificate), partial(questions.clauses, text))
-    return _guests(description, storages, steps) if ending.status == ACCEPTED else ending
+    ending = verifying(description, load(certificate), partial(questions.clauses, text), family)
+    return _guests(description, storages, steps, family) if ending.status == ACCEPTED else ending
 
 
 def _ask_for_room(wanted: int, free: int) -> None:
@@ -239,11 +245,11 @@ def _image(number: int, text: bytes, description: tree.Description, size: int) -
         raise _Refused(_told(IMAGE, f"image {number}: {fault.line}\n")) from None
 
 
-def _guests(description: tree.Description, storages: Sequence[list[int]], steps: int) -> Answer:
+def _guests(description: tree.Description, storages: Sequence[list[int]], steps: int, family: Family) -> Answer:
     """The state of each guest after its steps, then all steps, and how many of them were direct."""
     told, all_direct = "", 0
     for number, cells in enumerate(storages):
-        state, direct = run_guest(description, cells, steps, base_of(number, len(cells)))
+        state, direct = run_guest(description, cells, steps, base_of(number, len(cells)), from_user_mode_alone=family is HYBRID)
         told += f"guest {number}\n{state_text(state, description.word)}"
         all_direct += direct
     return _told(DONE, f"{told}steps {len(storages) * steps} direct {all_direct}\n")

@@ -59,8 +59,9 @@ FORMS = {
     "replay": Form(2),
     "migrate": Form(3, saves_last=True),
     "gen": Form(0, ("cert",), numbers=("number", "size")),
+    "hybrid": Form(3, ("grant", "steps"), {"slice": SLICE}, more_files=MOST_IMAGES - 1),
 }
-"""The commands. Files are a description, then an image or a certificate, and behind that of `run` an image for each guest.
+"""The commands. Files are a description, then an image or a certificate, and behind that of `run` and `hybrid` an image for each guest.
 
 `cert` is the name of one that is written.
 """
