@@ -40,7 +40,12 @@ steps 3 direct 2
 ];
 
 /// The machine, the images `i` and `j`, and the certificate `c`.
-fn setting(alloc: Global, first: &str, second: &str, cert: &[u8]) -> Result<Setting, AllocError> {
+fn setting<'a>(
+    alloc: Global,
+    first: &'a str,
+    second: &'a str,
+    cert: &[u8],
+) -> Result<Setting, AllocError> {
     Setting::new(alloc, &[("d", M0), ("i", first), ("j", second)], cert)
 }
 
@@ -52,7 +57,7 @@ fn certified(alloc: Global) -> Result<Setting, AllocError> {
 }
 
 /// Two guests that run side by side, step by step, are told as two bare machines are.
-fn agree(alloc: Global, first: &str, second: &str, cert: &[u8]) -> Result<(), Fail> {
+fn agree<'a>(alloc: Global, first: &'a str, second: &'a str, cert: &[u8]) -> Result<(), Fail> {
     let mut at = setting(alloc, first, second, cert)?;
     at.run("bare d i --grant 8 --steps 4")?;
     let one = format!(in alloc; "guest 0\n{}", at.text())?;

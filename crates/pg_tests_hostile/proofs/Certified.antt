@@ -11,8 +11,8 @@ use Rattle.pg_cert.specs.declared.report.Verdict.TheVariants.{Accepted}
 use Rattle.pg_cert.specs.Texts.{heading_of}
 use Rattle.pg_cert.specs.Verdicts.{mark_of, verdict_of}
 use Rattle.pg_classify.specs.Classified.{IsClassified}
-use Rattle.pg_tool.specs.Meaning.{IsAcceptedBy, Means}
-use Rattle.pg_tool.proofs.VerdictMeanings.{certificate_means}
+use Rattle.pg_judged.specs.Meaning.{IsAcceptedBy, Means}
+use Rattle.pg_judged.proofs.VerdictMeanings.{certificate_means}
 
 pub accepted-by : (d : Desc) (cert : Cert) (report : Report) → IsValid d → IsClassified d Plain 20000 cert → report.family ≡ cert.family →
     report.marks ≡ map mark_of cert.findings → verdict_of report.family report.marks ≡ Accepted → IsAccepted d
