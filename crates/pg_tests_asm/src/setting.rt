@@ -13,10 +13,10 @@ pub const M0: &str = "machine{word 32;address 8;size 64;}
     instr svc \"00000011_........................\" { trap; }
     instr lr \"00000100_........_llllllll_bbbbbbbb\" { if mode { trap; } rel = l; bound = b; }";
 
-/// Words of 64 bits: a field of 63 bits beside one of a bit, and one of 62 that a free place cuts off.
+/// Words of 64 bits: a field of 62 bits above one of a bit, and one of 62 bits below a free place.
 pub const WIDE: &str = "machine{word 64;address 8;size 64;}
     instr long \"0xxxxxxxxxxxxxxxxxxxxxxxxxxxxxxxxxxxxxxxxxxxxxxxxxxxxxxxxxxxxxxy\" {}
-    instr cut \"1.xxxxxxxxxxxxxxxxxxxxxxxxxxxxxxxxxxxxxxxxxxxxxxxxxxxxxxxxxxxxxx\" {}";
+    instr part \"1.xxxxxxxxxxxxxxxxxxxxxxxxxxxxxxxxxxxxxxxxxxxxxxxxxxxxxxxxxxxxxx\" {}";
 
 /// The machine of a text that is valid.
 pub fn machine(alloc: Global, text: &str) -> Result<Machine, Fail> {

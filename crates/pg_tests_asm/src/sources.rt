@@ -45,9 +45,9 @@ fn wide_words(rt: HostRuntime) -> Result<(), Fail> {
             "line 1 has a value out of range",
         ),
         (b"long x=0 y=2", "line 1 has a value out of range"),
-        (b"cut x=4611686018427387903", "2=bfffffffffffffff "),
+        (b"part x=4611686018427387903", "2=bfffffffffffffff "),
         (
-            b"cut x=18446744073709551616",
+            b"part x=18446744073709551616",
             "line 1 has no form of a line",
         ),
     ];
