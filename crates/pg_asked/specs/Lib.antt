@@ -1,13 +1,17 @@
+pub mod Asm
 pub mod Bare
 pub mod Check
 pub mod Commands
+pub mod Disasm
 pub mod Generating
 pub mod Hcheck
 pub mod Hybrid
 pub mod Migrate
 pub mod Print
 pub mod Replay
+pub mod Resume
 pub mod Run
 pub mod Running
+pub mod Save
 pub mod Synopses
 pub mod Verify

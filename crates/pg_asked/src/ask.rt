@@ -1,13 +1,17 @@
 //! What a command line asks for, and why there is nothing that it asks for.
 //!
 //! Contracts see a request as plain data: the names in it as their bytes, and the numbers as what they are.
+use crate::asm::AsmWords;
 use crate::bare::BareWords;
 use crate::check::CheckWords;
+use crate::disasm::DisasmWords;
 use crate::generating::GenWords;
 use crate::migrate::MigrateWords;
 use crate::print::PrintWords;
 use crate::replay::ReplayWords;
+use crate::resume::ResumeWords;
 use crate::run::RunWords;
+use crate::save::SaveWords;
 use crate::verify::VerifyWords;
 
 /// What the words ask for.
@@ -33,6 +37,14 @@ pub enum Request {
     Hcheck(CheckWords),
     /// `hybrid`: run images as guests under a hybrid monitor.
     Hybrid(RunWords),
+    /// `asm`: assemble a source into an image.
+    Asm(AsmWords),
+    /// `disasm`: write an image as a source.
+    Disasm(DisasmWords),
+    /// `save`: run an image as a guest, and save the state that it reaches.
+    Save(SaveWords),
+    /// `resume`: let a saved guest go on.
+    Resume(ResumeWords),
 }
 
 /// Why there is no request.

@@ -16,13 +16,16 @@
 //!
 //! - `ask`: what is asked for, and why there is nothing that is asked for. `names`: the commands and their table. `synopsis`:
 //!   how a command is called, as plain data.
-//! - `bare`, `check`, `verify`, `replay`, `run`, `print`, `generating` (the command `gen`), `migrate`, `hcheck`, `hybrid`: the commands.
+//! - `bare`, `check`, `verify`, `replay`, `run`, `print`, `generating` (the command `gen`), `migrate`, `hcheck`, `hybrid`, `asm`,
+//!   `disasm`, `save`, `resume`: the commands.
 //! - `running`: the arguments of commands that run images. `values`: what arguments give.
 #![tactic(auto)]
 
 mod ask;
+mod asm;
 mod bare;
 mod check;
+mod disasm;
 mod generating;
 mod hcheck;
 mod hybrid;
@@ -30,21 +33,27 @@ mod migrate;
 mod names;
 mod print;
 mod replay;
+mod resume;
 mod run;
 mod running;
+mod save;
 mod synopsis;
 mod values;
 mod verify;
 
 pub use ask::{Fault, Request};
+pub use asm::AsmWords;
 pub use bare::BareWords;
 pub use check::CheckWords;
+pub use disasm::DisasmWords;
 pub use generating::GenWords;
 pub use migrate::MigrateWords;
 pub use names::{CommandName, commands};
 pub use print::PrintWords;
 pub use replay::ReplayWords;
+pub use resume::ResumeWords;
 pub use run::RunWords;
+pub use save::SaveWords;
 pub use synopsis::{Argument, Range, Synopsis};
-pub use values::{Budget, Count, FileName, Grant, Images, Slice, Steps};
+pub use values::{Budget, Count, FileName, Grant, Images, Skip, Slice, Steps};
 pub use verify::VerifyWords;

@@ -5,15 +5,19 @@ ghost use Rattle.std.specs.Prelude.{◌≡◌};
 ghost use Rattle.pg_asked.specs.Commands as spec;
 ghost use Rattle.pg_asked.specs.Synopses.{synopsis_of, usage};
 
+use crate::asm::ASM;
 use crate::bare::BARE;
 use crate::check::CHECK;
+use crate::disasm::DISASM;
 use crate::generating::GEN;
 use crate::hcheck::HCHECK;
 use crate::hybrid::HYBRID;
 use crate::migrate::MIGRATE;
 use crate::print::PRINT;
 use crate::replay::REPLAY;
+use crate::resume::RESUME;
 use crate::run::RUN;
+use crate::save::SAVE;
 use crate::synopsis::Synopsis;
 use crate::verify::VERIFY;
 
@@ -40,6 +44,14 @@ pub enum CommandName {
     Hcheck,
     /// `hybrid`
     Hybrid,
+    /// `asm`
+    Asm,
+    /// `disasm`
+    Disasm,
+    /// `save`
+    Save,
+    /// `resume`
+    Resume,
 }
 
 /// All the commands, in the order in which they are told.
@@ -57,6 +69,10 @@ pub fn commands() -> &'static [CommandName]
         CommandName::Migrate,
         CommandName::Hcheck,
         CommandName::Hybrid,
+        CommandName::Asm,
+        CommandName::Disasm,
+        CommandName::Save,
+        CommandName::Resume,
     ]
 }
 
@@ -90,6 +106,10 @@ impl CommandName {
             CommandName::Migrate => MIGRATE,
             CommandName::Hcheck => HCHECK,
             CommandName::Hybrid => HYBRID,
+            CommandName::Asm => ASM,
+            CommandName::Disasm => DISASM,
+            CommandName::Save => SAVE,
+            CommandName::Resume => RESUME,
         }
     }
 }

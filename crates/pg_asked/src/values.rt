@@ -262,3 +262,37 @@ impl Slice {
         self.steps
     }
 }
+
+/// How many cells are held before a guest's own: 0 to 1,048,575.
+#[derive(Drop)]
+pub struct Skip {
+    cells: u32,
+}
+
+impl Model for Skip {
+    ghost use Rattle.std.specs.Prelude.{◌≤◌, ℕ};
+
+    ghost Value = { ℕ };
+
+    ghost view = { λ skip. skip.cells };
+
+    ghost invariant = { λ skip. skip.cells ≤ 1048575 };
+}
+
+impl Skip {
+    /// So many cells.
+    pub fn new(cells: u32) -> Skip
+        requires { cells ≤ 1048575 }
+        ensures { result ≡ cells }
+    {
+        Skip { cells }
+    }
+
+    /// The number of cells.
+    pub fn cells(&self) -> u32
+        ensures cells { result ≡ self.now }
+        ensures most { self.now ≤ 1048575 }
+    {
+        self.cells
+    }
+}

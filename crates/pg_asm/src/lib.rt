@@ -1,6 +1,7 @@
 //! The assembler and the disassembler, for any description.
 //!
-//! `assemble` reads the text of a source into an image, and `disassemble` writes an image as a source that gives it. Below them
+//! `assemble` reads the text of a source into an image, `listing` writes the text of an image, and `disassemble` writes an image as
+//! a source that gives it. Below them
 //! `word_of` makes the word of an instruction and of values for its fields, and `decode` finds both of a word. The
 //! definitions stand in `specs/`: `Words` says which word is meant, `Said` what a line says, `Sources` which image or fault is
 //! due, and `Texts` what is written.
@@ -26,7 +27,7 @@
 //! - `line`: what one line says.
 //! - `mark`, `labels`: labels, found by look-up.
 //! - `scan`, `gather`, `place`: the three readings of a source, with `encode` for the word of an instruction.
-//! - `assembler`, `disassembler`: the whole. `fault`: what is wrong with a source.
+//! - `assembler`, `listing`, `disassembler`: the whole. `fault`: what is wrong with a source.
 //! - `laws`: what follows from the definitions alone.
 #![tactic(auto)]
 
@@ -39,6 +40,7 @@ mod gather;
 mod labels;
 pub mod laws;
 mod line;
+mod listing;
 mod mark;
 mod place;
 mod scan;
@@ -50,4 +52,5 @@ pub use fault::AsmFault;
 pub use fields::{FieldList, LetterField, fields_of};
 pub use gather::FIRST_PLACE;
 pub use line::PLACE_DIGITS;
+pub use listing::listing;
 pub use words::{ValueList, decode, word_of};

@@ -1,12 +1,16 @@
 pub mod Arguments
+pub mod Asm
 pub mod Asked
 pub mod Bare
 pub mod Check
+pub mod Disasm
 pub mod Entered
 pub mod Generating
 pub mod Line
 pub mod Migrate
 pub mod Print
 pub mod Replay
+pub mod Resume
 pub mod Run
+pub mod Save
 pub mod Verify

@@ -4,7 +4,10 @@ ghost use Rattle.clap.specs.Words.{found_of, rows_of, subcommand_rows_of};
 ghost use Rattle.pg_command.specs.Asked.{asked_of, named_as};
 ghost use Rattle.pg_command.specs.Entered.{HoldsCommand, HoldsRows};
 
-use crate::{bare, check, generating, hcheck, hybrid, migrate, print, replay, run, verify};
+use crate::{
+    asm, bare, check, disasm, generating, hcheck, hybrid, migrate, print, replay, resume, run,
+    save, verify,
+};
 use clap::ArgMatches;
 use pg_asked::{CommandName, Request};
 use std::alloc::{AllocError, Global};
@@ -39,5 +42,9 @@ fn asked_of(
         CommandName::Migrate => migrate::asked(alloc, matches),
         CommandName::Hcheck => hcheck::asked(alloc, matches),
         CommandName::Hybrid => hybrid::asked(alloc, matches),
+        CommandName::Asm => asm::asked(alloc, matches),
+        CommandName::Disasm => disasm::asked(alloc, matches),
+        CommandName::Save => save::asked(alloc, matches),
+        CommandName::Resume => resume::asked(alloc, matches),
     }
 }

@@ -19,8 +19,8 @@
 //! # Modules
 //!
 //! - `line`: the whole line. `entered`: the command that was named, and what it asks for.
-//! - `bare`, `check`, `verify`, `replay`, `run`, `print`, `generating` (the command `gen`), `migrate`, `hcheck`, `hybrid`: what each
-//!   command asks for. `running`: what the arguments of commands that run images give.
+//! - `bare`, `check`, `verify`, `replay`, `run`, `print`, `generating` (the command `gen`), `migrate`, `hcheck`, `hybrid`, `asm`,
+//!   `disasm`, `save`, `resume`: what each command asks for. `running`: what the arguments of commands that run images give.
 //! - `arguments`: how `clap` is told of an argument, and how its value is read.
 #![tactic(auto)]
 
@@ -32,8 +32,10 @@ ghost use Rattle.pg_command.specs.Line.{line};
 ghost use Rattle.pg_asked.specs.declared.ask.Fault.TheVariants.{Memory, Refused};
 
 mod arguments;
+mod asm;
 mod bare;
 mod check;
+mod disasm;
 mod entered;
 mod generating;
 mod hcheck;
@@ -42,16 +44,19 @@ mod line;
 mod migrate;
 mod print;
 mod replay;
+mod resume;
 mod run;
 mod running;
+mod save;
 mod verify;
 
 use clap::error::ErrorKind;
 use entered::asked;
 use line::command_line;
 pub use pg_asked::{
-    BareWords, Budget, CheckWords, Count, Fault, FileName, GenWords, Grant, Images, MigrateWords,
-    PrintWords, ReplayWords, Request, RunWords, Slice, Steps, VerifyWords,
+    AsmWords, BareWords, Budget, CheckWords, Count, DisasmWords, Fault, FileName, GenWords, Grant,
+    Images, MigrateWords, PrintWords, ReplayWords, Request, ResumeWords, RunWords, SaveWords, Skip,
+    Slice, Steps, VerifyWords,
 };
 use std::alloc::Global;
 

@@ -12,6 +12,10 @@ guest_line k = codes "guest " ++ decimal k ++ 10 ∷ []
 unfoldable pub steps_line : ℕ → ℕ → List ℕ
 steps_line steps direct = codes "steps " ++ decimal steps ++ codes " direct " ++ decimal direct ++ 10 ∷ []
 
+-- behind a run of a guest that went on: the steps that it has made in all
+unfoldable pub total_line : ℕ → List ℕ
+total_line steps = codes "total " ++ decimal steps ++ 10 ∷ []
+
 -- guests from number k on, each with its state
 abbrev pub guests_text : ℕ → ℕ → List State → List ℕ
 guests_text w k [] = []

@@ -6,13 +6,17 @@ use Rattle.pg_valid.specs.declared.fault.Limit.{Limit as Limits}
 use Rattle.pg_valid.specs.declared.fault.Limit.TheVariants.{Instructions, Accesses, Lets, Statements, Expressions}
 use Rattle.pg_cert.specs.Lines.{kind_text}
 use Rattle.pg_report.specs.declared.line.RefusalLine.{RefusalLine}
-use Rattle.pg_report.specs.declared.line.RefusalLine.TheVariants.{Description, Image, Certificate, Room}
+use Rattle.pg_report.specs.declared.line.RefusalLine.TheVariants.{Description, Image, Certificate, Room, Source, Saved}
 use Rattle.pg_report.specs.declared.line.DescriptionLine.{DescriptionLine}
 use Rattle.pg_report.specs.declared.line.DescriptionLine.TheVariants.{Long, Token, Grammar as Misplaced, Deep, Shape, Limit, Twice, Pattern, Overlap, Name, Width}
 use Rattle.pg_report.specs.declared.line.ImageLine.{ImageLine}
 use Rattle.pg_report.specs.declared.line.ImageLine.TheVariants.{Long as LongImage, Token as Foreign, Grammar, Address, Overlap as Again}
 use Rattle.pg_report.specs.declared.line.CertificateLine.{CertificateLine}
 use Rattle.pg_report.specs.declared.line.CertificateLine.TheVariants as cert
+use Rattle.pg_report.specs.declared.line.SourceLine.{SourceLine}
+use Rattle.pg_report.specs.declared.line.SourceLine.TheVariants as source
+use Rattle.pg_report.specs.declared.line.SavedLine.{SavedLine}
+use Rattle.pg_report.specs.declared.line.SavedLine.TheVariants as saved
 
 -- limits by number
 abbrev pub limit_number : Limits → ℕ
@@ -67,9 +71,30 @@ certificate_text (cert.Missing name kind) = codes "missing " ++ name_text name +
 certificate_text (cert.Extra line) = codes "extra " ++ decimal line
 certificate_text (cert.Delete line) = codes "delete " ++ decimal line
 
+-- why a source is refused
+unfoldable pub source_line_text : SourceLine → List ℕ
+source_line_text source.Long = codes "long"
+source_line_text (source.Token place) = codes "token " ++ decimal place
+source_line_text (source.Grammar line) = codes "grammar " ++ decimal line
+source_line_text (source.Name line) = codes "name " ++ decimal line
+source_line_text (source.Field line) = codes "field " ++ decimal line
+source_line_text (source.Label line) = codes "label " ++ decimal line
+source_line_text (source.Range line) = codes "range " ++ decimal line
+source_line_text (source.Place line) = codes "place " ++ decimal line
+source_line_text (source.Overlap line) = codes "overlap " ++ decimal line
+
+-- why the text of a saved guest is refused
+unfoldable pub saved_line_text : SavedLine → List ℕ
+saved_line_text saved.Long = codes "long"
+saved_line_text (saved.Token line) = codes "token " ++ decimal line
+saved_line_text (saved.Grammar line) = codes "grammar " ++ decimal line
+saved_line_text (saved.Version line) = codes "version " ++ decimal line
+
 -- the line of a refusal
 unfoldable pub refusal_text : RefusalLine → List ℕ
 refusal_text (Description line) = codes "description: " ++ description_text line ++ 10 ∷ []
 refusal_text (Image number line) = codes "image " ++ decimal number ++ codes ": " ++ image_text line ++ 10 ∷ []
 refusal_text (Certificate line) = codes "certificate: " ++ certificate_text line ++ 10 ∷ []
 refusal_text (Room wanted free) = codes "room " ++ two_numbers wanted free ++ 10 ∷ []
+refusal_text (Source line) = codes "source: " ++ source_line_text line ++ 10 ∷ []
+refusal_text (Saved line) = codes "saved: " ++ saved_line_text line ++ 10 ∷ []

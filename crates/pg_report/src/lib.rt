@@ -32,10 +32,10 @@ mod summary;
 mod text;
 mod verdict;
 
-pub use line::{CertificateLine, DescriptionLine, ImageLine, RefusalLine};
+pub use line::{CertificateLine, DescriptionLine, ImageLine, RefusalLine, SavedLine, SourceLine};
 pub use refusal::{put_refusal, put_usage};
 pub use replay::{ReplayFault, put_replay};
-pub use run::{put_guest, put_steps};
+pub use run::{put_guest, put_steps, put_total};
 pub use sparse::put_sparse;
 pub use state::{put_state, row_line};
 pub use summary::{put_instructions, put_summary};

@@ -19,6 +19,10 @@ pub enum RefusalLine {
     Certificate(CertificateLine),
     /// So many cells are wanted, and so many, which are fewer, are free.
     Room(u64, u64),
+    /// The source is refused, for this reason.
+    Source(SourceLine),
+    /// The saved guest is refused, for this reason.
+    Saved(SavedLine),
 }
 
 /// Why a description is refused. Places are bytes of its text, and both they and instructions are counted from 0.
@@ -93,4 +97,40 @@ pub enum CertificateLine {
     Extra(u32),
     /// This line takes a clause away that is not held.
     Delete(u32),
+}
+
+/// Why a source is refused. Places are bytes of its text, counted from 0, and lines are numbered from 1.
+#[derive(Debug, Drop)]
+pub enum SourceLine {
+    /// It has more bytes than the limit.
+    Long,
+    /// The byte at this place is the first that may not stand in a source.
+    Token(usize),
+    /// This line has none of the forms of lines.
+    Grammar(usize),
+    /// This line names no instruction.
+    Name(usize),
+    /// The fields of this line are not those of the instruction's pattern, each once, from the highest.
+    Field(usize),
+    /// This line uses a label that no line gives, or gives one that an earlier line gave.
+    Label(usize),
+    /// This line has a value that its field cannot hold.
+    Range(usize),
+    /// The word of this line would stand at or past the size.
+    Place(usize),
+    /// This line gives a cell that an earlier line gave.
+    Overlap(usize),
+}
+
+/// Why the text of a saved guest is refused. Its lines are numbered from 1.
+#[derive(Debug, Drop)]
+pub enum SavedLine {
+    /// It has more bytes than the limit.
+    Long,
+    /// This line has a byte that may not stand in a saved text.
+    Token(u32),
+    /// This line is none of a saved text, or may not stand there; or it is missing.
+    Grammar(u32),
+    /// This line, the first one, is that of another version.
+    Version(u32),
 }

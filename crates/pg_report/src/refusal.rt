@@ -9,9 +9,11 @@ ghost use Rattle.arrayvec.specs.ArrayVec.{array_vec_len};
 ghost use Rattle.pg_asked.specs.Commands.{usage_text};
 ghost use Rattle.pg_edge.specs.Sink.{Puts};
 ghost use Rattle.pg_image.specs.Lines.{most_line_bytes};
-ghost use Rattle.pg_report.specs.Texts.{limit_number, description_text, image_text, certificate_text, refusal_text};
+ghost use Rattle.pg_report.specs.Texts.{limit_number, description_text, image_text, certificate_text, source_line_text, saved_line_text, refusal_text};
 
-use crate::line::{CertificateLine, DescriptionLine, ImageLine, RefusalLine};
+use crate::line::{
+    CertificateLine, DescriptionLine, ImageLine, RefusalLine, SavedLine, SourceLine,
+};
 use crate::push::{push_at, push_kind, push_name, push_pair};
 use pg_asked::commands;
 use pg_edge::{Failed, Sink};
@@ -77,6 +79,16 @@ fn push_refusal(text: &mut Line, line: &RefusalLine)
         }
         RefusalLine::Room(wanted, free) => {
             push_pair(text, b"room ", *wanted, *free);
+            text.push(b'\n');
+        }
+        RefusalLine::Source(source) => {
+            push(text, b"source: ");
+            push_source(text, source);
+            text.push(b'\n');
+        }
+        RefusalLine::Saved(saved) => {
+            push(text, b"saved: ");
+            push_saved(text, saved);
             text.push(b'\n');
         }
     }
@@ -180,5 +192,40 @@ fn push_certificate(text: &mut Line, why: &CertificateLine)
         }
         CertificateLine::Extra(line) => push_at(text, b"extra ", *line as usize),
         CertificateLine::Delete(line) => push_at(text, b"delete ", *line as usize),
+    }
+}
+
+/// Pushes why a source is refused.
+#[tactic(auto, unfolding(crate::specs::Texts::source_line_text))]
+fn push_source(text: &mut Line, why: &SourceLine)
+    requires { array_vec_len text.old + 28 ≤ most_line_bytes }
+    ensures items { text.new.items ≡ text.old.items ++ source_line_text why.now }
+    ensures len { array_vec_len text.new ≤ array_vec_len text.old + 28 }
+{
+    match why {
+        SourceLine::Long => push(text, b"long"),
+        SourceLine::Token(place) => push_at(text, b"token ", *place),
+        SourceLine::Grammar(line) => push_at(text, b"grammar ", *line),
+        SourceLine::Name(line) => push_at(text, b"name ", *line),
+        SourceLine::Field(line) => push_at(text, b"field ", *line),
+        SourceLine::Label(line) => push_at(text, b"label ", *line),
+        SourceLine::Range(line) => push_at(text, b"range ", *line),
+        SourceLine::Place(line) => push_at(text, b"place ", *line),
+        SourceLine::Overlap(line) => push_at(text, b"overlap ", *line),
+    }
+}
+
+/// Pushes why the text of a saved guest is refused.
+#[tactic(auto, unfolding(crate::specs::Texts::saved_line_text))]
+fn push_saved(text: &mut Line, why: &SavedLine)
+    requires { array_vec_len text.old + 28 ≤ most_line_bytes }
+    ensures items { text.new.items ≡ text.old.items ++ saved_line_text why.now }
+    ensures len { array_vec_len text.new ≤ array_vec_len text.old + 28 }
+{
+    match why {
+        SavedLine::Long => push(text, b"long"),
+        SavedLine::Token(line) => push_at(text, b"token ", *line as usize),
+        SavedLine::Grammar(line) => push_at(text, b"grammar ", *line as usize),
+        SavedLine::Version(line) => push_at(text, b"version ", *line as usize),
     }
 }

@@ -6,7 +6,7 @@
 
 ghost use Rattle.std.specs.Prelude.{◌≡◌};
 ghost use Rattle.pg_edge.specs.Sink.{Puts};
-ghost use Rattle.pg_report.specs.Runs.{guest_line, steps_line};
+ghost use Rattle.pg_report.specs.Runs.{guest_line, steps_line, total_line};
 
 use crate::push::push_number;
 use pg_edge::{Failed, Sink};
@@ -34,6 +34,17 @@ pub fn put_steps<S: Sink>(out: &mut S, steps: u64, direct: u64) -> Result<(), Fa
     out.put(line_of_steps(steps, direct).as_slice())
 }
 
+/// Puts the line behind a run of a guest that went on: the steps that it has made in all.
+///
+/// # Errors
+/// `Failed` where not all of the line went through. A front of it may have.
+pub fn put_total<S: Sink>(out: &mut S, steps: u64) -> Result<(), Failed>
+    ensures { Puts (S.written out.old) (S.written out.new) (S.faults out.old) (S.faults out.new)
+        (total_line steps) result }
+{
+    out.put(line_of_total(steps).as_slice())
+}
+
 /// The line before the state of a guest.
 #[tactic(auto, unfolding(crate::specs::Runs::guest_line))]
 fn line_of_guest(number: usize) -> Line
@@ -56,6 +67,18 @@ fn line_of_steps(steps: u64, direct: u64) -> Line
     push_number(&mut line, steps);
     push(&mut line, b" direct ");
     push_number(&mut line, direct);
+    line.push(b'\n');
+    line
+}
+
+/// The line of all steps that a guest has made.
+#[tactic(auto, unfolding(crate::specs::Runs::total_line))]
+fn line_of_total(steps: u64) -> Line
+    ensures { result.items ≡ total_line steps }
+{
+    let mut line = Line::new();
+    push(&mut line, b"total ");
+    push_number(&mut line, steps);
     line.push(b'\n');
     line
 }

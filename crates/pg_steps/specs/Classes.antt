@@ -1,6 +1,6 @@
 -- The classes of statuses: what a status says of the way in which a command ended.
 use Rattle.pg_steps.specs.declared.status.Status.{Status}
-use Rattle.pg_steps.specs.declared.status.Status.TheVariants.{Done, Refused, Unsettled, Words, Description, Image, Certificate, Room, ReadFault, WriteFault, Memory, Missing}
+use Rattle.pg_steps.specs.declared.status.Status.TheVariants.{Done, Refused, Unsettled, Words, Description, Image, Certificate, Room, ReadFault, WriteFault, Memory, Missing, Source, Saved}
 
 pub data Class : Type 0 where
   -- the command came to its end, and its text is whole
@@ -25,3 +25,5 @@ class_of ReadFault = Unread
 class_of WriteFault = Unwritten
 class_of Memory = OutOfMemory
 class_of Missing = Ended
+class_of Source = Ended
+class_of Saved = Ended

@@ -1,7 +1,7 @@
 -- Refusals: how the reasons of steps are told, with which status and which text.
 use Rattle.std.specs.Prelude.{ℕ, List, Option, None, Some}
 use Rattle.pg_report.specs.declared.line.RefusalLine.{RefusalLine}
-use Rattle.pg_report.specs.declared.line.RefusalLine.TheVariants.{Description, Image, Certificate, Room}
+use Rattle.pg_report.specs.declared.line.RefusalLine.TheVariants.{Description, Image, Certificate, Room, Source, Saved}
 use Rattle.pg_asked.specs.Commands.{usage_text}
 use Rattle.pg_report.specs.Texts.{refusal_text}
 use Rattle.pg_steps.specs.declared.status.Status.{Status}
@@ -21,6 +21,8 @@ line_status (Description line) = status.Description
 line_status (Image number line) = status.Image
 line_status (Certificate line) = status.Certificate
 line_status (Room wanted free) = status.Room
+line_status (Source line) = status.Source
+line_status (Saved line) = status.Saved
 
 -- the status of a refusal
 abbrev pub refusal_status : Refusal → Status

@@ -12,8 +12,8 @@ pub enum Refusal {
     Words,
     /// A file that the words name is not there. Nothing is told, and the status is 11.
     Missing,
-    /// For a reason that is told in a line: of the description (status 4), of an image (5), of a certificate (6), or of the
-    /// room (7).
+    /// For a reason that is told in a line: of the description (status 4), of an image (5), of a certificate (6), of the
+    /// room (7), of a source (12), or of a saved guest (13).
     Line(RefusalLine),
 }
 

@@ -35,10 +35,14 @@ pub enum Status {
     Memory,
     /// A file that the words name is not there.
     Missing,
+    /// A source is refused.
+    Source,
+    /// The text of a saved guest is refused.
+    Saved,
 }
 
 impl Status {
-    /// The number of the status: from 0 to 11, in the order above.
+    /// The number of the status: from 0 to 13, in the order above.
     pub fn code(self) -> u8
         ensures { result ≡ code_of self }
     {
@@ -55,6 +59,8 @@ impl Status {
             Status::WriteFault => 9,
             Status::Memory => 10,
             Status::Missing => 11,
+            Status::Source => 12,
+            Status::Saved => 13,
         }
     }
 }

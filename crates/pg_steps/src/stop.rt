@@ -55,5 +55,7 @@ fn status_of(line: &RefusalLine) -> Status
         RefusalLine::Image(..) => Status::Image,
         RefusalLine::Certificate(_) => Status::Certificate,
         RefusalLine::Room(..) => Status::Room,
+        RefusalLine::Source(_) => Status::Source,
+        RefusalLine::Saved(_) => Status::Saved,
     }
 }

@@ -1,0 +1,5 @@
+pub mod Machines
+pub mod Sources
+pub mod Asm
+pub mod Disasm
+pub mod Plans
