@@ -76,4 +76,8 @@ pgv gen NUMBER SIZE --cert FILE
 pgv migrate DESC CERT FILE
 pgv hcheck DESC --cert FILE [--budget K]
 pgv hybrid DESC CERT IMAGE.. --grant G --steps N [--slice K]
+pgv asm DESC SOURCE --grant G
+pgv disasm DESC IMAGE --grant G
+pgv save DESC CERT IMAGE FILE --grant G --steps N
+pgv resume DESC CERT SAVED --steps N [--skip P]
 ";

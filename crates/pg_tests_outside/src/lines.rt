@@ -254,8 +254,106 @@ fn words_of_hybrid_are_those_of_run(rt: HostRuntime) -> Result<(), Fail> {
     Ok(())
 }
 
+/// Lines of `asm` and `disasm` that are taken, with the command and the grant that they ask for. The description is `d`, and the
+/// source or the image `s`.
+const ASMS: [(&str, &str, u32); 4] = [
+    ("pgv|asm|d|s|--grant|8", "asm", 8),
+    ("pgv|asm|--grant=1048575|d|s", "asm", 1_048_575),
+    ("pgv|disasm|d|s|--grant|2", "disasm", 2),
+    ("x|disasm|--grant=+016|--|d|s", "disasm", 16),
+];
+
+#[test]
+fn lines_of_the_assembler_that_are_taken(rt: HostRuntime) -> Result<(), Fail> {
+    for (line, command, grant) in ASMS {
+        let got = asked(rt.alloc(), line)?;
+        match &got {
+            Ok(Request::Asm(words)) => {
+                assert!(rt; command == "asm", "{line}");
+                assert!(rt; words.desc.as_str() == "d", "{line}");
+                assert!(rt; words.source.as_str() == "s", "{line}");
+                assert!(rt; words.grant.cells() == grant, "{line}");
+            }
+            Ok(Request::Disasm(words)) => {
+                assert!(rt; command == "disasm", "{line}");
+                assert!(rt; words.desc.as_str() == "d", "{line}");
+                assert!(rt; words.image.as_str() == "s", "{line}");
+                assert!(rt; words.grant.cells() == grant, "{line}");
+            }
+            _ => assert!(rt; false, "{line}"),
+        }
+    }
+    Ok(())
+}
+
+/// Lines of `save` that are taken, with the grant and the steps that they ask for. The description is `d`, the certificate `c`,
+/// the image `i`, and the file for the guest `f`.
+const SAVES: [(&str, u32, u64); 3] = [
+    ("pgv|save|d|c|i|f|--grant|8|--steps|3", 8, 3),
+    (
+        "pgv|save|--steps=1000000|d|c|--grant=1048575|i|f",
+        1_048_575,
+        1_000_000,
+    ),
+    ("x|save|--grant|2|--steps|+00|--|d|c|i|f", 2, 0),
+];
+
+#[test]
+fn lines_of_save_that_are_taken(rt: HostRuntime) -> Result<(), Fail> {
+    for (line, grant, steps) in SAVES {
+        let got = asked(rt.alloc(), line)?;
+        match &got {
+            Ok(Request::Save(words)) => {
+                assert!(rt; words.desc.as_str() == "d", "{line}");
+                assert!(rt; words.cert.as_str() == "c", "{line}");
+                assert!(rt; words.image.as_str() == "i", "{line}");
+                assert!(rt; words.file.as_str() == "f", "{line}");
+                assert!(rt;
+                    (words.grant.cells(), words.steps.count()) == (grant, steps),
+                    "{line}"
+                );
+            }
+            _ => assert!(rt; false, "{line}"),
+        }
+    }
+    Ok(())
+}
+
+/// Lines of `resume` that are taken, with the steps and the cells to skip that they ask for. The description is `d`, the
+/// certificate `c`, and the saved guest `s`.
+const RESUMES: [(&str, u64, u32); 4] = [
+    ("pgv|resume|d|c|s|--steps|3", 3, 0),
+    ("pgv|resume|d|c|s|--steps=0|--skip=0", 0, 0),
+    (
+        "pgv|resume|--skip|1048575|d|--steps=1000000|c|s",
+        1_000_000,
+        1_048_575,
+    ),
+    ("x|resume|--steps=7|--skip=+020|--|d|c|s", 7, 20),
+];
+
+#[test]
+fn lines_of_resume_that_are_taken(rt: HostRuntime) -> Result<(), Fail> {
+    for (line, steps, skip) in RESUMES {
+        let got = asked(rt.alloc(), line)?;
+        match &got {
+            Ok(Request::Resume(words)) => {
+                assert!(rt; words.desc.as_str() == "d", "{line}");
+                assert!(rt; words.cert.as_str() == "c", "{line}");
+                assert!(rt; words.saved.as_str() == "s", "{line}");
+                assert!(rt;
+                    (words.steps.count(), words.skip.cells()) == (steps, skip),
+                    "{line}"
+                );
+            }
+            _ => assert!(rt; false, "{line}"),
+        }
+    }
+    Ok(())
+}
+
 /// Lines that are refused.
-const REFUSED: [&str; 98] = [
+const REFUSED: [&str; 118] = [
     "pgv",
     "pgv|verify",
     "pgv|--help",
@@ -352,6 +450,26 @@ const REFUSED: [&str; 98] = [
     "pgv|hcheck|d|--cert=c|--budget=0",
     "pgv|hybrid|d|c|--grant=8|--steps=3",
     "pgv|hybrid|d|c|i|--grant=8|--steps=3|--slice=0",
+    "pgv|asm|d|s",
+    "pgv|asm|d|--grant=8",
+    "pgv|asm|d|s|e|--grant=8",
+    "pgv|asm|d|s|--grant=1",
+    "pgv|asm|d|s|--grant=8|--steps=0",
+    "pgv|disasm|d|i",
+    "pgv|disasm|d|i|--grant=1048576",
+    "pgv|disasm|d|i|--grant=8|--cert=c",
+    "pgv|save|d|c|i|--grant=8|--steps=3",
+    "pgv|save|d|c|i|j|f|--grant=8|--steps=3",
+    "pgv|save|d|c|i|f|--steps=3",
+    "pgv|save|d|c|i|f|--grant=8",
+    "pgv|save|d|c|i|f|--grant=8|--steps=1000001",
+    "pgv|save|d|c|i|f|--grant=8|--steps=3|--slice=7",
+    "pgv|resume|d|c|--steps=3",
+    "pgv|resume|d|c|s|e|--steps=3",
+    "pgv|resume|d|c|s",
+    "pgv|resume|d|c|s|--steps=3|--grant=8",
+    "pgv|resume|d|c|s|--steps=3|--skip=1048576",
+    "pgv|resume|d|c|s|--steps=3|--skip=-1",
     "",
     "pgv|",
 ];

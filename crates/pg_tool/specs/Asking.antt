@@ -21,6 +21,10 @@ use Rattle.pg_tool_judging.specs.Replay.{replay_command}
 use Rattle.pg_tool_judging.specs.Migrate.{migrate_command}
 use Rattle.pg_tool_judging.specs.Check.{check_command}
 use Rattle.pg_tool_gen.specs.Generating.{gen_command}
+use Rattle.pg_tool_asm.specs.Asm.{asm_command}
+use Rattle.pg_tool_asm.specs.Disasm.{disasm_command}
+use Rattle.pg_tool_save.specs.Save.{save_command}
+use Rattle.pg_tool_save.specs.Resume.{resume_command}
 
 -- words that are refused come to that and nothing else
 abbrev pub WordsRefused : Step Refusal ⊥
@@ -55,6 +59,10 @@ command_of (request.Gen g) = gen_command g
 command_of (request.Migrate m) = migrate_command m
 command_of (request.Hcheck c) = check_command Hybrid c
 command_of (request.Hybrid r) = hybrid_command r
+command_of (request.Asm a) = asm_command a
+command_of (request.Disasm a) = disasm_command a
+command_of (request.Save s) = save_command s
+command_of (request.Resume r) = resume_command r
 
 abbrev pub command_or_none : Option Request → Command
 command_or_none None = no_command
