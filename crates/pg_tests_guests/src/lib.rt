@@ -4,7 +4,7 @@
 //!
 //! - `worked`: runs that were worked out by hand. `beside`: guests beside bare machines. `hostile`: guests that reach for what is not
 //!   theirs. `accepted`: which machines run guests. `refused`: runs that are refused, and calls that fail. `hybrid`: guests under a
-//!   hybrid monitor.
+//!   hybrid monitor. `saved`: guests that are saved, and that go on.
 #![tactic(auto)]
 
 #[cfg(test)]
@@ -17,5 +17,7 @@ mod hostile;
 mod hybrid;
 #[cfg(test)]
 mod refused;
+#[cfg(test)]
+mod saved;
 #[cfg(test)]
 mod worked;

@@ -4,9 +4,11 @@
 //!
 //! - `rows`: commands that come to their end. `stops`: commands that are refused, and calls that fail on the way.
 //! - `judged`: how a description is tried. `refusals`: each refusal of a description and of an image. `limits`: the limits of a
-//!   description. `lengths`: the lengths of files. `verify`: certificates.
+//!   description. `lengths`: the lengths of files. `verify`: certificates. `assembler`: sources and images.
 #![tactic(auto)]
 
+#[cfg(test)]
+mod assembler;
 #[cfg(test)]
 mod judged;
 #[cfg(test)]
