@@ -1,6 +1,9 @@
 //! Lines as a user types them, with what they ask for. In the tables the words stand with a bar between them.
 
-use pg_command::{Fault, Request, request};
+use pg_command::{
+    AsmWords, BareWords, CheckWords, DisasmWords, Fault, GenWords, MigrateWords, PrintWords,
+    ReplayWords, Request, ResumeWords, RunWords, SaveWords, VerifyWords, request,
+};
 use std::alloc::{AllocError, Global};
 use std::test::Fail;
 
@@ -16,338 +19,236 @@ fn asked(alloc: Global, line: &str) -> Result<Result<Request, Fault>, AllocError
     }
 }
 
-/// Lines of `bare` that are taken, with the grant and the steps that they ask for. The description is `d`, and the image `i`.
-const BARES: [(&str, u32, u64); 5] = [
-    ("pgv|bare|d|i|--grant|8|--steps|0", 8, 0),
-    ("pgv|bare|--steps=1000000|d|--grant=8|i", 8, 1_000_000),
-    ("x|bare|--grant|2|--steps|7|--|d|i", 2, 7),
-    ("pgv|bare|d|i|--grant|1048575|--steps|+7", 1_048_575, 7),
-    ("pgv|bare|d|i|--grant|+008|--steps|00", 8, 0),
-];
-
-#[test]
-fn lines_of_bare_that_are_taken(rt: HostRuntime) -> Result<(), Fail> {
-    for (line, grant, steps) in BARES {
-        let got = asked(rt.alloc(), line)?;
-        match &got {
-            Ok(Request::Bare(words)) => {
-                assert!(rt; words.desc.as_str() == "d", "{line}");
-                assert!(rt; words.image.as_str() == "i", "{line}");
-                assert!(rt;
-                    (words.grant.cells(), words.steps.count()) == (grant, steps),
-                    "{line}"
-                );
-            }
-            _ => assert!(rt; false, "{line}"),
-        }
+/// What a line asks for, as a text: the command, the names in their order, and the numbers.
+fn said(alloc: Global, line: &str) -> Result<String, AllocError> {
+    match asked(alloc, line)? {
+        Err(_) => String::from_str(alloc, "refused"),
+        Ok(Request::Bare(words)) => bare(alloc, &words),
+        Ok(Request::Check(words)) => check(alloc, "check", &words),
+        Ok(Request::Verify(words)) => verify(alloc, &words),
+        Ok(Request::Replay(words)) => replay(alloc, &words),
+        Ok(Request::Run(words)) => run(alloc, "run", &words),
+        Ok(Request::Print(words)) => print(alloc, &words),
+        Ok(Request::Gen(words)) => generate(alloc, &words),
+        Ok(Request::Migrate(words)) => migrate(alloc, &words),
+        Ok(Request::Hcheck(words)) => check(alloc, "hcheck", &words),
+        Ok(Request::Hybrid(words)) => run(alloc, "hybrid", &words),
+        Ok(Request::Asm(words)) => asm(alloc, &words),
+        Ok(Request::Disasm(words)) => disasm(alloc, &words),
+        Ok(Request::Save(words)) => save(alloc, &words),
+        Ok(Request::Resume(words)) => resume(alloc, &words),
     }
-    Ok(())
 }
 
-/// Lines of `check` and `hcheck` that are taken, with the command and the budget that they ask for. The description is `d`,
-/// and the certificate `c`.
-const CHECKS: [(&str, &str, u32); 9] = [
-    ("pgv|check|d|--cert|c", "check", 20_000),
-    ("x|check|--cert=c|--|d", "check", 20_000),
-    ("pgv|check|--budget|1|--cert|c|d", "check", 1),
-    ("pgv|check|d|--budget=1000000|--cert=c", "check", 1_000_000),
-    ("pgv|check|d|--cert|c|--budget|20001", "check", 20_001),
-    ("pgv|check|d|--cert|c|--budget|+007", "check", 7),
-    ("pgv|check|--cert|c|d|--budget=019999", "check", 19_999),
-    ("pgv|hcheck|d|--cert|c", "hcheck", 20_000),
-    ("pgv|hcheck|--budget=7|--cert=c|d", "hcheck", 7),
-];
-
-#[test]
-fn lines_of_check_that_are_taken(rt: HostRuntime) -> Result<(), Fail> {
-    for (line, command, budget) in CHECKS {
-        let got = asked(rt.alloc(), line)?;
-        match &got {
-            Ok(Request::Check(words)) => {
-                assert!(rt; command == "check", "{line}");
-                assert!(rt; words.desc.as_str() == "d", "{line}");
-                assert!(rt; words.cert.as_str() == "c", "{line}");
-                assert!(rt; words.budget.clauses() == budget, "{line}");
-            }
-            Ok(Request::Hcheck(words)) => {
-                assert!(rt; command == "hcheck", "{line}");
-                assert!(rt; words.desc.as_str() == "d", "{line}");
-                assert!(rt; words.cert.as_str() == "c", "{line}");
-                assert!(rt; words.budget.clauses() == budget, "{line}");
-            }
-            _ => assert!(rt; false, "{line}"),
-        }
-    }
-    Ok(())
+fn bare(alloc: Global, words: &BareWords) -> Result<String, AllocError> {
+    format!(in alloc;
+        "bare {} {} {} {}",
+        words.desc.as_str(),
+        words.image.as_str(),
+        words.grant.cells(),
+        words.steps.count()
+    )
 }
 
-/// Lines that are taken of the commands that take names alone, with the command. The description is `d`, and the certificate
-/// or the file for a new one, where the command has one, `c` or `f`.
-const NAMES: [(&str, &str); 6] = [
-    ("pgv|verify|d|c", "verify"),
-    ("x|verify|d|--|c", "verify"),
-    ("pgv|replay|d|c", "replay"),
-    ("pgv|print|d", "print"),
-    ("x|print|--|d", "print"),
-    ("pgv|migrate|d|c|f", "migrate"),
-];
-
-#[test]
-fn lines_of_names_that_are_taken(rt: HostRuntime) -> Result<(), Fail> {
-    for (line, command) in NAMES {
-        let got = asked(rt.alloc(), line)?;
-        match &got {
-            Ok(Request::Verify(words)) => {
-                assert!(rt; command == "verify", "{line}");
-                assert!(rt; words.desc.as_str() == "d", "{line}");
-                assert!(rt; words.cert.as_str() == "c", "{line}");
-            }
-            Ok(Request::Replay(words)) => {
-                assert!(rt; command == "replay", "{line}");
-                assert!(rt; words.desc.as_str() == "d", "{line}");
-                assert!(rt; words.cert.as_str() == "c", "{line}");
-            }
-            Ok(Request::Migrate(words)) => {
-                assert!(rt; command == "migrate", "{line}");
-                assert!(rt; words.desc.as_str() == "d", "{line}");
-                assert!(rt; words.cert.as_str() == "c", "{line}");
-                assert!(rt; words.file.as_str() == "f", "{line}");
-            }
-            Ok(Request::Print(words)) => {
-                assert!(rt; command == "print", "{line}");
-                assert!(rt; words.desc.as_str() == "d", "{line}");
-            }
-            _ => assert!(rt; false, "{line}"),
-        }
-    }
-    Ok(())
+fn check(alloc: Global, command: &str, words: &CheckWords) -> Result<String, AllocError> {
+    format!(in alloc;
+        "{command} {} {} {}",
+        words.desc.as_str(),
+        words.cert.as_str(),
+        words.budget.clauses()
+    )
 }
 
-/// Lines of `gen` that are taken, with the number and the count of instructions that they ask for. The certificate is `c`.
-const GENS: [(&str, u64, u32); 7] = [
-    ("pgv|gen|0|1|--cert|c", 0, 1),
+fn verify(alloc: Global, words: &VerifyWords) -> Result<String, AllocError> {
+    format!(in alloc; "verify {} {}", words.desc.as_str(), words.cert.as_str())
+}
+
+fn replay(alloc: Global, words: &ReplayWords) -> Result<String, AllocError> {
+    format!(in alloc; "replay {} {}", words.desc.as_str(), words.cert.as_str())
+}
+
+fn print(alloc: Global, words: &PrintWords) -> Result<String, AllocError> {
+    format!(in alloc; "print {}", words.desc.as_str())
+}
+
+fn generate(alloc: Global, words: &GenWords) -> Result<String, AllocError> {
+    format!(in alloc;
+        "gen {} {} {}",
+        words.number,
+        words.count.instrs(),
+        words.cert.as_str()
+    )
+}
+
+fn migrate(alloc: Global, words: &MigrateWords) -> Result<String, AllocError> {
+    format!(in alloc;
+        "migrate {} {} {}",
+        words.desc.as_str(),
+        words.cert.as_str(),
+        words.file.as_str()
+    )
+}
+
+fn asm(alloc: Global, words: &AsmWords) -> Result<String, AllocError> {
+    format!(in alloc;
+        "asm {} {} {}",
+        words.desc.as_str(),
+        words.source.as_str(),
+        words.grant.cells()
+    )
+}
+
+fn disasm(alloc: Global, words: &DisasmWords) -> Result<String, AllocError> {
+    format!(in alloc;
+        "disasm {} {} {}",
+        words.desc.as_str(),
+        words.image.as_str(),
+        words.grant.cells()
+    )
+}
+
+/// The names of the images stand between bars.
+fn run(alloc: Global, command: &str, words: &RunWords) -> Result<String, AllocError> {
+    let mut images = String::from_str(alloc, "|")?;
+    for image in words.images.as_slice() {
+        images.push_str(image.as_str())?;
+        images.push_str("|")?;
+    }
+    format!(in alloc;
+        "{command} {} {} {} {} {} {}",
+        words.desc.as_str(),
+        words.cert.as_str(),
+        images.as_str(),
+        words.grant.cells(),
+        words.steps.count(),
+        words.slice.steps()
+    )
+}
+
+fn save(alloc: Global, words: &SaveWords) -> Result<String, AllocError> {
+    format!(in alloc;
+        "save {} {} {} {} {} {}",
+        words.desc.as_str(),
+        words.cert.as_str(),
+        words.image.as_str(),
+        words.file.as_str(),
+        words.grant.cells(),
+        words.steps.count()
+    )
+}
+
+fn resume(alloc: Global, words: &ResumeWords) -> Result<String, AllocError> {
+    format!(in alloc;
+        "resume {} {} {} {} {}",
+        words.desc.as_str(),
+        words.cert.as_str(),
+        words.saved.as_str(),
+        words.steps.count(),
+        words.skip.cells()
+    )
+}
+
+/// Lines that are taken, with what they ask for.
+const TAKEN: [(&str, &str); 47] = [
+    ("pgv|bare|d|i|--grant|8|--steps|0", "bare d i 8 0"),
+    (
+        "pgv|bare|--steps=1000000|d|--grant=8|i",
+        "bare d i 8 1000000",
+    ),
+    ("x|bare|--grant|2|--steps|7|--|d|i", "bare d i 2 7"),
+    (
+        "pgv|bare|d|i|--grant|1048575|--steps|+7",
+        "bare d i 1048575 7",
+    ),
+    ("pgv|bare|d|i|--grant|+008|--steps|00", "bare d i 8 0"),
+    ("pgv|check|d|--cert|c", "check d c 20000"),
+    ("x|check|--cert=c|--|d", "check d c 20000"),
+    ("pgv|check|--budget|1|--cert|c|d", "check d c 1"),
+    ("pgv|check|d|--budget=1000000|--cert=c", "check d c 1000000"),
+    ("pgv|check|d|--cert|c|--budget|20001", "check d c 20001"),
+    ("pgv|check|d|--cert|c|--budget|+007", "check d c 7"),
+    ("pgv|check|--cert|c|d|--budget=019999", "check d c 19999"),
+    ("pgv|hcheck|d|--cert|c", "hcheck d c 20000"),
+    ("pgv|hcheck|--budget=7|--cert=c|d", "hcheck d c 7"),
+    ("pgv|verify|d|c", "verify d c"),
+    ("x|verify|d|--|c", "verify d c"),
+    ("pgv|replay|d|c", "replay d c"),
+    ("pgv|print|d", "print d"),
+    ("x|print|--|d", "print d"),
+    ("pgv|migrate|d|c|f", "migrate d c f"),
+    ("pgv|gen|0|1|--cert|c", "gen 0 1 c"),
     (
         "pgv|gen|18446744073709551615|60|--cert=c",
-        18_446_744_073_709_551_615,
-        60,
+        "gen 18446744073709551615 60 c",
     ),
-    ("pgv|gen|--cert|c|7|30", 7, 30),
-    ("pgv|gen|30|--cert=c|7", 30, 7),
+    ("pgv|gen|--cert|c|7|30", "gen 7 30 c"),
+    ("pgv|gen|30|--cert=c|7", "gen 30 7 c"),
     (
         "x|gen|--cert=c|--|9223372036854775808|2",
-        9_223_372_036_854_775_808,
-        2,
+        "gen 9223372036854775808 2 c",
     ),
-    ("pgv|gen|+007|+060|--cert|c", 7, 60),
-    ("pgv|gen|00|01|--cert=c", 0, 1),
-];
-
-#[test]
-fn lines_of_gen_that_are_taken(rt: HostRuntime) -> Result<(), Fail> {
-    for (line, number, count) in GENS {
-        let got = asked(rt.alloc(), line)?;
-        match &got {
-            Ok(Request::Gen(words)) => {
-                assert!(rt; words.cert.as_str() == "c", "{line}");
-                assert!(rt;
-                    (words.number, words.count.instrs()) == (number, count),
-                    "{line}"
-                );
-            }
-            _ => assert!(rt; false, "{line}"),
-        }
-    }
-    Ok(())
-}
-
-/// Lines of `run` that are taken, with the images, the grant, the steps and the slice that they ask for. The description is
-/// `d`, and the certificate `c`.
-const RUNS: [(&str, &str, u32, u64, u64); 8] = [
-    ("pgv|run|d|c|i|--grant|8|--steps|3", "i", 8, 3, 1_000),
+    ("pgv|gen|+007|+060|--cert|c", "gen 7 60 c"),
+    ("pgv|gen|00|01|--cert=c", "gen 0 1 c"),
+    ("pgv|run|d|c|i|--grant|8|--steps|3", "run d c |i| 8 3 1000"),
     (
         "pgv|run|d|c|1|2|3|4|5|6|7|8|--grant=8|--steps=3",
-        "1|2|3|4|5|6|7|8",
-        8,
-        3,
-        1_000,
+        "run d c |1|2|3|4|5|6|7|8| 8 3 1000",
     ),
     (
         "pgv|run|--steps=1000000|d|--slice|1|c|--grant=1048575|i",
-        "i",
-        1_048_575,
-        1_000_000,
-        1,
+        "run d c |i| 1048575 1000000 1",
     ),
     (
         "pgv|run|d|c|1|--slice=3|2|--grant|2|3|4|--steps=0|5",
-        "1|2|3|4|5",
-        2,
-        0,
-        3,
+        "run d c |1|2|3|4|5| 2 0 3",
     ),
     (
         "pgv|run|d|c|i|i|--grant=8|--steps=3|--slice|1000000",
-        "i|i",
-        8,
-        3,
-        1_000_000,
+        "run d c |i|i| 8 3 1000000",
     ),
     (
         "pgv|run|d|c|i|--grant=+08|--steps=03|--slice=+0999",
-        "i",
-        8,
-        3,
-        999,
+        "run d c |i| 8 3 999",
     ),
     (
         "x|run|--grant=8|--steps=3|--|d|c|--slice|-9|--",
-        "--slice|-9|--",
-        8,
-        3,
-        1_000,
+        "run d c |--slice|-9|--| 8 3 1000",
     ),
-    ("pgv|run|d|c||--grant=8|--steps=3", "", 8, 3, 1_000),
-];
-
-#[test]
-fn lines_of_run_that_are_taken(rt: HostRuntime) -> Result<(), Fail> {
-    for (line, images, grant, steps, slice) in RUNS {
-        let got = asked(rt.alloc(), line)?;
-        match &got {
-            Ok(Request::Run(words)) => {
-                assert!(rt; words.desc.as_str() == "d", "{line}");
-                assert!(rt; words.cert.as_str() == "c", "{line}");
-                assert!(rt; words.images.len() == images.split('|').count(), "{line}");
-                for (name, image) in words.images.as_slice().iter().zip(images.split('|')) {
-                    assert!(rt; name.as_str() == image, "{line}");
-                }
-                assert!(rt;
-                    (
-                        words.grant.cells(),
-                        words.steps.count(),
-                        words.slice.steps()
-                    ) == (grant, steps, slice),
-                    "{line}"
-                );
-            }
-            _ => assert!(rt; false, "{line}"),
-        }
-    }
-    Ok(())
-}
-
-#[test]
-fn words_of_hybrid_are_those_of_run(rt: HostRuntime) -> Result<(), Fail> {
-    let line = "pgv|hybrid|d|c|i|j|--grant=8|--steps=3|--slice=7";
-    let got = asked(rt.alloc(), line)?;
-    match &got {
-        Ok(Request::Hybrid(words)) => {
-            assert!(rt; words.desc.as_str() == "d", "{line}");
-            assert!(rt; words.cert.as_str() == "c", "{line}");
-            assert!(rt; words.images.len() == 2, "{line}");
-            assert!(rt; words.grant.cells() == 8, "{line}");
-            assert!(rt; words.steps.count() == 3, "{line}");
-            assert!(rt; words.slice.steps() == 7, "{line}");
-        }
-        _ => assert!(rt; false, "{line}"),
-    }
-    Ok(())
-}
-
-/// Lines of `asm` and `disasm` that are taken, with the command and the grant that they ask for. The description is `d`, and the
-/// source or the image `s`.
-const ASMS: [(&str, &str, u32); 4] = [
-    ("pgv|asm|d|s|--grant|8", "asm", 8),
-    ("pgv|asm|--grant=1048575|d|s", "asm", 1_048_575),
-    ("pgv|disasm|d|s|--grant|2", "disasm", 2),
-    ("x|disasm|--grant=+016|--|d|s", "disasm", 16),
-];
-
-#[test]
-fn lines_of_the_assembler_that_are_taken(rt: HostRuntime) -> Result<(), Fail> {
-    for (line, command, grant) in ASMS {
-        let got = asked(rt.alloc(), line)?;
-        match &got {
-            Ok(Request::Asm(words)) => {
-                assert!(rt; command == "asm", "{line}");
-                assert!(rt; words.desc.as_str() == "d", "{line}");
-                assert!(rt; words.source.as_str() == "s", "{line}");
-                assert!(rt; words.grant.cells() == grant, "{line}");
-            }
-            Ok(Request::Disasm(words)) => {
-                assert!(rt; command == "disasm", "{line}");
-                assert!(rt; words.desc.as_str() == "d", "{line}");
-                assert!(rt; words.image.as_str() == "s", "{line}");
-                assert!(rt; words.grant.cells() == grant, "{line}");
-            }
-            _ => assert!(rt; false, "{line}"),
-        }
-    }
-    Ok(())
-}
-
-/// Lines of `save` that are taken, with the grant and the steps that they ask for. The description is `d`, the certificate `c`,
-/// the image `i`, and the file for the guest `f`.
-const SAVES: [(&str, u32, u64); 3] = [
-    ("pgv|save|d|c|i|f|--grant|8|--steps|3", 8, 3),
+    ("pgv|run|d|c||--grant=8|--steps=3", "run d c || 8 3 1000"),
+    (
+        "pgv|hybrid|d|c|i|j|--grant=8|--steps=3|--slice=7",
+        "hybrid d c |i|j| 8 3 7",
+    ),
+    ("pgv|asm|d|s|--grant|8", "asm d s 8"),
+    ("pgv|asm|--grant=1048575|d|s", "asm d s 1048575"),
+    ("pgv|disasm|d|i|--grant|2", "disasm d i 2"),
+    ("x|disasm|--grant=+016|--|d|i", "disasm d i 16"),
+    ("pgv|save|d|c|i|f|--grant|8|--steps|3", "save d c i f 8 3"),
     (
         "pgv|save|--steps=1000000|d|c|--grant=1048575|i|f",
-        1_048_575,
-        1_000_000,
+        "save d c i f 1048575 1000000",
     ),
-    ("x|save|--grant|2|--steps|+00|--|d|c|i|f", 2, 0),
-];
-
-#[test]
-fn lines_of_save_that_are_taken(rt: HostRuntime) -> Result<(), Fail> {
-    for (line, grant, steps) in SAVES {
-        let got = asked(rt.alloc(), line)?;
-        match &got {
-            Ok(Request::Save(words)) => {
-                assert!(rt; words.desc.as_str() == "d", "{line}");
-                assert!(rt; words.cert.as_str() == "c", "{line}");
-                assert!(rt; words.image.as_str() == "i", "{line}");
-                assert!(rt; words.file.as_str() == "f", "{line}");
-                assert!(rt;
-                    (words.grant.cells(), words.steps.count()) == (grant, steps),
-                    "{line}"
-                );
-            }
-            _ => assert!(rt; false, "{line}"),
-        }
-    }
-    Ok(())
-}
-
-/// Lines of `resume` that are taken, with the steps and the cells to skip that they ask for. The description is `d`, the
-/// certificate `c`, and the saved guest `s`.
-const RESUMES: [(&str, u64, u32); 4] = [
-    ("pgv|resume|d|c|s|--steps|3", 3, 0),
-    ("pgv|resume|d|c|s|--steps=0|--skip=0", 0, 0),
+    (
+        "x|save|--grant|2|--steps|+00|--|d|c|i|f",
+        "save d c i f 2 0",
+    ),
+    ("pgv|resume|d|c|s|--steps|3", "resume d c s 3 0"),
+    ("pgv|resume|d|c|s|--steps=0|--skip=0", "resume d c s 0 0"),
     (
         "pgv|resume|--skip|1048575|d|--steps=1000000|c|s",
-        1_000_000,
-        1_048_575,
+        "resume d c s 1000000 1048575",
     ),
-    ("x|resume|--steps=7|--skip=+020|--|d|c|s", 7, 20),
+    (
+        "x|resume|--steps=7|--skip=+020|--|d|c|s",
+        "resume d c s 7 20",
+    ),
 ];
 
 #[test]
-fn lines_of_resume_that_are_taken(rt: HostRuntime) -> Result<(), Fail> {
-    for (line, steps, skip) in RESUMES {
-        let got = asked(rt.alloc(), line)?;
-        match &got {
-            Ok(Request::Resume(words)) => {
-                assert!(rt; words.desc.as_str() == "d", "{line}");
-                assert!(rt; words.cert.as_str() == "c", "{line}");
-                assert!(rt; words.saved.as_str() == "s", "{line}");
-                assert!(rt;
-                    (words.steps.count(), words.skip.cells()) == (steps, skip),
-                    "{line}"
-                );
-            }
-            _ => assert!(rt; false, "{line}"),
-        }
+fn lines_that_are_taken(rt: HostRuntime) -> Result<(), Fail> {
+    for (line, wanted) in TAKEN {
+        let got = said(rt.alloc(), line)?;
+        assert!(rt; got.as_str() == wanted, "{line}: {}", got.as_str());
     }
     Ok(())
 }
