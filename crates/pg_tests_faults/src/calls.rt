@@ -1,7 +1,8 @@
 //! Calls of the shelf that fail.
 
 use crate::commands::{ROWS, Row};
-use crate::setting::{HELD, are_alike, is_silent, run, run_failing};
+use crate::setting::{FILES, HELD, are_alike, is_silent, run, run_failing};
+use pg_setting::Setting;
 use pg_tool::Status;
 use std::alloc::Global;
 use std::process::Abort;
@@ -16,21 +17,28 @@ fn fails_to_read(rt: &impl Abort, alloc: Global, line: &str, reads: u64) -> Resu
     Ok(())
 }
 
+/// Whether a save failed: nothing was put, `c` holds this front, and the hardware is as it was made, or, of the command that saves
+/// what a guest came to, as where nothing fails.
+fn is_unsaved(left: &Setting, whole: &Setting, front: &[u8]) -> bool {
+    left.is(Status::WriteFault, "")
+        && left.keeps(&FILES)
+        && left.held() == front
+        && (left.is_fresh() || left.counts() == whole.counts())
+}
+
 /// A save that fails, after nothing, after three bytes and before the last, leaves that front of what was to be saved.
 fn fails_to_save(
     rt: &impl Abort,
     alloc: Global,
     line: &str,
     call: u64,
-    whole: &[u8],
+    whole: &Setting,
 ) -> Result<(), Fail> {
-    for taken in [0, 3, whole.len().saturating_sub(1)] {
+    let saved = whole.held();
+    for taken in [0, 3, saved.len().saturating_sub(1)] {
         let left = run_failing(alloc, line, HELD, &[(call, taken)], &[])?;
-        let front = whole.get(..taken).unwrap_or(whole);
-        assert!(rt;
-            is_silent(&left, Status::WriteFault, front),
-            "{line} {taken}"
-        );
+        let front = saved.get(..taken).unwrap_or(saved);
+        assert!(rt; is_unsaved(&left, whole, front), "{line} {taken}");
     }
     Ok(())
 }
@@ -46,7 +54,7 @@ fn fails_at_each_call(rt: &impl Abort, alloc: Global, row: Row) -> Result<(), Fa
     fails_to_read(rt, alloc, line, reads)?;
     let mut behind = reads.wrapping_add(1);
     if saves {
-        fails_to_save(rt, alloc, line, behind, whole.held())?;
+        fails_to_save(rt, alloc, line, behind, &whole)?;
         behind = behind.wrapping_add(1);
     }
     let left = run_failing(alloc, line, HELD, &[(behind, 0)], &[])?;

@@ -8,7 +8,7 @@ pub(crate) type Row = (&'static str, Status, u64, bool);
 
 /// The descriptions and images are loaded, each by one call, and so is a certificate that is made anew. Of a certificate that
 /// is verified the size is asked first, and the last part of it is empty.
-pub(crate) const ROWS: [Row; 21] = [
+pub(crate) const ROWS: [Row; 30] = [
     ("bare m0 stay --grant 8 --steps 2", Status::Done, 2, false),
     ("bare m0 zeros --grant 8 --steps 2", Status::Done, 2, false),
     ("check none --cert c", Status::Done, 1, true),
@@ -30,10 +30,31 @@ pub(crate) const ROWS: [Row; 21] = [
         5,
         false,
     ),
+    (
+        "hybrid none hend zeros zeros --grant 3 --steps 1",
+        Status::Done,
+        6,
+        false,
+    ),
     ("print m0", Status::Done, 1, false),
     ("gen 2 1 --cert c", Status::Done, 0, true),
     ("migrate none end c", Status::Done, 2, true),
     ("migrate rtu open c", Status::Unsettled, 2, true),
+    ("asm m0 source --grant 8", Status::Done, 2, false),
+    ("asm m0 zeros --grant 8", Status::Done, 2, false),
+    ("disasm m0 past --grant 8", Status::Done, 2, false),
+    (
+        "save none end zeros c --grant 3 --steps 1",
+        Status::Done,
+        5,
+        true,
+    ),
+    (
+        "resume none end kept --steps 1 --skip 2",
+        Status::Done,
+        5,
+        false,
+    ),
     // Refusals: their lines are put as other texts are.
     ("bare", Status::Words, 0, false),
     ("print zeros", Status::Description, 1, false),
@@ -43,6 +64,14 @@ pub(crate) const ROWS: [Row; 21] = [
         "run none end zeros --grant 7 --steps 1",
         Status::Room,
         1,
+        false,
+    ),
+    ("asm m0 stay --grant 8", Status::Source, 2, false),
+    ("resume none end zeros --steps 1", Status::Saved, 2, false),
+    (
+        "resume none end kept --steps 1 --skip 4",
+        Status::Room,
+        2,
         false,
     ),
     ("print nothing", Status::Missing, 1, false),

@@ -102,6 +102,31 @@ fn hcheck(rt: HostRuntime) -> Result<(), Fail> {
 }
 
 #[test]
+fn hybrid(rt: HostRuntime) -> Result<(), Fail> {
+    rows_end_either_way(&rt, "hybrid")
+}
+
+#[test]
+fn asm(rt: HostRuntime) -> Result<(), Fail> {
+    rows_end_either_way(&rt, "asm")
+}
+
+#[test]
+fn disasm(rt: HostRuntime) -> Result<(), Fail> {
+    rows_end_either_way(&rt, "disasm")
+}
+
+#[test]
+fn save(rt: HostRuntime) -> Result<(), Fail> {
+    rows_end_either_way(&rt, "save")
+}
+
+#[test]
+fn resume(rt: HostRuntime) -> Result<(), Fail> {
+    rows_end_either_way(&rt, "resume")
+}
+
+#[test]
 fn check_of_four(rt: HostRuntime) -> Result<(), Fail> {
     ends_either_way(&rt, rt.alloc(), "check m0 --cert c", HELD, Status::Done)
 }

@@ -6,7 +6,7 @@ use pg_tool::Status;
 use std::alloc::{AllocError, Global};
 
 /// The files that no command changes, by name and content.
-pub(crate) const FILES: [(&str, &str); 10] = [
+pub(crate) const FILES: [(&str, &str); 13] = [
     ("none", "machine { word 16; address 4; size 8; }\n"),
     ("one", IDLE),
     ("rtu", RTU),
@@ -17,6 +17,9 @@ pub(crate) const FILES: [(&str, &str); 10] = [
     ("past", "1: 00020010 040000ff 01140505\n"),
     ("loop", LOOP),
     ("zeros", ""),
+    ("hend", "pghybrid 1\nend\n"),
+    ("source", "top:\nadd x=5 y=5 z=5\njmp a=top\n"),
+    ("kept", "pgguest 1\nsteps 1\nsize 3\npsw s 2 0 3\nend\n"),
 ];
 
 /// What the file `c` holds, where nothing else is said: the commands that save do so under this name.
