@@ -27,7 +27,7 @@
 //! - `line`: what one line says.
 //! - `mark`, `labels`: labels, found by look-up.
 //! - `scan`, `gather`, `place`: the three readings of a source, with `encode` for the word of an instruction.
-//! - `assembler`, `listing`, `disassembler`: the whole. `fault`: what is wrong with a source.
+//! - `assembler`, `image_text`, `disassembler`: the whole. `fault`: what is wrong with a source.
 //! - `laws`: what follows from the definitions alone.
 #![tactic(auto)]
 
@@ -37,10 +37,10 @@ mod encode;
 mod fault;
 mod fields;
 mod gather;
+mod image_text;
 mod labels;
 pub mod laws;
 mod line;
-mod listing;
 mod mark;
 mod place;
 mod scan;
@@ -51,6 +51,6 @@ pub use disassembler::disassemble;
 pub use fault::AsmFault;
 pub use fields::{FieldList, LetterField, fields_of};
 pub use gather::FIRST_PLACE;
+pub use image_text::listing;
 pub use line::PLACE_DIGITS;
-pub use listing::listing;
 pub use words::{ValueList, decode, word_of};
