@@ -1,0 +1,3 @@
+# For m0.isa: jumps to itself for ever.
+here:
+jmp a=here
