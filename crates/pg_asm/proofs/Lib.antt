@@ -5,3 +5,6 @@ pub mod DecodeLemmas
 pub mod LineLemmas
 pub mod PassLemmas
 pub mod OperandLemmas
+pub mod TextBytes
+pub mod ShownBack
+pub mod SourceBack
