@@ -8,3 +8,4 @@ pub mod OperandLemmas
 pub mod TextBytes
 pub mod ShownBack
 pub mod SourceBack
+pub mod SourceFacts

@@ -1,6 +1,6 @@
 -- The source that `disassemble` writes, assembled.
-use Rattle.std.proofs.Common.{◌≡◌, ℕ, zero, suc, ◌+◌, ◌-◌, ◌/◌, ◌%◌, ◌^◌, ◌<◌, ◌≤◌, Bool, true, false, not, cond, ◌&&◌, ◌||◌, List, [], ◌∷◌, ◌++◌, length, map, set, All, Option, None, Some, Result, Ok, Err, refl, ap, sym, subst, ◌∙◌, arith, append_assoc, length-append}
-use Rattle.std.specs.Prelude.{◌==◌, nat_lt, nat_le, position, replicate, filter, slice_index, slice_get, bytes_eq, codes, unwrap_or}
+use Rattle.std.proofs.Common.{◌≡◌, ℕ, zero, suc, ◌+◌, ◌-◌, ◌/◌, ◌%◌, ◌^◌, ◌<◌, ◌≤◌, Bool, true, false, not, cond, ◌&&◌, ◌||◌, List, [], ◌∷◌, ◌++◌, length, map, set, All, Option, None, Some, Ok, Err, refl, ap, sym, subst, ◌∙◌, arith, append_assoc, length-append}
+use Rattle.std.specs.Prelude.{◌==◌, nat_lt, nat_le, position, replicate, filter, slice_get, bytes_eq, codes, unwrap_or}
 use Rattle.std.specs.Option.{option_map}
 use Rattle.std.specs.List.{list_all, prefix_len, slice_split}
 use Rattle.std.specs.Char.{is_ascii_digit, is_ascii_hexdigit}
@@ -32,12 +32,11 @@ use Rattle.pg_valid.specs.Overlaps.{is_field_letter}
 use Rattle.pg_valid.specs.Twice.{is_among, first_twice, instr_names, let_twice_among, first_of_two}
 use Rattle.pg_valid.specs.Valid.{as_twice, IsValid}
 use Rattle.pg_valid.proofs.ValidFacts.{IsShape-of_valid}
-use Rattle.pg_asm.specs.declared.fault.AsmFault.{AsmFault}
-use Rattle.pg_asm.specs.declared.fault.AsmFault.TheVariants.{Long, Token, Name, Field, Label as LabelFault, Range, Place, Overlap}
+use Rattle.pg_asm.specs.declared.fault.AsmFault.TheVariants.{Long, Token, Name, Field, Range, Place, Overlap}
 use Rattle.pg_asm.specs.declared.fields.LetterField.{LetterField}
-use Rattle.pg_asm.specs.Words.{begins_field, field_here, fields_behind, fields_of, value_in, values_in, fit, kept_bits, word_by, pattern_of}
-use Rattle.pg_asm.specs.Said.{Value, Number, Named, Operand, Said, Blank, At, Word, Instr, most_place_digits, value_said, begins_operand, operand_said, in_front, operands_said, alone, place_said, mark_said, word_said, said_of}
-use Rattle.pg_asm.specs.Sources.{most_source_bytes, may_stand, foreign_place, with_line, said_from, first_place, place_behind, Labels, labels_of, numbers_of, same_letters, fitted, encoded, instr_word, none_given, put_word, cells_behind, then_due, cells_from, filled, lines_due, cells_due, source_due}
+use Rattle.pg_asm.specs.Words.{begins_field, field_here, fields_behind, fields_of, value_in, values_in, kept_bits, word_by, pattern_of}
+use Rattle.pg_asm.specs.Said.{Value, Number, Named, Operand, Said, Blank, At, Word, Instr, most_place_digits, value_said, begins_operand, operand_said, in_front, operands_said, alone, mark_said, word_said, said_of}
+use Rattle.pg_asm.specs.Sources.{most_source_bytes, may_stand, foreign_place, with_line, said_from, first_place, place_behind, Labels, labels_of, numbers_of, same_letters, fitted, encoded, put_word, cells_behind, then_due, cells_from, filled, lines_due, cells_due, source_due}
 use Rattle.pg_asm.specs.Texts.{fields_text, word_text, instr_text, said_text, source_text}
 use Rattle.pg_asm.proofs.WordLemmas.{values-again, values-fit}
 use Rattle.pg_asm.proofs.DecodeLemmas.{pattern-there, finds}

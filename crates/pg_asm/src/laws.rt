@@ -45,6 +45,20 @@ pub fn asm_text_reads_back()
         All (λ cell. cell < 2 ^ w) cells → image_due w size (asm_text w 0 cells) ≡ Ok cells }
 {}
 
+/// The image of a source has as many cells as the size, and each fits.
+pub fn assembled_images_fit(desc: &Desc)
+    requires { IsValid desc.now }
+    ensures len { (size : ℕ) (text cells : List ℕ) → source_due desc.now size text ≡ Ok cells → length cells ≡ size }
+    ensures fit { (size : ℕ) (text cells : List ℕ) → source_due desc.now size text ≡ Ok cells → All (λ cell. cell < 2 ^ desc.now.word) cells }
+{}
+
+/// So the text of `asm` of a source's image, read as an image of the same size, is the source's image.
+pub fn assembled_text_reads_back(desc: &Desc)
+    requires { IsValid desc.now }
+    ensures { (size : ℕ) (text cells : List ℕ) → size ≤ desc.now.size → source_due desc.now size text ≡ Ok cells →
+        image_due desc.now.word size (asm_text desc.now.word 0 cells) ≡ Ok cells }
+{}
+
 /// What `disassemble` writes of an image assembles to that image, at its size, where the text is not too long for a source.
 pub fn disassembled_text_assembles(desc: &Desc)
     requires { IsValid desc.now }
