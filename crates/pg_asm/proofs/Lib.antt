@@ -5,3 +5,7 @@ pub mod DecodeLemmas
 pub mod LineLemmas
 pub mod PassLemmas
 pub mod OperandLemmas
+pub mod TextBytes
+pub mod ShownBack
+pub mod SourceBack
+pub mod SourceFacts
