@@ -431,7 +431,7 @@ def wrong_replays() -> list[str]:
     for row in REPLAYS:
         files = {"d": row.description, "c": as_text(row.lines)}
         told = answer(("replay", "d", "c"), files.__getitem__, _Square())
-        if told != (row.status, as_text(row.text), None):
+        if told != Answer(row.status, as_text(row.text)):
             wrong.append(f"replay of {row.lines}: {told}")
     return wrong
 
@@ -507,7 +507,7 @@ def wrong_migrations() -> list[str]:
         "again": migrated(longer, privileged(ONCE), privileged(ONCE)) == [],
         "again, longer": any("once more" in line for line in migrated(longer, privileged(ONCE), longer)),
         "again, refused": any("once more" in line for line in migrated(shown, shown, shown[:-1])),
-        "refused": asked("d", "bad", "x") == (6, b"certificate: version 1\n", None),
+        "refused": asked("d", "bad", "x") == Answer(6, b"certificate: version 1\n"),
         "refused before a place is asked for": asked("d", "bad", "x", can_save=False)[0] == 6,
         "no place": asked("d", "c", "x", can_save=False) == Answer(9, b"", unwritable("x")),
         "two files": asked("d", "c") == answer((), files.__getitem__, _Square()),

@@ -17,6 +17,7 @@ from inputs.descriptions import MOSTLY_TRUSTED, ROUGH, TRUSTED_MANNERS, Style, r
 from inputs.guest_rows import ROWS
 from inputs.images import GuestImageWriter, broken_image
 from inputs.programs import TAME, with_near_miss
+from inputs.split import split_description
 from inputs.systems import System
 from inputs.windows import Edges
 from pgvmodel import tree
@@ -97,13 +98,18 @@ def certified(rng: Random, means: Means) -> Iterator[Case]:
 
 
 def hybrids(rng: Random, means: Means) -> Iterator[Case]:
-    """Runs of all other kinds under a hybrid monitor, most by what `hcheck` saves of their machine."""
-    for case in rng.choice([rough, tame, windows, systems, certified])(rng, means):
+    """Runs of all other kinds under a hybrid monitor, and of machines for it alone, most by what `hcheck` saves of their machine."""
+    for case in rng.choice([rough, tame, windows, systems, certified, split, split, split])(rng, means):
         files = dict(case.files)
         if rng.random() < 0.9:
             files[CERTIFICATE_FILE] = checked(means, files[DESCRIPTION_FILE], command="hcheck")
         other = case.other_words and ("hybrid", *case.other_words[1:])
         yield case._replace(words=("hybrid", *case.words[1:]), files=files, other_words=other)
+
+
+def split(rng: Random, means: Means) -> Iterator[Case]:
+    """Runs of machines whose bodies use control registers in supervisor mode alone."""
+    return _runs_of(rng, means, split_description(rng))
 
 
 def rows(means: Means) -> list[Case]:

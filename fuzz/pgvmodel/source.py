@@ -3,6 +3,7 @@
 import re
 from collections.abc import Sequence
 from dataclasses import dataclass
+from functools import cache, partial
 from typing import NamedTuple
 
 from pgvmodel import tree
@@ -222,7 +223,8 @@ def decoded(description: tree.Description, word: int) -> tuple[tree.Instruction,
 
 def disassembled(description: tree.Description, cells: Sequence[int]) -> str:
     """A source of these cells: for each that is not zero its place, and the instruction or the word that it has."""
-    return "".join(f"@{place}\n{_spelled(description, word)}\n" for place, word in enumerate(cells) if word)
+    spelled = cache(partial(_spelled, description))
+    return "".join(f"@{place}\n{spelled(word)}\n" for place, word in enumerate(cells) if word)
 
 
 def _spelled(description: tree.Description, word: int) -> str:
