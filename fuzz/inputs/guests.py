@@ -40,6 +40,12 @@ MANY_STEPS = (999, 1000, 1001, 2000, 3000)
 
 BAD_SLICES = ("0", "1000001", "-1", "+0", "x", "1.5", "4294967297")
 
+FIRST_LINES = (
+    *(b"pghybrid 2\n", b"pghybrid 0\n", b"pghybrid 01\n", b"pghybrid 10\n", b"pghybrid\n", b"pghybrid 1 \n", b"pghybrid 1"),
+    *(b"pgcert 1\n", b"pgcert 2\n", b"pgcert 3\n", b"pgguest 1\n", b"", b"\n", b"pghybrid 1\npghybrid 1\n"),
+)
+"""In place of that of a certificate of the hybrid family."""
+
 BUDGET = 300
 BUDGETS = (BUDGET, BUDGET, BUDGET, 1, 2, 10, 50, 1000)
 """Of a check: most settle what they ask, and some leave it open."""
@@ -101,8 +107,13 @@ def hybrids(rng: Random, means: Means) -> Iterator[Case]:
     """Runs of all other kinds under a hybrid monitor, and of machines for it alone, most by what `hcheck` saves of their machine."""
     for case in rng.choice([rough, tame, windows, systems, certified, split, split, split])(rng, means):
         files = dict(case.files)
-        if rng.random() < 0.9:
+        kind = rng.choices(["fine", "kept", "spoiled", "first line"], [78, 8, 10, 4])[0]
+        if kind != "kept":
             files[CERTIFICATE_FILE] = checked(means, files[DESCRIPTION_FILE], command="hcheck")
+        if kind == "spoiled":
+            files[CERTIFICATE_FILE] = spoiled(rng, files[CERTIFICATE_FILE])
+        if kind == "first line":
+            files[CERTIFICATE_FILE] = rng.choice(FIRST_LINES) + files[CERTIFICATE_FILE].partition(b"\n")[2]
         other = case.other_words and ("hybrid", *case.other_words[1:])
         yield case._replace(words=("hybrid", *case.words[1:]), files=files, other_words=other)
 
