@@ -27,6 +27,24 @@ from pgvmodel.source import assembled, decoded, disassembled, listed, word_of
 from pgvmodel.words import FORMS, usage
 
 ALL = frozenset(FORMS)
+USAGE = """pgv bare DESC IMAGE --grant G --steps N
+pgv check DESC --cert FILE [--budget K]
+pgv verify DESC CERT
+pgv replay DESC CERT
+pgv run DESC CERT IMAGE.. --grant G --steps N [--slice K]
+pgv print DESC
+pgv gen NUMBER SIZE --cert FILE
+pgv migrate DESC CERT FILE
+pgv hcheck DESC --cert FILE [--budget K]
+pgv hybrid DESC CERT IMAGE.. --grant G --steps N [--slice K]
+pgv nest DESC CERT IMAGE --grant G --steps N --depth D
+pgv asm DESC SOURCE --grant G
+pgv disasm DESC IMAGE --grant G
+pgv save DESC CERT IMAGE FILE --grant G --steps N
+pgv resume DESC CERT SAVED --steps N [--skip P]
+"""
+"""What is told of refused words where all commands are switched on."""
+
 SIX = "@2\nlr l=4 b=8\n@7\nadd x=0 y=7 z=7\n@11\nword 00000005\n"
 THREE = "2: 04000408\n7: 01000707\n11: 00000005\n"
 
@@ -187,7 +205,7 @@ DISASSEMBLED = (
 """A machine, an image of 16 cells or 15, and the source that it is."""
 
 FILES = {"m": MACHINE, "s": SIX.encode(), "i": THREE.encode(), "bad": b"machine {", "e": b"", "long": b"#" * 1_048_576 + b"#"}
-USED = Answer(3, usage(ALL).encode())
+USED = Answer(3, USAGE.encode())
 
 ASM_LINES = (
     ("m s --grant 16", Answer(0, THREE.encode())),
@@ -251,7 +269,14 @@ def wrong_rows() -> list[str]:
             told = answer((command, *words.split()), load, Questions(), on=ALL)
             if told != due:
                 wrong.append(f"{command} {words}: {told}, and not {due}")
-    return wrong
+    return wrong + [f"{command} is switched off, and answers" for command in FORMS if not _is_refused(command)]
+
+
+def _is_refused(command: str) -> bool:
+    """Whether a command that is switched off is none, and is not told; all others are."""
+    others = "".join(line for line in USAGE.splitlines(keepends=True) if not line.startswith(f"pgv {command} "))
+    on = ALL - {command}
+    return answer((command, "m", "s", "--grant", "16"), load, Questions(), on=on) == Answer(3, others.encode()) and usage(on) == others
 
 
 def wrong_round_trips(count: int, counts: Counter[str]) -> list[str]:

@@ -289,6 +289,7 @@ ROUNDS = (
     ListRound("source-lines", sources.odd_lines, command="asm"),
     ListRound("source-faults", sources.several_faults, command="asm"),
     ListRound("source-fronts", sources.fronts, command="asm"),
+    ListRound("source-values", sources.values, command="disasm"),
     RandomRound("source-images", sources.images, command="disasm"),
     RandomRound("source-words", sources.words, command="disasm"),
     RandomRound("source-trips", sources.round_trips, command="disasm"),

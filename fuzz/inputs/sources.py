@@ -4,6 +4,7 @@ from collections.abc import Iterator, Sequence
 from dataclasses import dataclass, field
 from itertools import permutations, product
 from random import Random
+from string import ascii_lowercase
 
 from inputs.bodies import random_name
 from inputs.case import Case, assembling, disassembling, running_bare
@@ -305,6 +306,29 @@ def odd_lines() -> list[Case]:
     texts = [*ODD_LINES, *(line + b"\ntop:\n@4\nsvc\n" for line in ODD_LINES), *(b"top:\nsvc\n" + line for line in ODD_LINES)]
     texts += [first + b"\n" + second for first, second in product(ODD_LINES, repeat=2)]
     return [assembling(MACHINE, text, 16) for text in texts]
+
+
+LETTERS = [f"{letter}=1" for letter in ascii_lowercase]
+MANY_FIELDS = b'machine { word 32; address 8; size 64; } instr all "%s......" { }' % ascii_lowercase.encode()
+
+
+def values() -> list[Case]:
+    """The greatest value of fields of each width, one more, and a label's place; many fields, and more parts than letters."""
+    cases = []
+    for width in range(1, 65):
+        machine = b'machine { word 64; address 8; size 64; } instr a "%s" { }' % (b"z" * width).ljust(64, b".")
+        texts = [b"a z=%d" % ((1 << width) - 1), b"a z=%d" % (1 << width), b"a z=%d" % ((1 << width) + 1)]
+        texts += [b"@%d\ntop:\n@3\na z=top" % place for place in ((1 << width) - 1, 1 << width) if place < 10_000_000]
+        cases += [assembling(machine, text, 16) for text in texts]
+        word = (1 << 64) - (1 << 64 - width)
+        cases += [disassembling(machine, b"5: %016x" % changed, 16) for changed in (word, word ^ 1, word ^ 1 << 63)]
+    lists = [LETTERS, LETTERS[:-1], [*LETTERS, "z=1"], [*LETTERS, "a=1"], [*LETTERS, "7"], [*LETTERS[:-1], "z=2"]]
+    lists += [[*LETTERS[:i], *LETTERS[i : i + 2][::-1], *LETTERS[i + 2 :]] for i in (0, 12, 24)]
+    lists += [["a=1"] * count for count in (26, 27, 32, 33, 64, 65, 256, 257)]
+    lists += [[*["a=1"] * count, "7"] for count in (26, 27, 32, 33, 64, 65, 256, 257)]
+    cases += [assembling(MANY_FIELDS, " ".join(["all", *parts]).encode(), 16) for parts in lists]
+    images = (b"ffffffff", b"ffffffc0", b"80000000", b"00000040", b"aaaaaa80")
+    return [*cases, *(disassembling(MANY_FIELDS, b"2: " + word, 16) for word in images)]
 
 
 FAULTS = {
