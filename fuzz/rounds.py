@@ -287,6 +287,7 @@ ROUNDS = (
     RandomRound("sources", sources.sources, command="asm"),
     RandomRound("spoiled-sources", sources.spoiled_sources, command="asm"),
     ListRound("source-lines", sources.odd_lines, command="asm"),
+    ListRound("source-pairs", sources.odd_pairs, command="asm"),
     ListRound("source-faults", sources.several_faults, command="asm"),
     ListRound("source-fronts", sources.fronts, command="asm"),
     ListRound("source-values", sources.values, command="disasm"),

@@ -302,10 +302,14 @@ ODD_LINES = tuple(
 
 
 def odd_lines() -> list[Case]:
-    """Each odd line alone, before others and behind them, and with each other one."""
+    """Each odd line alone, before others and behind them."""
     texts = [*ODD_LINES, *(line + b"\ntop:\n@4\nsvc\n" for line in ODD_LINES), *(b"top:\nsvc\n" + line for line in ODD_LINES)]
-    texts += [first + b"\n" + second for first, second in product(ODD_LINES, repeat=2)]
     return [assembling(MACHINE, text, 16) for text in texts]
+
+
+def odd_pairs() -> list[Case]:
+    """Each odd line with each other one behind it."""
+    return [assembling(MACHINE, first + b"\n" + second, 16) for first, second in product(ODD_LINES, repeat=2)]
 
 
 LETTERS = [f"{letter}=1" for letter in ascii_lowercase]
