@@ -289,6 +289,7 @@ ROUNDS = (
     ListRound("source-lines", sources.odd_lines, command="asm"),
     ListRound("source-pairs", sources.odd_pairs, command="asm"),
     ListRound("source-faults", sources.several_faults, command="asm"),
+    ListRound("source-line-faults", sources.faults_of_a_line, command="asm"),
     ListRound("source-fronts", sources.fronts, command="asm"),
     ListRound("source-values", sources.values, command="disasm"),
     RandomRound("source-images", sources.images, command="disasm"),

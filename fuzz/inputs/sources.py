@@ -343,25 +343,29 @@ FAULTS = {
     "label": (b"jmp a=nowhere", b"add x=1 y=256 z=nowhere", b"top:"),
     "range": (b"jmp a=256", b"jmp a=far", b"add x=1 y=2 z=1000"),
     "place": (b"@16\nsvc", b"@999\nword 00000000", b"@16\njmp a=top"),
-    "overlap": (b"@2\nsvc", b"@2\nword 00000000", b"@2\njmp a=top"),
+    "overlap": (b"@2\nsvc", b"@3\nword 00000000", b"@3\njmp a=top"),
 }
 """Lines with a fault of a class, behind HEAD, in the order in which faults are told on one line; the last word is the one at fault."""
 
-HEAD = b"top:\nsvc\n@300\nfar:\n@5\n"
+HEAD = b"top: # \xff\nsvc\nword 00000000\n@300\nfar:\n@5\n"
 BETWEEN = b"\n@%d\n"
 """Each of two faults has a place of its own, where it has no other."""
 
 
 def several_faults() -> list[Case]:
-    """Two faults of any classes on two lines, either way about, and three; and all that one line may have together."""
+    """Two faults of any classes on two lines, either way about, and three."""
     texts = []
     for first, second in permutations(FAULTS, 2):
         for one, other in product(FAULTS[first], FAULTS[second]):
             texts.append(HEAD + one + BETWEEN % 9 + other + b"\n")
     for kinds in permutations(FAULTS, 3):
         texts.append(HEAD + (BETWEEN % 9).join(FAULTS[kind][0] for kind in kinds))
-    texts += [HEAD + line for line in _lines_of_several()]
     return [assembling(MACHINE, text, 16) for text in texts]
+
+
+def faults_of_a_line() -> list[Case]:
+    """All faults that one line may have together."""
+    return [assembling(MACHINE, HEAD + line, 16) for line in _lines_of_several()]
 
 
 def _lines_of_several() -> Iterator[bytes]:
