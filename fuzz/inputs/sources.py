@@ -371,10 +371,11 @@ def faults_of_a_line() -> list[Case]:
 def _lines_of_several() -> Iterator[bytes]:
     """One word, at a place that is free, past the size or given, with each fault that it may have, or without."""
     names, lasts, labels, numbers = (b"add", b"nothing"), (b"", b" z=1"), (b"top", b"nowhere", b"far"), (b"255", b"256")
-    for place, name, last, label, number in product((b"7", b"16", b"2"), names, lasts, labels, numbers):
-        for strange in (b"", b" 7", b" ;", b" 7 ;"):
-            yield b"@%b\n%b x=%b y=%b z=1%b%b\n" % (place, name, number, label, last, strange)
-            yield b"@%b\n%b x=%b y=%b z=1%b%b\n" % (place, name, label, number, last, strange)
+    for place, name, last, label, number in product((b"7", b"16", b"2", b"3"), names, lasts, labels, numbers):
+        yield b"@%b\n%b x=%b y=%b z=1%b\n" % (place, name, number, label, last)
+        yield b"@%b\n%b x=%b y=%b z=1%b\n" % (place, name, label, number, last)
+    for place, name, strange in product((b"7", b"16", b"2"), (b"svc", *names), (b" 7", b" ;", b" 7 ;", b" a=nowhere", b" a=256")):
+        yield b"@%b\n%b%b\n" % (place, name, strange)
 
 
 WHOLE = b"# all forms\n@2\nlr l=4 b=8 # c\ntop:\n\n@7\n add\tx=0 y=top z=7\r\n@11\nword 0000000a\njmp a=end\nsvc\nend:\n"
