@@ -305,6 +305,7 @@ ROUNDS = (
     CheckedRound("resume-chains", further_guests.chains, command="resume"),
     CheckedRound("spoiled-saves", further_guests.spoiled_saves, command="resume"),
     ListRound("saved-lines", saved_texts.odd_lines, command="resume"),
+    ListRound("saved-places", saved_texts.misplaced_lines, command="resume"),
     ListRound("saved-fronts", saved_texts.fronts, command="resume"),
     ListRound("tampered-saves", saved_texts.tampered, command="resume"),
     ListRound("save-shapes", partial(further_lines.shapes, SAVE), command="save"),

@@ -1,19 +1,18 @@
 """Saved guests as texts: of any states, with edits, broken off anywhere, and with odd lines."""
 
-from collections.abc import Iterator
 from random import Random
 
 from inputs.case import Case, resuming
-from inputs.guest_rows import MACHINE
 from inputs.images import GuestImageWriter
+from inputs.snippets import NO_FINDINGS
 from pgvmodel import tree
 from pgvmodel.body import ProgramStatusWord, mask
 from pgvmodel.image import read_image
 from pgvmodel.machine import SUPERVISOR, USER, State
 from pgvmodel.saved import MOST_STEPS, Saved, saved_text
 
-NO_CERTIFICATE = b""
-"""What stands in a text is told before a certificate is."""
+BARE_MACHINE = b"machine { word 32; address 8; size 64; }"
+"""One without instructions, which needs no certificate to be made: so a text that is read is written again."""
 
 
 def random_state(rng: Random, description: tree.Description, size: int) -> State:
@@ -103,36 +102,51 @@ def _odd_line(rng: Random, text: bytes, _description: tree.Description) -> bytes
 ROW = b"00000001 " * 7 + b"00000001"
 ZEROS = b"00000000 " * 7 + b"00000000"
 
-ODD_LINES = (
-    *(b"", b" ", b"\r", b"\t", b"#", b"\x7f", b"\x80", b"pgguest 1\r", b"\x00"),
-    *(b"pgguest 1", b"pgguest 0", b"pgguest 2", b"pgguest 01", b"pgguest 10", b"pgguest", b"pgguest ", b"pgguest  1", b"pgguest 1 "),
-    *(b"pgguest -1", b"pgguest +1", b"pgguest 1 2", b"pgguest x", b"pgguest " + b"9" * 40, b"Pgguest 1", b"pgcert 1", b"pgcert 2"),
-    *(b"pghybrid 1", b"guest 0", b" pgguest 1", b"pgguest 2\x7f", b"pgguest 4294967297", b"pgguest 18446744073709551617"),
-    *(b"steps 0", b"steps 3", b"steps 1000000000", b"steps 1000000001", b"steps 00", b"steps 03", b"steps", b"steps ", b"steps -1"),
-    *(b"steps +3", b"steps  3", b"steps 3 ", b"steps 3 direct 2", b"steps 0x3", b"steps 4294967296", b"steps 18446744073709551616"),
-    *(b"steps 18446744073709551619", b"Steps 3", b"total 3"),
-    *(b"size 16", b"size 2", b"size 1", b"size 0", b"size 64", b"size 65", b"size 016", b"size", b"size 16 ", b"size  16", b"size -16"),
-    *(b"size 12", b"size 63", b"size 4294967312", b"size 18446744073709551632"),
-    *(b"psw s 3 0 16", b"psw u 3 0 16", b"psw s 255 255 255", b"psw s 256 0 16", b"psw s 3 256 16", b"psw s 3 0 256", b"psw s 3 0"),
-    *(b"psw s 3 0 16 0", b"psw x 3 0 16", b"psw S 3 0 16", b"psw 0 3 0 16", b"psw s 03 0 16", b"psw s 3 00 16", b"psw s  3 0 16"),
-    *(b"psw s 3 0 16 ", b"psw", b"psw s 4294967299 0 16", b"psw s -3 0 16"),
-    *(b"0: " + ROW, b"8: " + ROW, b"16: " + ROW, b"4: " + ROW, b"1: " + ROW, b"00: " + ROW, b"08: " + ROW, b"0: " + ZEROS),
-    *(b"8: " + ZEROS, b"0: " + ROW + b" 00000001", b"0: " + ROW[:-9], b"0: " + ROW + b" ", b"0:  " + ROW, b"0:" + ROW, b"0 : " + ROW),
-    *(b"0: " + ROW.replace(b" ", b"  ", 1), b"0: " + ROW[:-1], b"0: " + ROW[:-1] + b"A", b"0: " + ROW[:-1] + b"a", b"0: " + ROW + b"0"),
-    *(b"0: " + ROW[:-1] + b"g", b" 0: " + ROW, b"-0: " + ROW, b"0:", b"0: ", b"8:", b"4294967296: " + ROW, b"18446744073709551616: " + ROW),
-    *(b"24: " + ROW, b"0: 00000001", b"8: 00000001 00000000"),
-    *(b"end", b"End", b"end ", b" end", b"ends", b"en", b"end end"),
+ODD_BY_PLACE = (
+    (
+        *(b"", b" ", b"\r", b"\t", b"#", b"\x7f", b"\x80", b"pgguest 1\r", b"\x00", b"pgguest 1", b"pgguest 0", b"pgguest 2"),
+        *(b"pgguest 01", b"pgguest 10", b"pgguest", b"pgguest ", b"pgguest  1", b"pgguest 1 ", b"pgguest -1", b"pgguest +1"),
+        *(b"pgguest 1 2", b"pgguest x", b"pgguest " + b"9" * 40, b"Pgguest 1", b"pgcert 1", b"pgcert 2", b"pghybrid 1", b"guest 0"),
+        *(b" pgguest 1", b"pgguest 2\x7f", b"pgguest 4294967297", b"pgguest 18446744073709551617"),
+    ),
+    (
+        *(b"steps 0", b"steps 3", b"steps 1000000000", b"steps 1000000001", b"steps 00", b"steps 03", b"steps", b"steps ", b"steps -1"),
+        *(b"steps +3", b"steps  3", b"steps 3 ", b"steps 3 direct 2", b"steps 0x3", b"steps 4294967296", b"steps 18446744073709551616"),
+        *(b"steps 18446744073709551619", b"steps 9999999999", b"Steps 3", b"total 3"),
+    ),
+    (
+        *(b"size 16", b"size 2", b"size 1", b"size 0", b"size 64", b"size 65", b"size 016", b"size", b"size 16 ", b"size  16"),
+        *(b"size -16", b"size 12", b"size 63", b"size 255", b"size 256", b"size 4294967312", b"size 18446744073709551632"),
+    ),
+    (
+        *(b"psw s 3 0 16", b"psw u 3 0 16", b"psw s 255 255 255", b"psw s 256 0 16", b"psw s 3 256 16", b"psw s 3 0 256", b"psw s 3 0"),
+        *(b"psw s 3 0 16 0", b"psw x 3 0 16", b"psw S 3 0 16", b"psw 0 3 0 16", b"psw s 03 0 16", b"psw s 3 00 16", b"psw s 3 0 016"),
+        *(b"psw s  3 0 16", b"psw s 3 0 16 ", b"psw", b"psw s 4294967299 0 16", b"psw s -3 0 16"),
+    ),
+    (
+        *(b"0: " + ROW, b"8: " + ROW, b"16: " + ROW, b"4: " + ROW, b"1: " + ROW, b"00: " + ROW, b"08: " + ROW, b"0: " + ZEROS),
+        *(b"8: " + ZEROS, b"0: " + ROW + b" 00000001", b"0: " + ROW[:-9], b"0: " + ROW + b" ", b"0:  " + ROW, b"0:" + ROW),
+        *(b"0 : " + ROW, b"0: " + ROW.replace(b" ", b"  ", 1), b"0: " + ROW[:-1], b"0: " + ROW[:-1] + b"A", b"0: " + ROW[:-1] + b"a"),
+        *(b"0: " + ROW + b"0", b"0: " + ROW[:-1] + b"g", b" 0: " + ROW, b"-0: " + ROW, b"0:", b"0: ", b"8:", b"24: " + ROW),
+        *(b"4294967296: " + ROW, b"18446744073709551616: " + ROW, b"0: 00000001", b"8: 00000001 00000000", b"0: " + ROW + b"\n0: " + ROW),
+        *(b"0: " + ROW + b"\n4: " + ROW, b"8: " + ROW + b"\n0: " + ROW),
+    ),
+    (b"8: " + ROW, b"8: " + ROW + b"\n8: " + ROW, b"8: " + ROW + b"\n16: " + ROW, b"0: " + ROW, b"16: " + ROW, b"12: " + ROW),
+    (b"end", b"End", b"end ", b" end", b"ends", b"en", b"end end", b"end\nend", b"end\n", b"end\n\x80"),
 )
+"""For each line of FULL such as may stand in its place, and such as may not."""
+
+ODD_LINES = tuple(line for lines in ODD_BY_PLACE for line in lines)
 
 FULL = saved_text(
     Saved(3, State([6, 0, 0x01000404, 0x02000002, 3, 0, 0, 0, 0, 0, 0, 0, 0, 0, 0, 0xFF], ProgramStatusWord(SUPERVISOR, 3, 0, 16))),
     32,
 )
-"""A guest of MACHINE, with all lines that it may have."""
+"""A guest of BARE_MACHINE, with all lines that it may have."""
 
 
 def _resumed(text: bytes) -> Case:
-    return resuming(MACHINE, NO_CERTIFICATE, text, 1)
+    return resuming(BARE_MACHINE, NO_FINDINGS, text, 0)
 
 
 def fronts() -> list[Case]:
@@ -142,18 +156,18 @@ def fronts() -> list[Case]:
 
 
 def odd_lines() -> list[Case]:
-    """Each odd line in place of each line and before it."""
-    return [_resumed(text) for text in _with_odd_lines()]
-
-
-def _with_odd_lines() -> Iterator[bytes]:
+    """Lines that may stand in the place of a line, or nearly."""
     lines = FULL.split(b"\n")
-    for i in range(len(lines)):
-        for odd in ODD_LINES:
-            yield b"\n".join([*lines[:i], odd, *lines[i + 1 :]])
-            yield b"\n".join([*lines[:i], odd, *lines[i:]])
-    for size in (2, 3, 7, 8, 9, 12, 15, 17):
-        yield FULL.replace(b"size 16", b"size %d" % size)
+    texts = [b"\n".join([*lines[:i], odd, *lines[i + 1 :]]) for i, odds in enumerate(ODD_BY_PLACE) for odd in odds]
+    texts += [FULL.replace(b"size 16", b"size %d" % size) for size in (2, 3, 7, 8, 9, 12, 15, 17, 64)]
+    return [_resumed(text) for text in texts]
+
+
+def misplaced_lines() -> list[Case]:
+    """Each odd line in place of each line and before it."""
+    lines = FULL.split(b"\n")
+    texts = [b"\n".join([*lines[:i], odd, *lines[i + more :]]) for i in range(len(lines)) for odd in ODD_LINES for more in (0, 1)]
+    return [_resumed(text) for text in texts]
 
 
 def tampered() -> list[Case]:
@@ -177,4 +191,4 @@ def largest() -> list[Case]:
     cells = [mask(64)] * 1_048_573
     whole = saved_text(Saved(MOST_STEPS, State(cells, ProgramStatusWord(USER, mask(20), mask(20), mask(20)))), 64)
     texts = [b"\n" * most, b"\n" * (most + 1), FULL + b" " * (most - len(FULL)), FULL + b" " * (most + 1 - len(FULL)), whole]
-    return [resuming(head, b"pgcert 2\nend\n", text, 0, skip) for text in texts for skip in (None, 1)]
+    return [resuming(head, NO_FINDINGS, text, 0, skip) for text in texts for skip in (None, 1)]
