@@ -12,8 +12,9 @@ sys.dont_write_bytecode = True  # before the modules of this folder are read, so
 
 from judging import Ended, Files
 from judging_migrations import MigrationJudge
+from pgvmodel.answers import Answer, verifying
 from pgvmodel.clauses import Clause, Clauses, Step, Wrong
-from pgvmodel.command import Answer, Migration, answer, on_full_output, verifying
+from pgvmodel.command import Migration, answer, on_full_output
 from pgvmodel.error_lines import NO_OUTPUT, ErrorLine, missing, unreadable, unwritable
 from pgvmodel.families import HYBRID
 from pgvmodel.questions import NotModelled, read_formula
@@ -384,7 +385,7 @@ class _Nobody:
 def answered(description: bytes, text: bytes, questions: object = _Square()) -> tuple[int, list[str]]:
     """The status and the lines that `verify` is to write."""
     files = {"d": description, "c": text}
-    status, output, _ = answer(("verify", "d", "c"), files.__getitem__, questions)
+    status, output, *_ = answer(("verify", "d", "c"), files.__getitem__, questions)
     return status, output.decode().splitlines()
 
 
@@ -430,7 +431,7 @@ def wrong_replays() -> list[str]:
     for row in REPLAYS:
         files = {"d": row.description, "c": as_text(row.lines)}
         told = answer(("replay", "d", "c"), files.__getitem__, _Square())
-        if told != (row.status, as_text(row.text), None):
+        if told != Answer(row.status, as_text(row.text)):
             wrong.append(f"replay of {row.lines}: {told}")
     return wrong
 
@@ -506,7 +507,7 @@ def wrong_migrations() -> list[str]:
         "again": migrated(longer, privileged(ONCE), privileged(ONCE)) == [],
         "again, longer": any("once more" in line for line in migrated(longer, privileged(ONCE), longer)),
         "again, refused": any("once more" in line for line in migrated(shown, shown, shown[:-1])),
-        "refused": asked("d", "bad", "x") == (6, b"certificate: version 1\n", None),
+        "refused": asked("d", "bad", "x") == Answer(6, b"certificate: version 1\n"),
         "refused before a place is asked for": asked("d", "bad", "x", can_save=False)[0] == 6,
         "no place": asked("d", "c", "x", can_save=False) == Answer(9, b"", unwritable("x")),
         "two files": asked("d", "c") == answer((), files.__getitem__, _Square()),
@@ -551,8 +552,8 @@ def wrong_due_lines() -> list[str]:
         return {"d": NOTHING, "c": b"pgcert 2\nend\n"}[name]
 
     def due(*words: str) -> tuple[int, ErrorLine | None]:
-        status, _, error = answer(words, load, _Square(), lambda name: name == "x")
-        return status, error
+        ended = answer(words, load, _Square(), lambda name: name == "x")
+        return ended.status, ended.error
 
     full = on_full_output(Answer(0, b"accepted\n"))
     checks = {
@@ -579,7 +580,7 @@ def wrong_hybrids() -> list[str]:
     quiet = tuple(line for kind in ("ucontrol", "ulocation", "ubound") for line in refuted(kind, *ONCE))
 
     def told(*lines: str) -> tuple[int, str]:
-        status, output, _ = verifying(read(RTU), as_text(lines), _Square().clauses, HYBRID)
+        status, output, *_ = verifying(read(RTU), as_text(lines), _Square().clauses, HYBRID)
         return status, output.decode().splitlines()[-1]
 
     checks = {

@@ -13,8 +13,9 @@ sys.dont_write_bytecode = True  # before the modules of this folder are read, so
 from check_runs import Monitor, monitor
 from judging import Ended
 from judging_generated import GenerationJudge
+from pgvmodel.answers import WORDS, Answer
 from pgvmodel.clauses import Clause
-from pgvmodel.command import USAGE, WORDS, Answer, Generation, answer
+from pgvmodel.command import USAGE, Generation, answer
 from pgvmodel.generator import CELLS, GUESTS, TURNS, draws, generated, run_text
 from pgvmodel.pairs import KINDS, PRIVILEGED
 from pgvmodel.printer import printed

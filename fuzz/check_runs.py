@@ -22,9 +22,10 @@ from inputs.programs import TAME
 from inputs.systems import System
 from inputs.windows import Edges
 from pgvmodel import tree
+from pgvmodel.answers import Answer
 from pgvmodel.body import Done, ProgramStatusWord
 from pgvmodel.clauses import Clause
-from pgvmodel.command import USAGE, Answer, answer
+from pgvmodel.command import USAGE, answer
 from pgvmodel.error_lines import missing, unreadable
 from pgvmodel.image import read_image
 from pgvmodel.machine import SUPERVISOR, Machine, State, base_of, composed, power_on, run_guest, window

@@ -6,21 +6,22 @@ import shutil
 import subprocess
 import traceback
 from collections import Counter
-from collections.abc import Iterable, Iterator, Mapping, Sequence
+from collections.abc import Collection, Iterable, Iterator, Mapping, Sequence
 from dataclasses import dataclass, field
+from os.path import normpath
 from pathlib import Path
 from typing import NamedTuple
 
 from inputs.case import CERTIFICATE_FILE, DESCRIPTION_FILE, SAVED_FILE, Case
-from judging import Ended, Judge, counted
+from judging import Ended, Files, Judge, counted
 from judging_generated import GenerationJudge
 from judging_migrations import MigrationJudge
-from pgvmodel.command import (
-    CERTIFICATE, DESCRIPTION, IMAGE, SAVING, Answer, Answered, Generation, Migration, Search, answer, on_full_output,
-)
+from pgvmodel.answers import CERTIFICATE, DESCRIPTION, IMAGE, SAVED, SOURCE, Answer
+from pgvmodel.command import SAVING, Answered, Generation, Migration, Search, answer, on_full_output
 from pgvmodel.deciding import Solver
 from pgvmodel.error_lines import NO_OUTPUT
 from pgvmodel.questions import NotModelled, Questions
+from pgvmodel.words import SWITCHED_ON
 
 FULL = "/dev/full"
 """A file that takes nothing."""
@@ -28,10 +29,10 @@ FULL = "/dev/full"
 SECONDS = 120
 """A run of the program that takes longer is stopped, and differs."""
 
-REFUSED_FILES = (DESCRIPTION, IMAGE, CERTIFICATE)
+REFUSED_FILES = (DESCRIPTION, IMAGE, CERTIFICATE, SOURCE, SAVED)
 """Statuses of which the class of the fault is told beside."""
 
-WATCHED = (*SAVING, "run")
+WATCHED = (*SAVING, "run", "hybrid", "nest", "asm", "disasm", "resume")
 """Commands whose files are looked at behind a run: some may change, or none of many."""
 
 MOST_KEPT = 20
@@ -65,6 +66,11 @@ def beside(model: Answer, program: Outcome) -> Outcome:
         return Outcome(model.status, model.output, b"")
     errors = program.errors if model.error.fits(program.errors) else model.error.spelled()
     return Outcome(model.status, model.output, errors)
+
+
+def with_saved(model: Answer, before: Files | None) -> Files | None:
+    """The files that are there behind a run: those before it, and the one that it saves, if it does."""
+    return before if model.saved is None else {**before, normpath(model.saved.name): model.saved.content}
 
 
 def _failed() -> Outcome:
@@ -102,8 +108,16 @@ class Tally:
 class Comparison:
     """Compares the program with the model, in a folder of its own."""
 
-    def __init__(self, program: Path, folder: Path, questions: Questions, solver: Solver | None = None) -> None:
+    def __init__(
+        self,
+        program: Path,
+        folder: Path,
+        questions: Questions,
+        solver: Solver | None = None,
+        on: Collection[str] = SWITCHED_ON,
+    ) -> None:
         self.program = program
+        self.on = on
         self.questions = questions
         self.judges = {
             Search: Judge(solver, questions),
@@ -179,7 +193,7 @@ class Comparison:
     def by_model(self, case: Case) -> Answered | Outcome | None:
         """None where the model has no answer; an outcome where it failed."""
         try:
-            answered = answer(case.words, self.load, self.questions, self.can_save)
+            answered = answer(case.words, self.load, self.questions, self.can_save, self.on)
             return on_full_output(answered) if case.is_full else answered
         except NotModelled:
             return None
@@ -200,7 +214,7 @@ class Comparison:
             return model
         if isinstance(model, Answer):
             outcome = beside(model, program)
-            return outcome if before == after else outcome._replace(errors=b"files were changed")
+            return outcome if after == with_saved(model, before) else outcome._replace(errors=b"other files were changed, or saved")
         ended = Ended(program.status, program.output)
         try:
             complaints = list(self.judges[type(model)].complaints(model, ended, before, after, self))

@@ -12,7 +12,8 @@ from typing import NamedTuple, Protocol
 
 from inputs.pairs import PairFinder
 from pgvmodel import tree
-from pgvmodel.command import CERTIFICATE, Search, verifying
+from pgvmodel.answers import CERTIFICATE, verifying
+from pgvmodel.command import Search
 from pgvmodel.deciding import Answer, Decision, Solver
 from pgvmodel.families import PURE, Family
 from pgvmodel.machine import Machine, State

@@ -11,9 +11,10 @@ from functools import lru_cache, partial
 
 from judging import Again, Ended, Files, Unsaved, faults_of_lines, saved_file
 from pgvmodel import tree
+from pgvmodel.answers import UNWRITABLE
 from pgvmodel.certificate import Marks, verified
 from pgvmodel.certificate_lines import SHOWN, SPENT
-from pgvmodel.command import UNWRITABLE, Generation
+from pgvmodel.command import Generation
 from pgvmodel.families import PURE
 from pgvmodel.faults import Fault
 from pgvmodel.generator import Generated, run_text

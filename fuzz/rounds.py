@@ -1,12 +1,14 @@
 """The rounds: named sources of cases."""
 
 import itertools
-from collections.abc import Callable, Iterator
+from collections.abc import Callable, Collection, Iterable, Iterator
 from dataclasses import dataclass
+from functools import partial
 from random import Random
 
 from inputs import (
-    certificates, checks, command_lines, depths, generations, guests, large, limits, lines, patterns, tampered, windows,
+    certificates, checks, command_lines, depths, further_guests, further_lines, generations, guests, large, limits, lines, patterns,
+    saved_texts, sources, tampered, windows,
 )
 from inputs.case import DESCRIPTION_FILE, Case, printing, running_bare
 from inputs.checker import Means
@@ -36,11 +38,15 @@ MOST_MODELLED_CELLS = 3000
 
 @dataclass(frozen=True)
 class RandomRound:
-    """Cases made one by one, each from a generator of its own; one where other rounds have `one_in`, if they take longer."""
+    """Cases made one by one, each from a generator of its own; one where other rounds have `one_in`, if they take longer.
+
+    Of this round, and of those below, `command` is one that has to be switched on; of most rounds all are.
+    """
 
     name: str
     make: Callable[[Random], Case]
     one_in: int = 1
+    command: str | None = None
 
     def cases(self, seed: Seed, count: int, _means: Means) -> Iterator[Case]:
         """So many cases, or their share."""
@@ -54,6 +60,7 @@ class QuestionRound:
 
     name: str
     make: Callable[[Random, Questions], Case]
+    command: str | None = None
 
     def cases(self, seed: Seed, count: int, means: Means) -> Iterator[Case]:
         """So many cases."""
@@ -67,6 +74,7 @@ class CheckedRound:
 
     name: str
     make: Callable[[Random, Means], Iterator[Case]]
+    command: str | None = None
 
     def cases(self, seed: Seed, count: int, means: Means) -> Iterator[Case]:
         """So many cases."""
@@ -80,6 +88,7 @@ class ListRound:
 
     name: str
     cases_of: Callable[[], list[Case]]
+    command: str | None = None
 
     def cases(self, seed: Seed, count: int, _means: Means) -> Iterator[Case]:
         """At most so many cases."""
@@ -92,10 +101,14 @@ class CheckedListRound:
 
     name: str
     cases_of: Callable[[Means], list[Case]]
+    command: str | None = None
 
     def cases(self, seed: Seed, count: int, means: Means) -> Iterator[Case]:
         """At most so many cases."""
         yield from _sampled(f"{seed} {self.name}", self.cases_of(means), count)
+
+
+Round = RandomRound | QuestionRound | CheckedRound | ListRound | CheckedListRound
 
 
 def _sampled(seed: str, listed: list[Case], count: int) -> list[Case]:
@@ -222,6 +235,9 @@ def full_outputs(rng: Random, means: Means) -> Iterator[Case]:
     yield case._replace(words=case.words[: None if rng.random() < 0.9 else -1], is_full=True, other_words=None)
 
 
+ASM, SAVE, NEST = ("asm", "disasm"), ("save", "resume"), ("nest",)
+"""Commands that come together."""
+
 ROUNDS = (
     RandomRound("spelled", spelled_round),
     RandomRound("edited-text", edited_text),
@@ -268,7 +284,41 @@ ROUNDS = (
     ListRound("line-numbers", command_lines.numbers),
     ListRound("refusals", command_lines.refusals),
     RandomRound("random-words", command_lines.random_line),
+    RandomRound("sources", sources.sources, command="asm"),
+    RandomRound("spoiled-sources", sources.spoiled_sources, command="asm"),
+    ListRound("source-lines", sources.odd_lines, command="asm"),
+    ListRound("source-pairs", sources.odd_pairs, command="asm"),
+    ListRound("source-faults", sources.several_faults, command="asm"),
+    ListRound("source-line-faults", sources.faults_of_a_line, command="asm"),
+    ListRound("source-fronts", sources.fronts, command="asm"),
+    ListRound("source-values", sources.values, command="disasm"),
+    RandomRound("source-images", sources.images, command="disasm"),
+    RandomRound("source-words", sources.words, command="disasm"),
+    RandomRound("source-trips", sources.round_trips, command="disasm"),
+    ListRound("asm-shapes", partial(further_lines.shapes, ASM), command="asm"),
+    ListRound("asm-numbers", partial(further_lines.numbers, ASM), command="asm"),
+    ListRound("asm-refusals", further_lines.asm_refusals, command="asm"),
+    RandomRound("asm-words", partial(further_lines.random_line, ASM), command="asm"),
+    CheckedRound("saves", further_guests.saves, command="save"),
+    CheckedRound("resumes", further_guests.resumes, command="resume"),
+    CheckedRound("resume-edges", further_guests.edges, command="resume"),
+    CheckedRound("resume-chains", further_guests.chains, command="resume"),
+    CheckedRound("spoiled-saves", further_guests.spoiled_saves, command="resume"),
+    ListRound("saved-lines", saved_texts.odd_lines, command="resume"),
+    ListRound("saved-places", saved_texts.misplaced_lines, command="resume"),
+    ListRound("saved-fronts", saved_texts.fronts, command="resume"),
+    ListRound("tampered-saves", saved_texts.tampered, command="resume"),
+    ListRound("save-shapes", partial(further_lines.shapes, SAVE), command="save"),
+    ListRound("save-numbers", partial(further_lines.numbers, SAVE), command="save"),
+    ListRound("save-refusals", further_lines.save_refusals, command="save"),
+    RandomRound("save-words", partial(further_lines.random_line, SAVE), command="save"),
+    CheckedRound("nests", further_guests.nests, command="nest"),
+    ListRound("nest-shapes", partial(further_lines.shapes, NEST), command="nest"),
+    ListRound("nest-numbers", partial(further_lines.numbers, NEST), command="nest"),
+    ListRound("nest-refusals", further_lines.nest_refusals, command="nest"),
+    RandomRound("nest-words", partial(further_lines.random_line, NEST), command="nest"),
 )
+"""Those of a command that is switched off are left out."""
 
 SEARCH_ROUNDS = (
     ListRound("check-pieces", checks.listed),
@@ -286,6 +336,8 @@ LONG_ROUNDS = (
     ListRound("long-runs", large.long_runs),
     CheckedListRound("long-guest-runs", large.long_guest_runs),
     ListRound("large-certificates", certificates.largest),
+    ListRound("large-sources", sources.largest, command="asm"),
+    ListRound("large-saves", saved_texts.largest, command="resume"),
 )
 
 CAMPAIGN_ROUNDS = (
@@ -294,3 +346,8 @@ CAMPAIGN_ROUNDS = (
 )
 
 BY_NAME = {source.name: source for source in (*ROUNDS, *SEARCH_ROUNDS, *LONG_ROUNDS, *CAMPAIGN_ROUNDS)}
+
+
+def rounds_on(listed: Iterable[Round], on: Collection[str]) -> Iterator[Round]:
+    """Those of which the command is switched on."""
+    return (source for source in listed if source.command is None or source.command in on)

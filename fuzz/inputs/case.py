@@ -10,6 +10,8 @@ DESCRIPTION_FILE = "machine.isa"
 IMAGE_FILE = "storage.img"
 CERTIFICATE_FILE = "machine.cert"
 SAVED_FILE = "saved.cert"
+SOURCE_FILE = "storage.asm"
+GUEST_FILE = "guest.saved"
 
 
 class Case(NamedTuple):
@@ -76,6 +78,44 @@ def checking(description: bytes | tree.Description, budget: int | None, command:
     words = (command, DESCRIPTION_FILE, "--cert", CERTIFICATE_FILE)
     more = () if budget is None else ("--budget", str(budget))
     return Case((*words, *more), {DESCRIPTION_FILE: _text(description)})
+
+
+def assembling(description: bytes | tree.Description, source: bytes, grant: int) -> Case:
+    """`asm` of a description and a source."""
+    words = ("asm", DESCRIPTION_FILE, SOURCE_FILE, "--grant", str(grant))
+    return Case(words, {DESCRIPTION_FILE: _text(description), SOURCE_FILE: source})
+
+
+def disassembling(description: bytes | tree.Description, image: bytes, grant: int) -> Case:
+    """`disasm` of a description and an image."""
+    words = ("disasm", DESCRIPTION_FILE, IMAGE_FILE, "--grant", str(grant))
+    return Case(words, {DESCRIPTION_FILE: _text(description), IMAGE_FILE: image})
+
+
+def nesting(case: Case, depth: int) -> Case:
+    """`nest` in place of `run`, of the first image of one."""
+    numbers = _without_slice(case.words)
+    return case._replace(words=("nest", *case.words[1:4], *numbers, "--depth", str(depth)), other_words=None)
+
+
+def saving(case: Case, saved: str = GUEST_FILE) -> Case:
+    """`save` in place of `run`, of the first image of one, under this name."""
+    return case._replace(words=("save", *case.words[1:4], saved, *_without_slice(case.words)), other_words=None)
+
+
+def _without_slice(words: Sequence[str]) -> tuple[str, ...]:
+    """The grant and the steps that `running_guests` gives."""
+    begin = words.index("--grant")
+    return tuple(words[begin : begin + 4])
+
+
+def resuming(
+    description: bytes | tree.Description, certificate: bytes, saved: bytes, steps: int, skip: int | None = None
+) -> Case:
+    """`resume` of a description, a certificate and a saved guest, with cells before it, or as many as where that is left out."""
+    words = ("resume", DESCRIPTION_FILE, CERTIFICATE_FILE, GUEST_FILE, "--steps", str(steps))
+    more = () if skip is None else ("--skip", str(skip))
+    return Case((*words, *more), {DESCRIPTION_FILE: _text(description), CERTIFICATE_FILE: certificate, GUEST_FILE: saved})
 
 
 def _text(description: bytes | tree.Description) -> bytes:

@@ -17,6 +17,7 @@ from inputs.descriptions import MOSTLY_TRUSTED, ROUGH, TRUSTED_MANNERS, Style, r
 from inputs.guest_rows import ROWS
 from inputs.images import GuestImageWriter, broken_image
 from inputs.programs import TAME, with_near_miss
+from inputs.split import split_description
 from inputs.systems import System
 from inputs.windows import Edges
 from pgvmodel import tree
@@ -38,6 +39,12 @@ MANY_STEPS = (999, 1000, 1001, 2000, 3000)
 """Turns of a guest: around as many as a slice has that is left out."""
 
 BAD_SLICES = ("0", "1000001", "-1", "+0", "x", "1.5", "4294967297")
+
+FIRST_LINES = (
+    *(b"pghybrid 2\n", b"pghybrid 0\n", b"pghybrid 01\n", b"pghybrid 10\n", b"pghybrid\n", b"pghybrid 1 \n", b"pghybrid 1"),
+    *(b"pgcert 1\n", b"pgcert 2\n", b"pgcert 3\n", b"pgguest 1\n", b"", b"\n", b"pghybrid 1\npghybrid 1\n"),
+)
+"""In place of that of a certificate of the hybrid family."""
 
 BUDGET = 300
 BUDGETS = (BUDGET, BUDGET, BUDGET, 1, 2, 10, 50, 1000)
@@ -97,13 +104,23 @@ def certified(rng: Random, means: Means) -> Iterator[Case]:
 
 
 def hybrids(rng: Random, means: Means) -> Iterator[Case]:
-    """Runs of all other kinds under a hybrid monitor, most by what `hcheck` saves of their machine."""
-    for case in rng.choice([rough, tame, windows, systems, certified])(rng, means):
+    """Runs of all other kinds under a hybrid monitor, and of machines for it alone, most by what `hcheck` saves of their machine."""
+    for case in rng.choice([rough, tame, windows, systems, certified, split, split, split])(rng, means):
         files = dict(case.files)
-        if rng.random() < 0.9:
+        kind = rng.choices(["fine", "kept", "spoiled", "first line"], [78, 8, 10, 4])[0]
+        if kind != "kept":
             files[CERTIFICATE_FILE] = checked(means, files[DESCRIPTION_FILE], command="hcheck")
+        if kind == "spoiled":
+            files[CERTIFICATE_FILE] = spoiled(rng, files[CERTIFICATE_FILE])
+        if kind == "first line":
+            files[CERTIFICATE_FILE] = rng.choice(FIRST_LINES) + files[CERTIFICATE_FILE].partition(b"\n")[2]
         other = case.other_words and ("hybrid", *case.other_words[1:])
         yield case._replace(words=("hybrid", *case.words[1:]), files=files, other_words=other)
+
+
+def split(rng: Random, means: Means) -> Iterator[Case]:
+    """Runs of machines whose bodies use control registers in supervisor mode alone."""
+    return _runs_of(rng, means, split_description(rng))
 
 
 def rows(means: Means) -> list[Case]:

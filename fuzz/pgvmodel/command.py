@@ -1,68 +1,37 @@
 """What the program answers to its words: the order in which it refuses, and the texts."""
 
-from collections.abc import Callable, Sequence
-from functools import lru_cache, partial
+from collections.abc import Collection, Sequence
 from typing import NamedTuple
 
-from pgvmodel import tree
-from pgvmodel.certificate import Marks, Question, verified
-from pgvmodel.error_lines import NO_OUTPUT, ErrorLine, missing, unreadable, unwritable
+from pgvmodel import guests, tree
+from pgvmodel.answers import (
+    DONE, SOURCE, UNWRITABLE, WORDS, Answer, CanSave, Load, Refused, World, ask_for_room, described, image, marked, told,
+)
+from pgvmodel.certificate import Marks
+from pgvmodel.error_lines import NO_OUTPUT
 from pgvmodel.families import HYBRID, PURE, Family
 from pgvmodel.faults import Fault
 from pgvmodel.generator import Generated, generated
-from pgvmodel.image import read_image
-from pgvmodel.machine import MONITOR_CELLS, base_of, run_bare, run_guest, state_text
+from pgvmodel.guests import Asked
+from pgvmodel.machine import run_bare, state_text
 from pgvmodel.printer import printed
 from pgvmodel.questions import Questions
-from pgvmodel.reader import read
 from pgvmodel.replayed import replayed
-from pgvmodel.validity import check
-from pgvmodel.verdict import ACCEPTED, verdict
-from pgvmodel.words import Request, request
+from pgvmodel.source import assembled, disassembled, listed
+from pgvmodel.verdict import verdict
+from pgvmodel.words import SWITCHED_ON, Request, request, usage
 
-USAGE = (
-    "pgv bare DESC IMAGE --grant G --steps N\n"
-    "pgv check DESC --cert FILE [--budget K]\n"
-    "pgv verify DESC CERT\n"
-    "pgv replay DESC CERT\n"
-    "pgv run DESC CERT IMAGE.. --grant G --steps N [--slice K]\n"
-    "pgv print DESC\n"
-    "pgv gen NUMBER SIZE --cert FILE\n"
-    "pgv migrate DESC CERT FILE\n"
-    "pgv hcheck DESC --cert FILE [--budget K]\n"
-    "pgv hybrid DESC CERT IMAGE.. --grant G --steps N [--slice K]\n"
-)
+USAGE = usage()
+"""What is told of words that are refused."""
 
 SEARCHES = {"check": PURE, "hcheck": HYBRID}
 """Commands that ask questions, and of which kinds."""
 
-RUNS = {"run": PURE, "hybrid": HYBRID}
-"""Commands that run guests, and by certificates of which kinds."""
+RUNS = {"run": guests.run, "hybrid": guests.hybrid, "nest": guests.nest, "save": guests.save, "resume": guests.resume}
+"""Commands that run guests."""
 
-SAVING = (*SEARCHES, "migrate", "gen")
+SAVING = (*SEARCHES, "migrate", "gen", "save")
 """Commands that save a file."""
-
-DONE = ACCEPTED
-WORDS, DESCRIPTION, IMAGE, CERTIFICATE, ROOM, UNREADABLE, UNWRITABLE, MISSING = 3, 4, 5, 6, 7, 8, 9, 11
-"""The statuses that are compared; `verdict` has those of a machine that is refused, or left open."""
-
-Load = Callable[[str], bytes]
-"""The content of the file of a name; raises FileNotFoundError, or another OSError where it cannot be read."""
-
-CanSave = Callable[[str], bool]
-"""Whether a file of a name can be written; the empty name is that of none."""
-
-
-MOST_KEPT = 16
-"""Descriptions that are kept; most are named by several lines, one behind the other."""
-
-
-class Answer(NamedTuple):
-    """The status that the program ends with, what stands on its standard output, and the line on standard error, if any."""
-
-    status: int
-    output: bytes
-    error: ErrorLine | None = None
 
 
 class Search(NamedTuple):
@@ -98,25 +67,19 @@ Answered = Answer | Search | Migration | Generation
 """An answer, or what one has to be that is not told to the last byte."""
 
 
-class _Refused(Exception):
-    """A step refuses, with this answer."""
-
-    def __init__(self, answer_: Answer) -> None:
-        super().__init__(answer_)
-        self.answer = answer_
-
-
-def answer(words: Sequence[str], load: Load, questions: Questions, can_save: CanSave = bool) -> Answered:
-    """What the program is to answer. The first step that refuses says so.
+def answer(
+    words: Sequence[str], load: Load, questions: Questions, can_save: CanSave = bool, on: Collection[str] = SWITCHED_ON
+) -> Answered:
+    """What the program is to answer, where it has the commands that are on. The first step that refuses says so.
 
     Raises NotModelled where the answer rests on the clauses of a question, and there is no program to ask for them.
     """
-    asked = request(words)
+    asked = request(words, on)
     if asked is None:
-        return _told(WORDS, USAGE)
+        return told(WORDS, usage(on))
     try:
-        return _carried_out(asked, partial(_loaded, load), questions, can_save)
-    except _Refused as refused:
+        return _carried_out(asked, World(load, can_save, questions))
+    except Refused as refused:
         return refused.answer
 
 
@@ -124,132 +87,58 @@ def on_full_output(answered: Answer | Generation) -> Answer | Generation:
     """The same where standard output takes nothing, which is seen where there is something to write."""
     if isinstance(answered, Generation):
         return answered._replace(is_full=True)
-    return Answer(UNWRITABLE, b"", NO_OUTPUT) if answered.output else answered
+    return Answer(UNWRITABLE, b"", NO_OUTPUT, answered.saved) if answered.output else answered
 
 
-def _told(status: int, text: str) -> Answer:
-    return Answer(status, text.encode())
-
-
-def _loaded(load: Load, name: str) -> bytes:
-    try:
-        return load(name)
-    except FileNotFoundError:
-        raise _Refused(Answer(MISSING, b"", missing(name))) from None
-    except OSError:
-        raise _Refused(Answer(UNREADABLE, b"", unreadable(name))) from None
-
-
-def _carried_out(asked: Request, load: Load, questions: Questions, can_save: CanSave) -> Answered:
+def _carried_out(words: Request, world: World) -> Answered:
     """The description, then what the command does with it. `gen` reads no file."""
-    if asked.command == "gen":
-        _ask_to_save(can_save, asked.saved)
-        return Generation(generated(asked.numbers["number"], asked.numbers["size"]), asked.saved)
-    text = load(asked.files[0])
-    description = _described(text)
-    match asked.command:
+    if words.command == "gen":
+        world.ask_to_save(words.saved)
+        return Generation(generated(words.numbers["number"], words.numbers["size"]), words.saved)
+    text = world.loaded(words.files[0])
+    asked = Asked(words, text, described(text), world)
+    match words.command:
         case "print":
-            return Answer(DONE, printed(description))
+            return Answer(DONE, printed(asked.description))
         case "check" | "hcheck" as command:
-            _ask_to_save(can_save, asked.saved)
-            return Search(text, description, SEARCHES[command], asked.saved, asked.numbers["budget"])
+            world.ask_to_save(words.saved)
+            return Search(text, asked.description, SEARCHES[command], words.saved, asked.number("budget"))
         case "verify" | "replay" | "migrate":
-            return _with_certificate(asked, text, description, load(asked.files[1]), questions, can_save)
-        case "bare":
-            return _bare(asked, description, load)
-    return _run(asked, text, description, load, questions)
+            return _with_certificate(asked)
+        case "bare" | "asm" | "disasm":
+            return _of_storage(asked)
+    return RUNS[words.command](asked)
 
 
-def _described(text: bytes) -> tree.Description:
-    """The valid description of a text."""
-    try:
-        return _valid(text)
-    except Fault as fault:
-        raise _Refused(_told(DESCRIPTION, f"description: {fault.line}\n")) from None
-
-
-@lru_cache(MOST_KEPT)
-def _valid(text: bytes) -> tree.Description:
-    description = read(text)
-    check(description)
-    return description
-
-
-def _ask_to_save(can_save: CanSave, name: str) -> None:
-    if not can_save(name):
-        raise _Refused(Answer(UNWRITABLE, b"", unwritable(name)))
-
-
-def _with_certificate(
-    asked: Request, text: bytes, description: tree.Description, certificate: bytes, questions: Questions, can_save: CanSave
-) -> Answer | Migration:
+def _with_certificate(asked: Asked) -> Answer | Migration:
     """The certificate's marks, which are saved before the verdict, replayed, or come to the verdict alone."""
-    marks = _marks(description, certificate, partial(questions.clauses, text), PURE)
-    if asked.command == "replay":
-        return _told(DONE, replayed(description, marks))
-    ending = _told(*verdict(description, marks))
-    if asked.command == "verify":
+    description, certificate = asked.description, asked.file(1)
+    marks = marked(description, certificate, asked.world.question(asked.text), PURE)
+    if asked.words.command == "replay":
+        return told(DONE, replayed(description, marks))
+    ending = told(*verdict(description, marks))
+    if asked.words.command == "verify":
         return ending
-    _ask_to_save(can_save, asked.saved)
-    return Migration(text, description, certificate, marks, asked.saved, ending)
+    asked.world.ask_to_save(asked.words.saved)
+    return Migration(asked.text, description, certificate, marks, asked.words.saved, ending)
 
 
-def _marks(description: tree.Description, certificate: bytes, question: Question, family: Family) -> Marks:
+def _of_storage(asked: Asked) -> Answer:
+    """The room, then what a storage of this size holds, then its run, or it in other words."""
+    description, size = asked.description, asked.number("grant")
+    ask_for_room(size, description.size)
+    content = asked.file(1)
+    if asked.words.command == "asm":
+        return told(DONE, listed(description, _assembled(description, content, size)))
+    cells = image(0, content, description, size)
+    if asked.words.command == "disasm":
+        return told(DONE, disassembled(description, cells))
+    return told(DONE, state_text(run_bare(description, cells, asked.number("steps")), description.word))
+
+
+def _assembled(description: tree.Description, source: bytes, size: int) -> list[int]:
+    """The cells of a storage, from a source."""
     try:
-        return verified(description, certificate, question, family)
+        return assembled(description, source, size)
     except Fault as fault:
-        raise _Refused(_told(CERTIFICATE, f"certificate: {fault.line}\n")) from None
-
-
-def verifying(description: tree.Description, certificate: bytes, question: Question, family: Family = PURE) -> Answer:
-    """What `verify` answers to a certificate, or would to one of the hybrid family."""
-    try:
-        return _told(*verdict(description, _marks(description, certificate, question, family), family.kinds))
-    except _Refused as refused:
-        return refused.answer
-
-
-def _bare(asked: Request, description: tree.Description, load: Load) -> Answer:
-    """The room, then the image, then the run."""
-    grant = asked.numbers["grant"]
-    _ask_for_room(grant, description.size)
-    cells = _image(0, load(asked.files[1]), description, grant)
-    return _told(DONE, state_text(run_bare(description, cells, asked.numbers["steps"]), description.word))
-
-
-def _run(asked: Request, text: bytes, description: tree.Description, load: Load, questions: Questions) -> Answer:
-    """The room for all guests, the images in order, the certificate and what it comes to, then the run.
-
-    How many turns a guest has at a time plays no part in what is answered. Under `hybrid` the hardware makes the turns that begin
-    in user mode alone.
-    """
-    family = RUNS[asked.command]
-    _, certificate, *images = asked.files
-    grant, steps = asked.numbers["grant"], asked.numbers["steps"]
-    _ask_for_room(len(images) * grant, description.size - MONITOR_CELLS)
-    storages = [_image(number, load(name), description, grant) for number, name in enumerate(images)]
-    ending = verifying(description, load(certificate), partial(questions.clauses, text), family)
-    return _guests(description, storages, steps, family) if ending.status == ACCEPTED else ending
-
-
-def _ask_for_room(wanted: int, free: int) -> None:
-    if wanted > free:
-        raise _Refused(_told(ROOM, f"room {wanted} {free}\n"))
-
-
-def _image(number: int, text: bytes, description: tree.Description, size: int) -> list[int]:
-    """The cells of a storage, from the image of this number."""
-    try:
-        return read_image(text, description.word, size)
-    except Fault as fault:
-        raise _Refused(_told(IMAGE, f"image {number}: {fault.line}\n")) from None
-
-
-def _guests(description: tree.Description, storages: Sequence[list[int]], steps: int, family: Family) -> Answer:
-    """The state of each guest after its steps, then all steps, and how many of them were direct."""
-    told, all_direct = "", 0
-    for number, cells in enumerate(storages):
-        state, direct = run_guest(description, cells, steps, base_of(number, len(cells)), from_user_mode_alone=family is HYBRID)
-        told += f"guest {number}\n{state_text(state, description.word)}"
-        all_direct += direct
-    return _told(DONE, f"{told}steps {len(storages) * steps} direct {all_direct}\n")
+        raise Refused(told(SOURCE, f"source: {fault.line}\n")) from None
