@@ -72,10 +72,10 @@ FORMS = {
     "hcheck": Form("DESC --cert FILE [--budget K]", 1, ("cert",), {"budget": BUDGET}),
     "hybrid": Form(_OF_GUESTS, 3, ("grant", "steps"), {"slice": SLICE}, more_files=MOST_IMAGES - 1),
     "nest": Form("DESC CERT IMAGE --grant G --steps N --depth D", 3, ("grant", "steps", "depth"), is_on=False),
-    "asm": Form("DESC SOURCE --grant G", 2, ("grant",), is_on=False),
-    "disasm": Form("DESC IMAGE --grant G", 2, ("grant",), is_on=False),
-    "save": Form("DESC CERT IMAGE FILE --grant G --steps N", 4, ("grant", "steps"), saves_last=True, is_on=False),
-    "resume": Form("DESC CERT SAVED --steps N [--skip P]", 3, ("steps",), {"skip": SKIP}, is_on=False),
+    "asm": Form("DESC SOURCE --grant G", 2, ("grant",)),
+    "disasm": Form("DESC IMAGE --grant G", 2, ("grant",)),
+    "save": Form("DESC CERT IMAGE FILE --grant G --steps N", 4, ("grant", "steps"), saves_last=True),
+    "resume": Form("DESC CERT SAVED --steps N [--skip P]", 3, ("steps",), {"skip": SKIP}),
 }
 """The one table of commands, in the order in which they are told. Here a command is switched on when the program has it.
 
