@@ -1,3 +1,4 @@
 pub mod MachineLemmas
 pub mod ImageLemmas
 pub mod OneAssembled
+pub mod EndsLemmas

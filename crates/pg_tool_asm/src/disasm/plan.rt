@@ -15,8 +15,6 @@ pub(crate) struct DisasmPlan {
     pub(crate) image: Image,
     /// What is put: the whole source.
     pub(crate) text: Vec<u8>,
-    /// The image has two cells at least.
-    pub(crate) ghost least: { 2 ≤ length image },
     /// The machine has so many cells.
     pub(crate) ghost within: { length image ≤ machine.desc.size },
     /// The words are of the machine's width.

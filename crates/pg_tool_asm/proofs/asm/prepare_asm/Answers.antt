@@ -20,7 +20,7 @@ returns-in-Err-load_source-clause-comes g c =
     asm-no_source (λ (image : List ℕ). image) assembled told a d _ _ _ c.in-Err-load_source.stop c.in-Ok.ensures.comes c.load_roomy.ensures.reads.later
     (same_three (λ files n grant. Comes (λ (image : List ℕ). image) (SourceDue files a.source d grant) (g.F.Shelf.reads c.load_roomy.new.shelf)
     (g.F.Shelf.reads c.load_source.new.shelf) (Err c.in-Err-load_source.stop)) _ _ a.grant a.grant _ _
-    c.load_roomy.ensures.reads.same_files refl c.cells.ensures.cells c.in-Err-load_source.ensures.comes)
+    c.load_roomy.ensures.reads.same_files refl c.cells-size.ensures.cells c.in-Err-load_source.ensures.comes)
 
 pub returns-in-Ok-listing-clause-comes : goal.returns-in-Ok-listing-clause-comes
 returns-in-Ok-listing-clause-comes g c =
@@ -28,4 +28,4 @@ returns-in-Ok-listing-clause-comes g c =
     let d = c.in-Ok.machine.desc in
     asm-came (g.F.Shelf.files c.args.shelf.now) a d c.in-Ok-load_source.image c.in-Ok.ensures.comes
     (same_three (λ files n grant. SourceDue files a.source d grant (Came c.in-Ok-load_source.image)) _ _ a.grant a.grant _ _
-    c.load_roomy.ensures.reads.same_files refl c.cells.ensures.cells c.in-Ok-load_source.ensures.comes)
+    c.load_roomy.ensures.reads.same_files refl c.cells-size.ensures.cells c.in-Ok-load_source.ensures.comes)

@@ -20,7 +20,7 @@ returns-in-Err-load_image-clause-comes g c =
     disasm-no_image (λ (image : List ℕ). image) written told a d _ _ _ c.in-Err-load_image.stop c.in-Ok.ensures.comes c.load_roomy.ensures.reads.later
     (same_three (λ files w grant. Comes (λ (image : List ℕ). image) (ImageDue files 0 a.image w grant) (g.F.Shelf.reads c.load_roomy.new.shelf)
     (g.F.Shelf.reads c.load_image.new.shelf) (Err c.in-Err-load_image.stop)) _ _ _ _ _ _
-    c.load_roomy.ensures.reads.same_files (ap (λ s. s.w) c.shape.ensures.numbers) c.cells.ensures.cells c.in-Err-load_image.ensures.comes)
+    c.load_roomy.ensures.reads.same_files (ap (λ s. s.w) c.shape.ensures.numbers) c.cells-size.ensures.cells c.in-Err-load_image.ensures.comes)
 
 pub returns-in-Ok-disassemble-clause-comes : goal.returns-in-Ok-disassemble-clause-comes
 returns-in-Ok-disassemble-clause-comes g c =
@@ -28,4 +28,4 @@ returns-in-Ok-disassemble-clause-comes g c =
     let d = c.in-Ok.machine.desc in
     disasm-came (g.F.Shelf.files c.args.shelf.now) a d c.in-Ok-load_image.image c.in-Ok.ensures.comes
     (same_three (λ files w grant. ImageDue files 0 a.image w grant (Came c.in-Ok-load_image.image)) _ _ _ _ _ _
-    c.load_roomy.ensures.reads.same_files (ap (λ s. s.w) c.shape.ensures.numbers) c.cells.ensures.cells c.in-Ok-load_image.ensures.comes)
+    c.load_roomy.ensures.reads.same_files (ap (λ s. s.w) c.shape.ensures.numbers) c.cells-size.ensures.cells c.in-Ok-load_image.ensures.comes)
