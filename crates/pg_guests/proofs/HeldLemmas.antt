@@ -1,5 +1,5 @@
 -- One state behind cells that are held.
-use Rattle.std.proofs.Common.{◌≡◌, ℕ, zero, suc, ◌+◌, ◌≤◌, ◌⊎◌, inl, inr, List, [], ◌∷◌, ◌++◌, length, All, None, Some, sym, ◌∙◌, ap, subst, arith}
+use Rattle.std.proofs.Common.{◌≡◌, ℕ, zero, suc, ◌+◌, ◌≤◌, ◌⊎◌, inl, inr, List, [], ◌∷◌, ◌++◌, length, All, None, Some, refl, sym, ◌∙◌, ap, subst, arith}
 use Rattle.std.proofs.lemmas.List.Elements.{All-nil, All-cons, All-head}
 use Rattle.std.proofs.lemmas.Option.{same_Some}
 use Rattle.pg_machine.specs.declared.machine.Machine.{Machine}
@@ -42,16 +42,18 @@ place-behind q skip size some room =
 -- ---- the cells are held
 
 -- a monitor that made no grant finds room for them
-pub hold-fits : (before : Kept) (n : ℕ) → before.granted.grants ≡ [] → kept_cells + suc n ≤ before.machine.desc.size → place_for before (suc n) ≡ None → ⊥
-hold-fits before n none fits refused =
+pub hold-fits : (before : Kept) (skip : ℕ) → (skip ≡ 0 → ⊥) → before.granted.grants ≡ [] → kept_cells + skip ≤ before.machine.desc.size → place_for before skip ≡ None → ⊥
+hold-fits before zero some none fits refused = some refl
+hold-fits before (suc n) some none fits refused =
     let wrong : None ≡ Some (kept_cells + 0) =
     sym refused ∙ ap (λ gs. free_base before.machine.desc.size gs (suc n)) none ∙ place-behind before.machine.desc.size 0 (suc n) (omega arith) (omega (arith, fits)) in
     cc
 
 -- and then holds them
-pub hold-held : (before after : Kept) (n base : ℕ) → before.granted.grants ≡ [] → kept_cells + suc n ≤ before.machine.desc.size → GrantMade (suc n) base before after →
-    after.granted.grants ≡ holding (suc n)
-hold-held before after n base none fits made =
+pub hold-held : (before after : Kept) (skip base : ℕ) → (skip ≡ 0 → ⊥) → before.granted.grants ≡ [] → kept_cells + skip ≤ before.machine.desc.size →
+    GrantMade skip base before after → after.granted.grants ≡ holding skip
+hold-held before after zero base some none fits made = absurd (some refl)
+hold-held before after (suc n) base some none fits made =
     let first : free_base before.machine.desc.size [] (suc n) ≡ Some (kept_cells + 0) = place-behind before.machine.desc.size 0 (suc n) (omega arith) (omega (arith, fits)) in
     let at : base ≡ kept_cells + 0 = same_Some base (kept_cells + 0) (sym made.first ∙ ap (λ gs. free_base before.machine.desc.size gs (suc n)) none ∙ first) in
     ap (λ (x : Granted). x.grants) made.granted ∙ ap (and_grant (base, suc n)) none ∙ ap (λ (b : ℕ). (b, suc n) ∷ []) at

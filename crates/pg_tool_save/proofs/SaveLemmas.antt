@@ -34,6 +34,8 @@ use Rattle.pg_steps.specs.declared.status.Status.TheVariants.{Done}
 use Rattle.pg_steps.specs.Steps.{Came}
 use Rattle.pg_steps.specs.World.{World, IsUntouched}
 use Rattle.pg_tool_judging.specs.Saving.{HoldsNow}
+use Rattle.pg_tool_save.specs.declared.save.plan.SavePlan.{SavePlan}
+use Rattle.pg_tool_save.specs.Plans.{save_run}
 use Rattle.pg_tool_save.specs.Save.{SaveRun, SaveDue, SaveEnds, GuestSaved, guest_of, judged_by, one_slice, reached as state_reached, saved_of, told_of_run}
 use Rattle.pg_tool_save.proofs.GuestLemmas.{span-length, one-size, one-there, some-weaker}
 use Rattle.pg_type.specs.Accepting.{IsAccepted}
@@ -109,6 +111,16 @@ module _ (j : SaveRun) (ran : Ran) (old new : Machinery) where
         subst (λ ss. IsSomeAnd (slice_get ss 0) (λ s. after ≡ before ++ saved_text (shape_of (desc_of ran.monitor)) j.steps s)) states of_ran in
         of_one ∙ ap (λ b. b ++ saved_text (shape_of (desc_of ran.monitor)) j.steps (state_reached j)) none
         ∙ ap (λ (d : Desc). saved_text (shape_of d) j.steps (state_reached j)) h.have.machine
+
+-- as the run of its plan is known
+pub run-has : (p : SavePlan) (ran : Ran) (m : Machine) (images : List (List ℕ)) (old new : Machinery) → m ≡ p.judged.machine → images ≡ p.image ∷ [] →
+    HaveRun (run_of m images one_slice p.steps) ran new → RanGuests (run_of m images one_slice p.steps) old new → HasRun (save_run p) ran old new
+run-has p ran m images old new same one have left = record {
+  can_run = p.can_run;
+  have = subst (λ (x : Machine). HaveRun (run_of x (p.image ∷ []) one_slice p.steps) ran new) same (subst (λ (xs : List (List ℕ)). HaveRun (run_of m xs one_slice p.steps) ran new) one have);
+  left = subst (λ (x : Machine). RanGuests (run_of x (p.image ∷ []) one_slice p.steps) old new) same (subst (λ (xs : List (List ℕ)). RanGuests (run_of m xs one_slice p.steps) old new) one left);
+  whole = p.filled;
+}
 
 -- ---- what is left
 

@@ -85,12 +85,15 @@ fn load_behind_room<F: Shelf>(
 {
     let (skip, steps) = (words.skip.cells(), words.steps.count());
     match load_certificate(alloc, Family::Plain, &machine, &words.cert, shelf) {
-        Ok(report) => Ok(ResumePlan {
-            judged: JudgedMachine { machine, report },
-            saved,
-            skip,
-            steps,
-        }),
+        Ok(report) => {
+            let judged = JudgedMachine { machine, report };
+            Ok(ResumePlan {
+                judged,
+                saved,
+                skip,
+                steps,
+            })
+        }
         Err(stop) => Err(stop),
     }
 }

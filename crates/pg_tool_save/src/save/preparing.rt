@@ -88,12 +88,15 @@ fn load_behind_image<F: Shelf>(
 {
     let (grant, steps) = (words.grant.cells(), words.steps.count() as u32);
     match load_certificate(alloc, Family::Plain, &machine, &words.cert, shelf) {
-        Ok(report) => Ok(SavePlan {
-            judged: JudgedMachine { machine, report },
-            image,
-            grant,
-            steps,
-        }),
+        Ok(report) => {
+            let judged = JudgedMachine { machine, report };
+            Ok(SavePlan {
+                judged,
+                image,
+                grant,
+                steps,
+            })
+        }
         Err(stop) => Err(stop),
     }
 }

@@ -36,8 +36,8 @@ pub returns-in-Err-clause-set_up : goal.returns-in-Err-clause-set_up
 returns-in-Err-clause-set_up g c = λ r same. Untouched c.in-Err.ensures.refused
 
 -- the monitor found no memory
-pub returns-clause-set_up : goal.returns-clause-set_up
-returns-clause-set_up g c = λ r same.
+pub returns-in-Err-new-clause-set_up : goal.returns-in-Err-new-clause-set_up
+returns-in-Err-new-clause-set_up g c = λ r same.
     let old = g.H.Hardware.machinery c.args.hw.now in
     let q = ap (λ (s : Shape). s.q) (shape-same _ _ _ c.shape.ensures.numbers c.machine.ensures.same) in
     let of_size : ℕ → Machinery = λ k. record old { state = blank k } in

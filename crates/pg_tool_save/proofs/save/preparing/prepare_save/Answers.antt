@@ -53,4 +53,4 @@ returns-in-Ok-try_room-clause-comes g c =
 pub load_behind_room-requires : goal.load_behind_room-requires
 load_behind_room-requires g c =
     let most = ap (λ x. x.q) c.shape.ensures.numbers in
-    omega (arith, most, c.cells.ensures.cells, c.in-Ok-try_room.ensures.fits)
+    record { room = omega (arith, most, c.cells.ensures.cells, c.in-Ok-try_room.ensures.fits) }
