@@ -1,12 +1,18 @@
--- What a run of guests under a monitor leaves of the hardware.
-use Rattle.std.specs.Prelude.{◌≡◌, ℕ, ◌+◌, ◌*◌, ◌<◌, ◌≤◌, length, map, slice_get, slice_index, None, Some}
+-- What a run of guests under a monitor leaves of the hardware; and the run of one state behind cells that are held.
+use Rattle.std.specs.Prelude.{◌≡◌, ℕ, ◌+◌, ◌*◌, ◌<◌, ◌≤◌, [], ◌∷◌, length, map, slice_get, slice_index, None, Some}
 use Rattle.pg_word.specs.Psw.{new_psw_cell, old_psw_cell, packed, power_on_psw}
 use Rattle.pg_hw.specs.Machinery.{Machinery}
+use Rattle.pg_machine.specs.declared.machine.Machine.{Machine}
+use Rattle.pg_meaning.specs.States.{State}
 use Rattle.pg_alloc.specs.Fit.{kept_cells}
 use Rattle.pg_control.specs.Plans.{IsOutside}
 use Rattle.pg_monitor.specs.Plans.{cell_behind, psw_behind, changes_of}
 use Rattle.pg_control.specs.Counting.{BottomTurns}
 use Rattle.pg_shown.specs.Runs.{GuestRun, cells_in, guests_of, reached_by, plan_of, turns_in, direct_turns_of, emulated_turns, granted}
+
+-- the run of a state on a machine, whose grant lies behind the cells that a monitor keeps and so many that it holds for none
+abbrev pub state_run : Machine → ℕ → State → ℕ → ℕ → GuestRun
+state_run machine skip s slice steps = record { desc = machine.desc; first = kept_cells + skip; states = s ∷ []; slice = slice; steps = steps }
 
 -- a hardware on which guests ran under a monitor: the grants hold the storages that bare machines reach; each direct step was
 -- executed by the hardware, untrapped; and what else its storage and its program status word hold is what the monitor's

@@ -1,8 +1,8 @@
 //! Runs of guests under a monitor.
 //!
 //! A hardware is given the machine's greatest size, a monitor takes its storage, each image is loaded as a guest, and the
-//! guests have their turns by slices. All memory is taken before the first turn. What a run is, and how its text is put,
-//! stands in `pg_shown`; here it is made.
+//! guests have their turns by slices (`run_guests`); or a state is the one guest, behind cells that are held (`run_state`). All
+//! memory is taken before the first turn. What a run is, and how its text is put, stands in `pg_shown`; here it is made.
 //!
 //! # Modules
 //!
@@ -13,4 +13,4 @@
 mod running;
 mod starting;
 
-pub use running::{Ran, run_guests};
+pub use running::{Ran, run_guests, run_state};

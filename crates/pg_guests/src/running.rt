@@ -11,14 +11,16 @@ ghost use Rattle.pg_monitor.specs.Monitors.{desc_of};
 ghost use Rattle.pg_monitor.specs.Plans.{Followed};
 ghost use Rattle.pg_shown.specs.Runs.{run_of};
 ghost use Rattle.pg_shown.specs.Setting.{CanRun, SetUp};
-ghost use Rattle.pg_guests.specs.Runs.{RanGuests};
+ghost use Rattle.pg_type.specs.Listed.{state_of};
+ghost use Rattle.pg_guests.specs.Runs.{RanGuests, state_run};
 ghost use Rattle.pg_guests.specs.Begun.{HaveRun};
 
-use crate::starting::start;
+use crate::starting::{start, start_state};
 use pg_hw::Hardware;
 use pg_image::Image;
 use pg_monitor::{Guest, Monitor};
 use pg_type::Accepted;
+use pg_word::Sparse;
 use std::alloc::{AllocError, Global};
 
 /// Guests that ran: their monitor, and the counts of their turns.
@@ -32,6 +34,13 @@ pub struct Ran<'m> {
 }
 
 impl<'m> Ran<'m> {
+    /// Their monitor.
+    pub fn monitor(&self) -> &Monitor<'m>
+        ensures { result.now ≡ self.now.monitor }
+    {
+        &self.monitor
+    }
+
     /// The guests, in the order of their numbers, behind their last turn.
     pub fn guests(&self) -> &[Guest]
         ensures { result.now ≡ self.now.monitor.guests }
@@ -80,6 +89,39 @@ pub fn run_guests<'m, H: Hardware>(
     ensures fixed { H.fixed hw.new ≡ H.fixed hw.old }
 {
     let mut monitor = match start(alloc, accepted, images, hw) {
+        Ok(monitor) => monitor,
+        Err(refused) => return Err(refused),
+    };
+    Ok(run_on(monitor, slice, steps, hw))
+}
+
+/// Runs a state as the one guest of a monitor on the hardware, by slices, until it has had so many turns.
+///
+/// The hardware is given the machine's greatest size. Behind the two cells that the monitor keeps so many are held for no
+/// guest, `skip` of them, which may be 0; behind these the state has a grant of its own size, and goes on in it. No held cell
+/// is touched. A slice is one burst of the hardware as long as its steps are direct.
+///
+/// # Errors
+/// Only for want of memory, and then no turn was made: the hardware is as it was, installed, or the state is loaded.
+pub fn run_state<'m, H: Hardware>(
+    alloc: Global,
+    accepted: Accepted<'m>,
+    skip: u32,
+    state: &Sparse,
+    slice: u64,
+    steps: u64,
+    hw: &mut H,
+) -> Result<Ran<'m>, AllocError>
+    requires served { IsServed (H.serves (H.fixed hw.old)) accepted.machine.now.desc }
+    requires room { accepted.machine.now.desc.size ≤ H.room (H.fixed hw.old) }
+    requires counts { CanCount (H.machinery hw.old).tally }
+    requires can_run { CanRun (state_run accepted.machine.now skip (state_of state.now) slice steps) }
+    ensures have_run { IfOk result (λ ran. HaveRun (state_run accepted.entry.machine.now skip (state_of state.now) slice steps) ran (H.machinery hw.new)) }
+    ensures ran { OnOk result (RanGuests (state_run accepted.entry.machine.now skip (state_of state.now) slice steps) (H.machinery hw.old) (H.machinery hw.new)) }
+    ensures set_up { OnErr result (SetUp (state_run accepted.entry.machine.now skip (state_of state.now) slice steps) (H.machinery hw.old) (H.machinery hw.new)) }
+    ensures fixed { H.fixed hw.new ≡ H.fixed hw.old }
+{
+    let monitor = match start_state(alloc, accepted, skip, state, hw) {
         Ok(monitor) => monitor,
         Err(refused) => return Err(refused),
     };

@@ -1,0 +1,5 @@
+mod CertLemmas
+mod GuestLemmas
+mod SaveLemmas
+mod ResumeLemmas
+pub mod OneSaved

@@ -1,0 +1,4 @@
+pub mod SavedFiles
+pub mod Save
+pub mod Resume
+pub mod Plans
