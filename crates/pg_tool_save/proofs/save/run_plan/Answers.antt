@@ -7,7 +7,7 @@ use Rattle.pg_shown.specs.Setting.{CanRun, SetUp}
 use Rattle.pg_steps.proofs.AbleLemmas.{size-small}
 use Rattle.pg_tool_save.specs.Plans.{save_run}
 use Rattle.pg_tool_save.specs.Save.{guest_of, one_slice}
-use Rattle.pg_tool_save.proofs.SaveLemmas.{run-has, saved-known, saved-stands, saved-room, saved-is}
+use Rattle.pg_tool_save.proofs.RunLemmas.{run-has, saved-known, saved-stands, saved-room, saved-is}
 use Rattle.pg_tool_save.proofs.save.run_plan.Goals as goal
 
 pub run_guests-requires-clause-room : goal.run_guests-requires-clause-room
