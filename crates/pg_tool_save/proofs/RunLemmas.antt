@@ -21,8 +21,8 @@ use Rattle.pg_move.specs.Texts.{room_of, saved_text, SavedGuest, IsSaved}
 use Rattle.pg_move.specs.declared.saved.Saved.{Saved}
 use Rattle.pg_report.specs.Spans.{span}
 use Rattle.pg_shown.proofs.ReachedLemmas as reached
-use Rattle.pg_shown.specs.Runs.{run_of, reached_by}
-use Rattle.pg_shown.specs.Setting.{CanRun, IsImage}
+use Rattle.pg_shown.specs.Runs.{GuestRun, run_of, reached_by}
+use Rattle.pg_shown.specs.Setting.{CanRun, IsImage, SetUp}
 use Rattle.pg_tool_save.proofs.GuestLemmas.{span-length, one-size, one-there, some-weaker}
 use Rattle.pg_tool_save.specs.Plans.{save_run}
 use Rattle.pg_tool_save.specs.Save.{SaveRun, guest_of, one_slice, reached as state_reached, saved_of}
@@ -102,15 +102,24 @@ module _ (j : SaveRun) (ran : Ran) (old new : Machinery) where
         of_one ∙ ap (λ b. b ++ saved_text (shape_of (desc_of ran.monitor)) j.steps (state_reached j)) none
         ∙ ap (λ (d : Desc). saved_text (shape_of d) j.steps (state_reached j)) h.have.machine
 
--- as the run of its plan is known
-pub run-has : (p : SavePlan) (ran : Ran) (m : Machine) (images : List (List ℕ)) (old new : Machinery) → m ≡ p.judged.machine → images ≡ p.image ∷ [] →
-    HaveRun (run_of m images one_slice p.steps) ran new → RanGuests (run_of m images one_slice p.steps) old new → HasRun (save_run p) ran old new
-run-has p ran m images old new same one have left = record {
-  can_run = p.can_run;
-  have = subst (λ (x : Machine). HaveRun (run_of x (p.image ∷ []) one_slice p.steps) ran new) same (subst (λ (xs : List (List ℕ)). HaveRun (run_of m xs one_slice p.steps) ran new) one have);
-  left = subst (λ (x : Machine). RanGuests (run_of x (p.image ∷ []) one_slice p.steps) old new) same (subst (λ (xs : List (List ℕ)). RanGuests (run_of m xs one_slice p.steps) old new) one left);
-  whole = p.filled;
-}
+-- what is known of the run of a plan, whose machine, image and steps are lent
+module _ (p : SavePlan) (m : Machine) (images : List (List ℕ)) (n : ℕ) (old new : Machinery) (same : m ≡ p.judged.machine) (one : images ≡ p.image ∷ []) (count : n ≡ p.steps) where
+  of_plan : (P : GuestRun → Type 0) → P (run_of m images one_slice n) → P (guest_of (save_run p))
+  of_plan P h =
+      subst (λ (x : Machine). P (run_of x (p.image ∷ []) one_slice p.steps)) same
+      (subst (λ (xs : List (List ℕ)). P (run_of m xs one_slice p.steps)) one (subst (λ (k : ℕ). P (run_of m images one_slice k)) count h))
+
+  pub plan-set_up : SetUp (run_of m images one_slice n) old new → SetUp (guest_of (save_run p)) old new
+  plan-set_up h = of_plan (λ r. SetUp r old new) h
+
+  pub plan-ran : RanGuests (run_of m images one_slice n) old new → RanGuests (guest_of (save_run p)) old new
+  plan-ran h = of_plan (λ r. RanGuests r old new) h
+
+  pub plan-have : (ran : Ran) → HaveRun (run_of m images one_slice n) ran new → HaveRun (guest_of (save_run p)) ran new
+  plan-have ran h = of_plan (λ r. HaveRun r ran new) h
+
+  pub plan-has : (ran : Ran) → HaveRun (run_of m images one_slice n) ran new → RanGuests (run_of m images one_slice n) old new → HasRun (save_run p) ran old new
+  plan-has ran have left = record { can_run = p.can_run; have = plan-have ran have; left = plan-ran left; whole = p.filled }
 
 -- ---- a saved guest
 
