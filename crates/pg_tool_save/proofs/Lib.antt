@@ -1,5 +1,5 @@
 mod CertLemmas
 mod GuestLemmas
-mod SaveLemmas
-mod ResumeLemmas
+mod RunLemmas
+mod EndsLemmas
 pub mod OneSaved

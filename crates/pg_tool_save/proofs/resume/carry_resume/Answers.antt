@@ -15,7 +15,7 @@ use Rattle.pg_steps.proofs.CarryLemmas.{carries-stopped, carries-done, carries-b
 use Rattle.pg_tool_save.specs.Plans.{resume_run}
 use Rattle.pg_tool_save.specs.Save.{one_slice}
 use Rattle.pg_tool_save.specs.Resume.{guest_on, judged_on, resume_command, told_on}
-use Rattle.pg_tool_save.proofs.ResumeLemmas.{resume-told, resume-ran}
+use Rattle.pg_tool_save.proofs.EndsLemmas.{resume-told, resume-ran}
 use Rattle.pg_tool_save.proofs.resume.carry_resume.Goals as goal
 use Rattle.pg_type.specs.Listed.{state_of}
 

@@ -40,4 +40,6 @@ returns g c =
     c.guests-guests.ensures c.turns-turns.ensures c.direct-direct.ensures in
     let first = subst (λ (t : List ℕ). Puts {T = Unit {0}} {E = Failed} (g.S.Sink.written c.args.out.now) (g.S.Sink.written c.put_guests.new.out) (g.S.Sink.faults c.args.out.now)
     (g.S.Sink.faults c.put_guests.new.out) t (Ok c.in-Ok.field-0)) told c.in-Ok.ensures in
-    Puts-then _ _ _ _ _ _ (told_of_run_on j) (total_line (j.saved.steps + j.steps)) _ _ first c.put_total.ensures
+    let last = subst (λ (n : ℕ). Puts {T = Unit {0}} {E = Failed} (g.S.Sink.written c.put_guests.new.out) (g.S.Sink.written c.put_total.new.out) (g.S.Sink.faults c.put_guests.new.out)
+    (g.S.Sink.faults c.put_total.new.out) (total_line (n + j.steps)) c.put_total.result) c.from.ensures c.put_total.ensures in
+    Puts-then _ _ _ _ _ _ (told_of_run_on j) (total_line (j.saved.steps + j.steps)) _ _ first last

@@ -16,7 +16,8 @@ use Rattle.pg_tool_judging.specs.Saving.{HoldsNow, HoldsAtMost}
 use Rattle.pg_tool_save.specs.Plans.{save_run}
 use Rattle.pg_tool_save.specs.Save.{guest_of, judged_by, reached, save_command, saved_of, told_of_run}
 use Rattle.pg_tool_save.proofs.GuestLemmas.{ran-told}
-use Rattle.pg_tool_save.proofs.SaveLemmas.{save-reached, save-told, save-ran}
+use Rattle.pg_tool_save.proofs.RunLemmas.{save-reached}
+use Rattle.pg_tool_save.proofs.EndsLemmas.{save-told, save-ran}
 use Rattle.pg_tool_save.proofs.save.carry_save.Goals as goal
 
 -- ---- it stops before its work

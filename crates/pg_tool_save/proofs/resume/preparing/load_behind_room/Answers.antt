@@ -2,7 +2,7 @@ use Rattle.std.proofs.Common.{◌≡◌, ◌∙◌, ℕ, sym, ap, subst, arith}
 use Rattle.pg_cert.specs.declared.cert.Family.TheVariants.{Plain}
 use Rattle.pg_judged.proofs.JudgedLemmas.{certificate-read}
 use Rattle.pg_tool_save.proofs.CertLemmas.{cert-accepts}
-use Rattle.pg_tool_save.proofs.ResumeLemmas.{state-runs}
+use Rattle.pg_tool_save.proofs.RunLemmas.{state-runs}
 use Rattle.pg_tool_save.proofs.resume.preparing.load_behind_room.Goals as goal
 
 pub invariant_of-judged : goal.invariant_of-judged

@@ -3,7 +3,7 @@ use Rattle.pg_cert.specs.declared.cert.Family.TheVariants.{Plain}
 use Rattle.pg_inputs.specs.Images.{Fills}
 use Rattle.pg_judged.proofs.JudgedLemmas.{certificate-read}
 use Rattle.pg_tool_save.proofs.CertLemmas.{cert-accepts}
-use Rattle.pg_tool_save.proofs.SaveLemmas.{image-runs}
+use Rattle.pg_tool_save.proofs.RunLemmas.{image-runs}
 use Rattle.pg_tool_save.proofs.save.preparing.load_behind_image.Goals as goal
 
 pub invariant_of-judged : goal.invariant_of-judged

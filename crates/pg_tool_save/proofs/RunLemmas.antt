@@ -1,46 +1,36 @@
--- `save`: that there is its run, what its guest reaches, and what it leaves.
-use Rattle.std.proofs.Common.{◌≡◌, ◌∙◌, ℕ, ◌+◌, ◌<◌, ◌≤◌, List, [], ◌∷◌, ◌++◌, length, map, All, Option, IsSomeAnd, slice_get, refl, sym, ap, subst, arith}
+-- That there are the runs of the commands; and what is known of the guest of `save`, behind its last turn.
+use Rattle.std.proofs.Common.{◌≡◌, ◌∙◌, ℕ, ◌+◌, ◌<◌, ◌≤◌, List, [], ◌∷◌, ◌++◌, length, map, IsSomeAnd, slice_get, sym, ap, subst, arith}
 use Rattle.std.proofs.lemmas.List.Elements.{All-nil, All-cons}
 use Rattle.pg_alloc.specs.Fit.{kept_cells}
-use Rattle.pg_asked.specs.declared.save.SaveWords.{SaveWords}
 use Rattle.pg_ast.specs.declared.tree.Desc.{Desc}
-use Rattle.pg_cert.specs.declared.cert.Family.TheVariants.{Plain}
-use Rattle.pg_cert.specs.declared.report.Verdict.TheVariants.{Accepted}
-use Rattle.pg_control.specs.declared.guest.Guest.{Guest}
 use Rattle.pg_control.specs.Guests.{virtuals}
 use Rattle.pg_control.specs.Standing.{Stands}
-use Rattle.pg_edge.specs.Shelf.{Files}
-use Rattle.pg_edge.specs.Told.{BothTold}
-use Rattle.pg_guests.specs.declared.running.Ran.{Ran}
-use Rattle.pg_guests.specs.Begun.{HaveRun}
-use Rattle.pg_guests.specs.Runs.{RanGuests}
 use Rattle.pg_guests.proofs.ToldLemmas.{have-within}
+use Rattle.pg_guests.specs.Begun.{HaveRun}
+use Rattle.pg_guests.specs.Runs.{RanGuests, state_run}
+use Rattle.pg_guests.specs.declared.running.Ran.{Ran}
 use Rattle.pg_hw.specs.Machinery.{Machinery}
 use Rattle.pg_inputs.specs.Images.{Fills}
-use Rattle.pg_judged.specs.Judged.{verdict_on, verdict_status, verdict_told}
-use Rattle.pg_judged.proofs.JudgedLemmas.{IsRead, certificate-read, desc-valid}
-use Rattle.pg_judged.proofs.TellingLemmas.{ends-told, ends-left, verdict-ends}
 use Rattle.pg_machine.specs.declared.machine.Machine.{Machine}
-use Rattle.pg_meaning.specs.States.{State, shape_of}
-use Rattle.pg_meaning.specs.Steps.{bare, power_on}
-use Rattle.pg_monitor.specs.declared.monitor.Monitor.{Monitor}
+use Rattle.pg_meaning.specs.States.{State, shape_of, IsState}
+use Rattle.pg_meaning.specs.Steps.{bare, power_on, steps}
 use Rattle.pg_monitor.specs.Monitors.{desc_of}
-use Rattle.pg_move.specs.Texts.{room_of, saved_text}
+use Rattle.pg_monitor.specs.declared.monitor.Monitor.{Monitor}
+use Rattle.pg_move.specs.Seen.{guest_of as guest_saved}
+use Rattle.pg_move.specs.Texts.{room_of, saved_text, SavedGuest, IsSaved}
+use Rattle.pg_move.specs.declared.saved.Saved.{Saved}
 use Rattle.pg_report.specs.Spans.{span}
-use Rattle.pg_shown.specs.Runs.{run_of, reached_by, switched_on}
-use Rattle.pg_shown.specs.Setting.{CanRun, IsImage}
 use Rattle.pg_shown.proofs.ReachedLemmas as reached
-use Rattle.pg_steps.specs.declared.status.Status.TheVariants.{Done}
-use Rattle.pg_steps.specs.Steps.{Came}
-use Rattle.pg_steps.specs.World.{World, IsUntouched}
-use Rattle.pg_tool_judging.specs.Saving.{HoldsNow}
-use Rattle.pg_tool_save.specs.declared.save.plan.SavePlan.{SavePlan}
-use Rattle.pg_tool_save.specs.Plans.{save_run}
-use Rattle.pg_tool_save.specs.Save.{SaveRun, SaveDue, SaveEnds, GuestSaved, guest_of, judged_by, one_slice, reached as state_reached, saved_of, told_of_run}
+use Rattle.pg_shown.specs.Runs.{GuestRun, run_of, reached_by}
+use Rattle.pg_shown.specs.Setting.{CanRun, IsImage, SetUp}
 use Rattle.pg_tool_save.proofs.GuestLemmas.{span-length, one-size, one-there, some-weaker}
-use Rattle.pg_type.specs.Accepting.{IsAccepted}
+use Rattle.pg_tool_save.specs.Plans.{save_run}
+use Rattle.pg_tool_save.specs.Save.{SaveRun, guest_of, one_slice, reached as state_reached, saved_of}
+use Rattle.pg_tool_save.specs.declared.save.plan.SavePlan.{SavePlan}
+use Rattle.pg_type.specs.Listed.{state_of}
+use Rattle.pg_word.proofs.SparseLemmas.{length-storage_of}
 
--- ---- that there is such a run
+-- ---- that there are such runs
 
 pub image-runs : (m : Machine) (image : List ℕ) (grant steps : ℕ) → 2 ≤ grant → Fills m.desc.word grant image → kept_cells + grant ≤ m.desc.size → steps ≤ 1000000 →
     CanRun (run_of m (image ∷ []) one_slice steps)
@@ -112,36 +102,41 @@ module _ (j : SaveRun) (ran : Ran) (old new : Machinery) where
         of_one ∙ ap (λ b. b ++ saved_text (shape_of (desc_of ran.monitor)) j.steps (state_reached j)) none
         ∙ ap (λ (d : Desc). saved_text (shape_of d) j.steps (state_reached j)) h.have.machine
 
--- as the run of its plan is known
-pub run-has : (p : SavePlan) (ran : Ran) (m : Machine) (images : List (List ℕ)) (old new : Machinery) → m ≡ p.judged.machine → images ≡ p.image ∷ [] →
-    HaveRun (run_of m images one_slice p.steps) ran new → RanGuests (run_of m images one_slice p.steps) old new → HasRun (save_run p) ran old new
-run-has p ran m images old new same one have left = record {
-  can_run = p.can_run;
-  have = subst (λ (x : Machine). HaveRun (run_of x (p.image ∷ []) one_slice p.steps) ran new) same (subst (λ (xs : List (List ℕ)). HaveRun (run_of m xs one_slice p.steps) ran new) one have);
-  left = subst (λ (x : Machine). RanGuests (run_of x (p.image ∷ []) one_slice p.steps) old new) same (subst (λ (xs : List (List ℕ)). RanGuests (run_of m xs one_slice p.steps) old new) one left);
-  whole = p.filled;
-}
+-- what is known of the run of a plan, whose machine, image and steps are lent
+module _ (p : SavePlan) (m : Machine) (images : List (List ℕ)) (n : ℕ) (old new : Machinery) (same : m ≡ p.judged.machine) (one : images ≡ p.image ∷ []) (count : n ≡ p.steps) where
+  of_plan : (P : GuestRun → Type 0) → P (run_of m images one_slice n) → P (guest_of (save_run p))
+  of_plan P h =
+      subst (λ (x : Machine). P (run_of x (p.image ∷ []) one_slice p.steps)) same
+      (subst (λ (xs : List (List ℕ)). P (run_of m xs one_slice p.steps)) one (subst (λ (k : ℕ). P (run_of m images one_slice k)) count h))
 
--- ---- what is left
+  pub plan-set_up : SetUp (run_of m images one_slice n) old new → SetUp (guest_of (save_run p)) old new
+  plan-set_up h = of_plan (λ r. SetUp r old new) h
 
--- the certificate was read
-pub save-read : (told : Option Files) (s : SaveWords) (j : SaveRun) → SaveDue s told (Came j) → IsRead Plain (judged_by j)
-unfolding SaveDue
-save-read told s j h =
-    subst (λ (x : SaveRun). IsRead Plain (judged_by x)) (sym h.2.2.2.2)
-    (certificate-read h.0 Plain told s.cert h.2.2.2.0 (desc-valid told s.desc h.0 h.1) h.2.2.2.1)
+  pub plan-ran : RanGuests (run_of m images one_slice n) old new → RanGuests (guest_of (save_run p)) old new
+  plan-ran h = of_plan (λ r. RanGuests r old new) h
 
--- the verdict was told, and nothing ran
-pub save-told : (told : Option Files) (s : SaveWords) (j : SaveRun) (old new : World) → SaveDue s told (Came j) → ¬ (verdict_on (judged_by j) ≡ Accepted) → IsUntouched old new →
-    SaveEnds s.file j old new (verdict_status (verdict_on (judged_by j))) (verdict_told (judged_by j))
-save-told told s j old new due other same = record {
-  by_verdict = ends-told (verdict_on (judged_by j)) (GuestSaved s.file j) Plain (judged_by j) old new _ _ other (verdict-ends Plain (judged_by j) old new (save-read told s j due) same);
-}
+  pub plan-have : (ran : Ran) → HaveRun (run_of m images one_slice n) ran new → HaveRun (guest_of (save_run p)) ran new
+  plan-have ran h = of_plan (λ r. HaveRun r ran new) h
 
--- the guest ran, and is saved
-pub save-ran : (file : List ℕ) (j : SaveRun) (old new : World) → verdict_on (judged_by j) ≡ Accepted → IsAccepted j.desc → length j.image ≡ j.grant →
-    BothTold old.files new.files (HoldsNow file (saved_of j)) → RanGuests (guest_of j) old.hw new.hw → SaveEnds file j old new Done (told_of_run j)
-save-ran file j old new is accepted granted saved ran = record {
-  by_verdict = ends-left (verdict_on (judged_by j)) (GuestSaved file j) Plain (judged_by j) old new Done (told_of_run j) is
-      (record { status = refl; accepted = accepted; granted = granted; saved = saved; wording = refl; ran = ran });
-}
+  pub plan-has : (ran : Ran) → HaveRun (run_of m images one_slice n) ran new → RanGuests (run_of m images one_slice n) old new → HasRun (save_run p) ran old new
+  plan-has ran have left = record { can_run = p.can_run; have = plan-have ran have; left = plan-ran left; whole = p.filled }
+
+-- ---- a saved guest
+
+saved-state : (d : Desc) (g : SavedGuest) → IsSaved (shape_of d) g → IsState d g.state
+saved-state d g h = record { size_least = h.least; size_most = h.most; words = h.words; fields = h.fields }
+
+pub state-runs : (m : Machine) (saved : Saved) (skip steps : ℕ) → IsSaved (shape_of m.desc) (guest_saved saved) → kept_cells + (saved.state.size + skip) ≤ m.desc.size → steps ≤ 1000000 →
+    CanRun (state_run m skip (state_of saved.state) one_slice steps)
+state-runs m saved skip steps h room few =
+    let s : State = state_of saved.state in
+    let cells : length s.cells ≡ saved.state.size = length-storage_of saved.state.size saved.state.cells in
+    record {
+      states = record {
+        each = All-cons (IsState m.desc) s [] (saved-state m.desc (guest_saved saved) h) (All-nil (IsState m.desc));
+        above = omega arith;
+        room = omega (arith, cells, room);
+      };
+      some = omega arith;
+      counted = omega (arith, few);
+    }

@@ -1,54 +1,52 @@
--- `resume`: that there is its run, and what it leaves.
-use Rattle.std.proofs.Common.{◌≡◌, ◌∙◌, ℕ, ◌+◌, ◌≤◌, List, [], ◌∷◌, length, Option, refl, sym, ap, subst, arith}
-use Rattle.std.proofs.lemmas.List.Elements.{All-nil, All-cons}
-use Rattle.pg_alloc.specs.Fit.{kept_cells}
+-- What the commands leave, by the verdict of the certificate.
+use Rattle.std.proofs.Common.{◌≡◌, ◌∙◌, ℕ, ◌+◌, ◌<◌, ◌≤◌, List, ◌∷◌, ◌++◌, length, Option, refl, sym, ap, subst}
 use Rattle.pg_asked.specs.declared.resume.ResumeWords.{ResumeWords}
+use Rattle.pg_asked.specs.declared.save.SaveWords.{SaveWords}
 use Rattle.pg_ast.specs.declared.tree.Desc.{Desc}
 use Rattle.pg_cert.specs.declared.cert.Family.TheVariants.{Plain}
 use Rattle.pg_cert.specs.declared.report.Verdict.TheVariants.{Accepted}
 use Rattle.pg_edge.specs.Shelf.{Files}
-use Rattle.pg_guests.specs.Runs.{RanGuests, state_run}
-use Rattle.pg_judged.specs.Judged.{verdict_on, verdict_status, verdict_told}
+use Rattle.pg_edge.specs.Told.{BothTold}
+use Rattle.pg_guests.specs.Runs.{RanGuests}
 use Rattle.pg_judged.proofs.JudgedLemmas.{IsRead, certificate-read, desc-valid}
 use Rattle.pg_judged.proofs.TellingLemmas.{ends-told, ends-left, verdict-ends}
-use Rattle.pg_machine.specs.declared.machine.Machine.{Machine}
-use Rattle.pg_meaning.specs.States.{State, IsState, shape_of}
-use Rattle.pg_meaning.specs.Steps.{bare, power_on, steps}
+use Rattle.pg_judged.specs.Judged.{verdict_on, verdict_status, verdict_told}
 use Rattle.pg_meaning.proofs.StepLaws.{steps-add}
-use Rattle.pg_move.specs.declared.saved.Saved.{Saved}
-use Rattle.pg_move.specs.Seen.{guest_of}
-use Rattle.pg_move.specs.Texts.{SavedGuest, IsSaved}
-use Rattle.pg_shown.specs.Setting.{CanRun}
-use Rattle.pg_steps.specs.declared.status.Status.TheVariants.{Done}
+use Rattle.pg_meaning.specs.States.{State}
+use Rattle.pg_meaning.specs.Steps.{bare, power_on, steps}
 use Rattle.pg_steps.specs.Steps.{Came}
 use Rattle.pg_steps.specs.World.{World, IsUntouched}
-use Rattle.pg_tool_save.specs.Save.{one_slice}
-use Rattle.pg_tool_save.specs.Resume.{ResumeRun, ResumeDue, ResumeEnds, GuestWentOn, guest_on, judged_on, reached_on, told_on}
+use Rattle.pg_steps.specs.declared.status.Status.TheVariants.{Done}
+use Rattle.pg_tool_judging.specs.Saving.{HoldsNow}
+use Rattle.pg_tool_save.specs.Resume.{ResumeRun, ResumeDue, ResumeEnds, GuestWentOn, guest_on, judged_on, told_on}
+use Rattle.pg_tool_save.specs.Save.{SaveRun, SaveDue, SaveEnds, GuestSaved, guest_of, judged_by, saved_of, told_of_run}
 use Rattle.pg_type.specs.Accepting.{IsAccepted}
-use Rattle.pg_type.specs.Listed.{state_of}
-use Rattle.pg_word.proofs.SparseLemmas.{length-storage_of}
 
--- ---- that there is such a run
+-- ---- `save`
 
-saved-state : (d : Desc) (g : SavedGuest) → IsSaved (shape_of d) g → IsState d g.state
-saved-state d g h = record { size_least = h.least; size_most = h.most; words = h.words; fields = h.fields }
+-- the certificate was read
+pub save-read : (told : Option Files) (s : SaveWords) (j : SaveRun) → SaveDue s told (Came j) → IsRead Plain (judged_by j)
+unfolding SaveDue
+save-read told s j h =
+    subst (λ (x : SaveRun). IsRead Plain (judged_by x)) (sym h.2.2.2.2)
+    (certificate-read h.0 Plain told s.cert h.2.2.2.0 (desc-valid told s.desc h.0 h.1) h.2.2.2.1)
 
-pub state-runs : (m : Machine) (saved : Saved) (skip steps : ℕ) → IsSaved (shape_of m.desc) (guest_of saved) → kept_cells + (saved.state.size + skip) ≤ m.desc.size → steps ≤ 1000000 →
-    CanRun (state_run m skip (state_of saved.state) one_slice steps)
-state-runs m saved skip steps h room few =
-    let s : State = state_of saved.state in
-    let cells : length s.cells ≡ saved.state.size = length-storage_of saved.state.size saved.state.cells in
-    record {
-      states = record {
-        each = All-cons (IsState m.desc) s [] (saved-state m.desc (guest_of saved) h) (All-nil (IsState m.desc));
-        above = omega arith;
-        room = omega (arith, cells, room);
-      };
-      some = omega arith;
-      counted = omega (arith, few);
-    }
+-- the verdict was told, and nothing ran
+pub save-told : (told : Option Files) (s : SaveWords) (j : SaveRun) (old new : World) → SaveDue s told (Came j) → ¬ (verdict_on (judged_by j) ≡ Accepted) → IsUntouched old new →
+    SaveEnds s.file j old new (verdict_status (verdict_on (judged_by j))) (verdict_told (judged_by j))
+save-told told s j old new due other same = record {
+  by_verdict = ends-told (verdict_on (judged_by j)) (GuestSaved s.file j) Plain (judged_by j) old new _ _ other (verdict-ends Plain (judged_by j) old new (save-read told s j due) same);
+}
 
--- ---- what is left
+-- the guest ran, and is saved
+pub save-ran : (file : List ℕ) (j : SaveRun) (old new : World) → verdict_on (judged_by j) ≡ Accepted → IsAccepted j.desc → length j.image ≡ j.grant →
+    BothTold old.files new.files (HoldsNow file (saved_of j)) → RanGuests (guest_of j) old.hw new.hw → SaveEnds file j old new Done (told_of_run j)
+save-ran file j old new is accepted granted saved ran = record {
+  by_verdict = ends-left (verdict_on (judged_by j)) (GuestSaved file j) Plain (judged_by j) old new Done (told_of_run j) is
+      (record { status = refl; accepted = accepted; granted = granted; saved = saved; wording = refl; ran = ran });
+}
+
+-- ---- `resume`
 
 -- the certificate was read
 pub resume-read : (told : Option Files) (r : ResumeWords) (j : ResumeRun) → ResumeDue r told (Came j) → IsRead Plain (judged_on j)
