@@ -6,12 +6,22 @@ use Rattle.pg_move.specs.Seen.{guest_of}
 use Rattle.pg_steps.specs.Answering.{Comes}
 use Rattle.pg_steps.specs.Rooms.{RoomDue}
 use Rattle.pg_steps.specs.Steps.{Came}
+use Rattle.pg_steps.proofs.AbleLemmas.{size-small}
 use Rattle.pg_steps.proofs.StepLemmas.{comes-stopped, comes-behind}
 use Rattle.pg_tool_save.specs.Plans.{resume_run}
 use Rattle.pg_tool_save.specs.Resume.{behind_room, behind_saved}
 use Rattle.pg_tool_save.specs.SavedFiles.{SavedDue}
 use Rattle.pg_tool_save.proofs.resume.preparing.load_behind_machine.Goals as goal
 use Rattle.pg_word.proofs.SparseLemmas.{length-storage_of}
+
+pub overflow_add-wanted : goal.overflow_add-wanted
+overflow_add-wanted g c =
+    let m = c.args.machine in
+    let state = c.in-Ok.saved.state in
+    let cells = length-storage_of state.size state.cells in
+    let most = c.in-Ok.ensures.saved.most in
+    let small = size-small m.desc m.valid in
+    omega (arith, cells, most, small, c.cells.ensures.cells, c.cells.ensures.most)
 
 -- the saved guest stops it
 pub returns-in-Err-clause-comes : goal.returns-in-Err-clause-comes
