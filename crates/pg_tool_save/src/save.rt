@@ -68,15 +68,15 @@ pub fn carry_save<F: Shelf, S: Sink, H: Hardware>(
     if !is_accepted(plan.judged.report.verdict()) {
         return tell_verdict(out, &plan.judged);
     }
-    let run = match run_plan(alloc, &plan, hw) {
-        Ok(run) => run,
+    let saved = match run_plan(alloc, &plan, hw) {
+        Ok(saved) => saved,
         Err(_) => return Status::Memory,
     };
-    match save_text(shelf, &words.file, run.text.as_slice()) {
+    match save_text(shelf, &words.file, saved.text.as_slice()) {
         Ok(()) => {}
         Err(_) => return Status::WriteFault,
     }
-    let (guests, turns, direct) = (run.ran.guests(), run.ran.turns(), run.ran.direct());
+    let (guests, turns, direct) = (saved.ran.guests(), saved.ran.turns(), saved.ran.direct());
     match put_guests(out, &plan.judged.machine, guests, turns, direct, hw) {
         Ok(()) => Status::Done,
         Err(_) => Status::WriteFault,

@@ -85,7 +85,7 @@ put_guests-requires-clause-words g c = c.in-Ok-run_plan.ensures.have_run.stands.
 pub put_guests-requires-clause-within : goal.put_guests-requires-clause-within
 put_guests-requires-clause-within g c =
     let h = g.H.Hardware.machinery c.run_plan.new.hw in
-    subst (λ gs. AreWithin h.state gs) (sym c.guests-guests.ensures) (have-within (guest_of (save_run c.in-Ok.plan)) c.in-Ok-run_plan.run.ran h c.in-Ok-run_plan.ensures.have_run)
+    subst (λ gs. AreWithin h.state gs) (sym c.guests-guests.ensures) (have-within (guest_of (save_run c.in-Ok.plan)) c.in-Ok-run_plan.saved.ran h c.in-Ok-run_plan.ensures.have_run)
 
 pub returns-in-Ok-put_guests-clause-carries : goal.returns-in-Ok-put_guests-clause-carries
 returns-in-Ok-put_guests-clause-carries g c =
@@ -99,7 +99,7 @@ returns-in-Ok-put_guests-clause-carries g c =
     let saved : BothTold old.files new.files (HoldsNow s.file (saved_of j)) =
     subst (λ f. BothTold f new.files (HoldsNow s.file (saved_of j))) c.prepare_save.ensures.reads.same_files
     (subst (λ bytes. BothTold mid new.files (HoldsNow s.file bytes)) (c.as_slice.ensures.value ∙ c.in-Ok-run_plan.ensures.text) c.in-Ok-save_text.ensures.saved) in
-    let told = ran-told (guest_of j) (reached j) c.in-Ok-run_plan.run.ran new.hw c.guests-guests.result.now c.turns-turns.result c.direct-direct.result c.in-Ok-run_plan.ensures.have_run
+    let told = ran-told (guest_of j) (reached j) c.in-Ok-run_plan.saved.ran new.hw c.guests-guests.result.now c.turns-turns.result c.direct-direct.result c.in-Ok-run_plan.ensures.have_run
     (save-reached j p.filled) (omega arith) c.guests-guests.ensures c.turns-turns.ensures c.direct-direct.ensures in
     let put : Puts {T = Unit {0}} {E = Failed} old.out.written new.out.written old.out.faults new.out.faults (told_of_run j) c.put_guests.result =
     subst (λ t. Puts {T = Unit {0}} {E = Failed} old.out.written new.out.written old.out.faults new.out.faults t c.put_guests.result) told c.put_guests.ensures in
@@ -119,7 +119,7 @@ returns-clause-carries g c =
     let saved : BothTold old.files new.files (HoldsNow s.file (saved_of j)) =
     subst (λ f. BothTold f new.files (HoldsNow s.file (saved_of j))) c.prepare_save.ensures.reads.same_files
     (subst (λ bytes. BothTold mid new.files (HoldsNow s.file bytes)) (c.as_slice.ensures.value ∙ c.in-Ok-run_plan.ensures.text) c.in-Ok-save_text.ensures.saved) in
-    let told = ran-told (guest_of j) (reached j) c.in-Ok-run_plan.run.ran new.hw c.guests-guests.result.now c.turns-turns.result c.direct-direct.result c.in-Ok-run_plan.ensures.have_run
+    let told = ran-told (guest_of j) (reached j) c.in-Ok-run_plan.saved.ran new.hw c.guests-guests.result.now c.turns-turns.result c.direct-direct.result c.in-Ok-run_plan.ensures.have_run
     (save-reached j p.filled) (omega arith) c.guests-guests.ensures c.turns-turns.ensures c.direct-direct.ensures in
     let put : Puts {T = Unit {0}} {E = Failed} old.out.written new.out.written old.out.faults new.out.faults (told_of_run j) c.put_guests.result =
     subst (λ t. Puts {T = Unit {0}} {E = Failed} old.out.written new.out.written old.out.faults new.out.faults t c.put_guests.result) told c.put_guests.ensures in
