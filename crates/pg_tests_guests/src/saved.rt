@@ -70,7 +70,7 @@ fn no_step_leaves_a_guest_where_it_is(rt: HostRuntime) -> Result<(), Fail> {
     )?;
     assert_eq!(rt;
         at.file("n"),
-        b"pgguest 1\nsteps 0\nsize 9\npsw s 2 0 9\nend\n"
+        "pgguest 1\nsteps 0\nsize 9\npsw s 2 0 9\nend\n".as_bytes()
     );
     at.expect("resume d c s --steps 0 --skip 46", Status::Done, STILL)?;
     Ok(())
