@@ -120,7 +120,7 @@ class _Reader:
         count = min(CELLS_A_LINE, len(self.cells) - first)
         digits = self.shape.word // 4
         words = [int(part, 16) for part in found[2].split()]
-        _ask(any(words) and len(words) == count)
+        _ask(any(words) and len(words) == count and max(words) <= mask(self.shape.word))
         _ask(line == f"{first}: " + " ".join(f"{word:0{digits}x}" for word in words))
         self.cells[first : first + count] = words
         self.next_cell = first + CELLS_A_LINE
