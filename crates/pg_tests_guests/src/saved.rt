@@ -163,7 +163,12 @@ const FRONTS: [(usize, &[u8]); 3] = [(0, b""), (2, b"pg"), (11, b"pgguest 1\ns")
 fn a_save_that_fails_leaves_a_front(rt: HostRuntime) -> Result<(), Fail> {
     // The description, the image, and of the certificate the size, the bytes and the end; then the save.
     for (taken, front) in FRONTS {
-        let files = [("none", HEAD), ("empty", "pgcert 2\nend\n"), ("i", "")];
+        let files = [
+            ("none", HEAD),
+            ("empty", "pgcert 2\nend\n"),
+            ("i", ""),
+            ("new", ""),
+        ];
         let mut at = Setting::failing(rt.alloc(), &files, &[], &[(6, taken)])?;
         at.expect(
             "save none empty i new --grant 8 --steps 1",
