@@ -1,0 +1,4 @@
+pub mod AgreeingBursts
+pub mod DirectCounts
+pub mod PresentLemmas
+pub mod SegmentLemmas
