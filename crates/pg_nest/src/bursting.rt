@@ -39,7 +39,7 @@ fn untrapped_of(mode: Mode, told: BurstTold) -> u64
 }
 
 /// Steps of the guest's machine that are one burst below, `most` of them at most and one at least.
-fn segment<H: Hardware>(monitor: &mut Monitor<'_>, hw: &mut H, most: u64) -> Segment
+fn go_on<H: Hardware>(monitor: &mut Monitor<'_>, hw: &mut H, most: u64) -> Segment
     requires served { IsServed (H.serves (H.fixed hw.old)) (desc_of monitor.old) }
     requires presents { Presents (desc_of monitor.old) (H.machinery hw.old).state monitor.old.guests monitor.old.current }
     requires some { 1 ≤ most }
@@ -77,7 +77,7 @@ pub(crate) fn burst<H: Hardware>(monitor: &mut Monitor<'_>, hw: &mut H, most: u6
         ends: false,
     };
     while all.done < most {
-        let next = segment(monitor, hw, most - all.done);
+        let next = go_on(monitor, hw, most - all.done);
         all.done += next.done;
         all.untrapped += next.untrapped;
         if next.ends {

@@ -82,10 +82,10 @@ impl<'m, H: Hardware> Level<'m, H> {
         ensures machine { self.new.accepted.machine.now ≡ self.old.accepted.machine.now }
         ensures fixed { H.fixed self.new.hw ≡ H.fixed self.old.hw }
     {
-        let Some(monitor) = &mut self.monitor else {
-            unreachable!()
+        let all = match &mut self.monitor {
+            Some(monitor) => burst(monitor, &mut self.hw, k),
+            None => unreachable!(),
         };
-        let all = burst(monitor, &mut self.hw, k);
         self.counts.steps = raised(self.counts.steps, all.done);
         self.counts.untrapped = raised(self.counts.untrapped, all.untrapped);
         all.done

@@ -94,7 +94,7 @@ module _ (depth : ℕ) (d e : Desc) (image : List ℕ) (n : ℕ) where
     same-word = ap (λ (x : Desc). x.word) h.machine
 
     pub under-narrow : 4 ≤ d.size - 2
-    under-narrow = (let room = h.can.room in let least = h.can.image.least in omega (arith, room, least))
+    under-narrow = (let room = h.can.room in let least = h.can.is_image.least in omega (arith, room, least))
 
     pub under-size : e.size ≤ d.size - 2
     under-size = (let same = smaller in omega (arith, same))
@@ -107,7 +107,7 @@ module _ (depth : ℕ) (d e : Desc) (image : List ℕ) (n : ℕ) where
 
     pub under-can : CanNest depth e image n
     under-can = record {
-      image = record { least = h.can.image.least; words = subst (λ w. All (λ word. word < 2 ^ w) image) (sym same-word) h.can.image.words };
+      is_image = record { least = h.can.is_image.least; words = subst (λ w. All (λ word. word < 2 ^ w) image) (sym same-word) h.can.is_image.words };
       room = (let room = h.can.room in let same = smaller in omega (arith, room, same));
       counted = h.can.counted;
     }
@@ -153,7 +153,7 @@ module _ (depth : ℕ) (d e : Desc) (image : List ℕ) (n : ℕ) where
 
     -- what is presented has cells
     pub under-some : (upper : State) → HoldsNested depth e image n upper → 1 ≤ length upper.cells
-    under-some upper held = (let size = held.size in let same = smaller in let room = h.can.room in let least = h.can.image.least in omega (arith, size, same, room, least))
+    under-some upper held = (let size = held.size in let same = smaller in let room = h.can.room in let least = h.can.is_image.least in omega (arith, size, same, room, least))
 
     pub under-bottom : (old new : Bottom) → BottomTurns n (direct_steps e image n) old new → BottomTurns n (direct_steps d image n) old new
     under-bottom old new turns = subst (λ k. BottomTurns n k old new) (direct-agree d e agrees 2 n (power_on image (length image))) turns
@@ -182,7 +182,7 @@ module _ (machine : Machine) (image : List ℕ) (slice n : ℕ) where
   pub one-can_run : IsValid machine.desc → CanNest 1 machine.desc image n → 1 ≤ slice → CanRun (run_of machine (image ∷ []) slice n)
   one-can_run valid can some = record {
     states = record {
-      each = All-cons (IsState machine.desc) (power_on image (length image)) [] (power_on-state machine.desc image (length image) valid can.image.least (let room = can.room in omega (arith, room)) (omega arith) can.image.words) (All-nil (IsState machine.desc));
+      each = All-cons (IsState machine.desc) (power_on image (length image)) [] (power_on-state machine.desc image (length image) valid can.is_image.least (let room = can.room in omega (arith, room)) (omega arith) can.is_image.words) (All-nil (IsState machine.desc));
       above = omega arith;
       room = (let room = can.room in let len = power_on-length image in omega (arith, room, len));
     };

@@ -14,7 +14,7 @@ use Rattle.pg_nest_guests.specs.declared.nesting.Innermost.{Innermost}
 
 -- an image of a machine that finds room under so many monitors, each of which keeps two cells, and steps that can be counted
 pub record CanNest (depth : ℕ) (d : Desc) (image : List ℕ) (steps : ℕ) : Type 0 where
-  pub image : IsImage d.word image
+  pub is_image : IsImage d.word image
   pub room : length image + kept_cells * depth ≤ d.size
   pub counted : steps ≤ 2 ^ 32
 
