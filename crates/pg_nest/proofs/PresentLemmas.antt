@@ -125,3 +125,10 @@ pub started-blank : (size : ℕ) (cells : List ℕ) (gs : List Guest) → gs ≡
 unfolding blank
 started-blank size cells gs is states =
     heads (first_state cells gs) (power_on (replicate size 0) size) (sym (states-alone cells gs (started-alone size gs is)) ∙ states) ∙ sym (dark-is size)
+
+pub started-base : (size : ℕ) (gs : List Guest) → gs ≡ guest_in kept_cells size (power_on_psw size) ∷ [] → (first_guest gs).base ≡ kept_cells
+started-base size gs is = ap (λ (g : Guest). g.base) (started-first size gs is)
+
+pub started-blank-of : (had size : ℕ) (cells : List ℕ) (gs : List Guest) → had ≡ size → gs ≡ guest_in kept_cells had (power_on_psw had) ∷ [] → virtuals cells gs ≡ power_on (replicate had 0) had ∷ [] →
+    first_state cells gs ≡ blank size
+started-blank-of had size cells gs same is states = started-blank had cells gs is states ∙ ap blank same

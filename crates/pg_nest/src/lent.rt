@@ -35,6 +35,8 @@ impl<H: Hardware> Drop for Lent<'_, H> {
 }
 
 impl<H: Hardware> Hardware for Lent<'_, H> {
+    ghost use Rattle.std.specs.Prelude.{ℕ};
+
     ghost machinery = { λ s. record {
         state = (H.machinery s.hw.now).state;
         tally = (H.machinery s.hw.now).tally;

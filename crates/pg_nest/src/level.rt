@@ -82,13 +82,15 @@ impl<'m, H: Hardware> Level<'m, H> {
         ensures machine { self.new.accepted.machine.now ≡ self.old.accepted.machine.now }
         ensures fixed { H.fixed self.new.hw ≡ H.fixed self.old.hw }
     {
-        let all = match &mut self.monitor {
-            Some(monitor) => burst(monitor, &mut self.hw, k),
+        match &mut self.monitor {
+            Some(monitor) => {
+                let all = burst(monitor, &mut self.hw, k);
+                self.counts.steps = raised(self.counts.steps, all.done);
+                self.counts.untrapped = raised(self.counts.untrapped, all.untrapped);
+                all.done
+            }
             None => unreachable!(),
-        };
-        self.counts.steps = raised(self.counts.steps, all.done);
-        self.counts.untrapped = raised(self.counts.untrapped, all.untrapped);
-        all.done
+        }
     }
 }
 
@@ -150,11 +152,11 @@ impl<H: Hardware> Hardware for Level<'_, H> {
     }
 
     fn poke(&mut self, at: u32, word: u64) {
+        self.counts.pokes = raised(self.counts.pokes, 1);
         match &mut self.monitor {
             Some(monitor) => monitor.poke(&mut self.hw, 0, at, word),
             None => unreachable!(),
         }
-        self.counts.pokes = raised(self.counts.pokes, 1);
     }
 
     fn psw(&self) -> Psw {
@@ -165,11 +167,11 @@ impl<H: Hardware> Hardware for Level<'_, H> {
     }
 
     fn set_psw(&mut self, psw: Psw) {
+        self.counts.loads = raised(self.counts.loads, 1);
         match &mut self.monitor {
             Some(monitor) => monitor.set_guest(&mut self.hw, 0, psw),
             None => self.idle = psw,
         }
-        self.counts.loads = raised(self.counts.loads, 1);
     }
 
     fn counts(&self) -> Counts {
