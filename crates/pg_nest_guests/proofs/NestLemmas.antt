@@ -74,6 +74,10 @@ bare-agree d e agrees image g n = agree-steps d e agrees n (power_on image g)
 
 -- ---- one monitor more
 
+-- a machine that has room for one more is not the least
+pub under-least : (depth : ℕ) (d : Desc) (image : List ℕ) (n : ℕ) → 1 ≤ depth → CanNest (depth + 1) d image n → 4 + 2 ≤ d.size
+under-least depth d image n some can = omega (arith, some, can.room, can.is_image.least)
+
 module _ (depth : ℕ) (d e : Desc) (image : List ℕ) (n : ℕ) where
   -- the machine of the other monitors has two cells fewer
   pub record IsUnder : Type 0 where
@@ -92,9 +96,6 @@ module _ (depth : ℕ) (d e : Desc) (image : List ℕ) (n : ℕ) where
 
     same-word : e.word ≡ d.word
     same-word = ap (λ (x : Desc). x.word) h.machine
-
-    pub under-narrow : 4 ≤ d.size - 2
-    under-narrow = (let room = h.can.room in let least = h.can.is_image.least in omega (arith, room, least))
 
     pub under-size : e.size ≤ d.size - 2
     under-size = (let same = smaller in omega (arith, same))

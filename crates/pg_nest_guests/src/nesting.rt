@@ -4,7 +4,9 @@
 //! narrower machine, and lends its hardware as a level to the one of a depth less. So each depth is proved from the contract of the
 //! one before it, and the first from that of a monitor. All machines are made before anything is installed.
 
-ghost use Rattle.std.specs.Prelude.{◌≡◌, ◌≤◌, OnOk, OnErr, IfOk};
+ghost use Rattle.std.specs.Prelude.{◌≡◌, ◌+◌, ◌-◌, ◌≤◌, OnOk, OnErr, IfOk};
+ghost use Rattle.pg_valid.specs.Sized.{sized};
+ghost use Rattle.pg_alloc.specs.Fit.{kept_cells};
 ghost use Rattle.pg_hw.specs.Serving.{IsServed};
 ghost use Rattle.pg_control.specs.Counting.{CanCount};
 ghost use Rattle.pg_nest_guests.specs.Nesting.{CanNest, IsInnermost, Nested, RanNested, NotStepped};
@@ -13,6 +15,7 @@ use pg_control::KEPT_CELLS;
 use pg_guests::run_guests;
 use pg_hw::Hardware;
 use pg_image::Image;
+use pg_machine::Machine;
 use pg_nest::{Lent, Level};
 use pg_type::Accepted;
 use pg_word::Psw;
@@ -80,6 +83,15 @@ fn in_one<K: Hardware>(
     hw
 }
 
+/// The machine that the guest of a monitor of this one has: the same, but for the cells that the monitor keeps.
+fn narrowed(alloc: Global, accepted: Accepted<'_>) -> Result<Machine, AllocError>
+    requires { 4 + kept_cells ≤ accepted.machine.now.desc.size }
+    ensures { IfOk result (λ machine. machine.desc ≡ sized (accepted.entry.machine.now.desc.size - kept_cells) accepted.entry.machine.now.desc) }
+{
+    let machine = accepted.machine();
+    machine.narrow(alloc, machine.shape().q - KEPT_CELLS)
+}
+
 /// Two monitors: one on a level of a hardware.
 fn in_two<K: Hardware>(
     alloc: Global,
@@ -97,8 +109,7 @@ fn in_two<K: Hardware>(
     ensures refused { OnErr out.new ((K.machinery result).bottom ≡ (K.machinery hw).bottom) }
     ensures fixed { K.fixed result ≡ K.fixed hw }
 {
-    let q = accepted.machine().shape().q - KEPT_CELLS;
-    let machine = match accepted.machine().narrow(alloc, q) {
+    let machine = match narrowed(alloc, accepted) {
         Ok(machine) => machine,
         Err(refused) => {
             *out = Err(refused);
@@ -107,7 +118,8 @@ fn in_two<K: Hardware>(
     };
     let inner = accepted.narrow(&machine);
     let level = Level::new(alloc, accepted, hw);
-    in_one(alloc, inner, image, steps, level, out).into_inner()
+    let level = in_one(alloc, inner, image, steps, level, out);
+    level.into_inner()
 }
 
 /// Three monitors: two on a level of a hardware.
@@ -127,8 +139,7 @@ fn in_three<K: Hardware>(
     ensures refused { OnErr out.new ((K.machinery result).bottom ≡ (K.machinery hw).bottom) }
     ensures fixed { K.fixed result ≡ K.fixed hw }
 {
-    let q = accepted.machine().shape().q - KEPT_CELLS;
-    let machine = match accepted.machine().narrow(alloc, q) {
+    let machine = match narrowed(alloc, accepted) {
         Ok(machine) => machine,
         Err(refused) => {
             *out = Err(refused);
@@ -137,7 +148,8 @@ fn in_three<K: Hardware>(
     };
     let inner = accepted.narrow(&machine);
     let level = Level::new(alloc, accepted, hw);
-    in_two(alloc, inner, image, steps, level, out).into_inner()
+    let level = in_two(alloc, inner, image, steps, level, out);
+    level.into_inner()
 }
 
 /// Four monitors: three on a level of a hardware.
@@ -157,8 +169,7 @@ fn in_four<K: Hardware>(
     ensures refused { OnErr out.new ((K.machinery result).bottom ≡ (K.machinery hw).bottom) }
     ensures fixed { K.fixed result ≡ K.fixed hw }
 {
-    let q = accepted.machine().shape().q - KEPT_CELLS;
-    let machine = match accepted.machine().narrow(alloc, q) {
+    let machine = match narrowed(alloc, accepted) {
         Ok(machine) => machine,
         Err(refused) => {
             *out = Err(refused);
@@ -167,7 +178,37 @@ fn in_four<K: Hardware>(
     };
     let inner = accepted.narrow(&machine);
     let level = Level::new(alloc, accepted, hw);
-    in_three(alloc, inner, image, steps, level, out).into_inner()
+    let level = in_three(alloc, inner, image, steps, level, out);
+    level.into_inner()
+}
+
+/// So many monitors, 1 to 4, the outermost on a hardware.
+fn in_depth<K: Hardware>(
+    alloc: Global,
+    accepted: Accepted<'_>,
+    image: &Image,
+    depth: u32,
+    steps: u64,
+    hw: K,
+    out: &mut Result<Innermost, AllocError>,
+) -> K
+    requires least { 1 ≤ depth }
+    requires most { depth ≤ 4 }
+    requires served { IsServed (K.serves (K.fixed hw)) accepted.machine.now.desc }
+    requires room { accepted.machine.now.desc.size ≤ K.room (K.fixed hw) }
+    requires counts { CanCount (K.machinery hw).tally }
+    requires can_nest { CanNest depth accepted.machine.now.desc image.now steps }
+    ensures innermost { IfOk out.new (λ x. IsInnermost accepted.entry.machine.now.desc image.now steps x) }
+    ensures nested { OnOk out.new (Nested depth accepted.entry.machine.now.desc image.now steps (K.machinery hw) (K.machinery result)) }
+    ensures refused { OnErr out.new ((K.machinery result).bottom ≡ (K.machinery hw).bottom) }
+    ensures fixed { K.fixed result ≡ K.fixed hw }
+{
+    match depth {
+        1 => in_one(alloc, accepted, image, steps, hw, out),
+        2 => in_two(alloc, accepted, image, steps, hw, out),
+        3 => in_three(alloc, accepted, image, steps, hw, out),
+        _ => in_four(alloc, accepted, image, steps, hw, out),
+    }
 }
 
 /// Runs an image under `depth` monitors, 1 to 4, for so many steps, on a hardware that is handed in: the outermost monitor runs on it,
@@ -197,11 +238,6 @@ pub fn nest<H: Hardware>(
 {
     let mut out = Err(AllocError);
     let lent = Lent::new(hw);
-    let _lent = match depth {
-        1 => in_one(alloc, accepted, image, steps, lent, &mut out),
-        2 => in_two(alloc, accepted, image, steps, lent, &mut out),
-        3 => in_three(alloc, accepted, image, steps, lent, &mut out),
-        _ => in_four(alloc, accepted, image, steps, lent, &mut out),
-    };
+    let _lent = in_depth(alloc, accepted, image, depth, steps, lent, &mut out);
     out
 }
