@@ -102,11 +102,13 @@ carries-of d real (Some m) idle runs p some =
     ∥∥₁_elim {P = Carries d (first_state real.cells m.guests) real} runs (Carries-prop d (first_state real.cells m.guests) real)
     (λ is. subst (λ e. Carries e (first_state real.cells m.guests) real) is (carries-presents (desc_of m) real m p))
 
--- before the first install there is no state of a machine
-pub none-stateless : (e : Desc) (real : State) (o : Option Monitor) (idle : Psw) → o ≡ None → IsState e (presented real o idle) → ⊥
-none-stateless e real o idle is h = let s = subst (λ x. IsState e (presented real x idle)) is h in let least : 2 ≤ 0 = s.size_least in omega (arith, least)
-
 -- ---- bursts
+
+pub counts-of : (c : Counts) (n u steps untrapped : ℕ) → steps ≡ raised_by n c.steps → untrapped ≡ raised_by u c.untrapped →
+    record { steps = steps; untrapped = untrapped; pokes = c.pokes; loads = c.loads } ≡ after_steps c n u
+counts-of c n u steps untrapped is also =
+    ap (λ x. let k : Counts = record { steps = x; untrapped = untrapped; pokes = c.pokes; loads = c.loads } in k) is
+    ∙ ap (λ x. let k : Counts = record { steps = raised_by n c.steps; untrapped = x; pokes = c.pokes; loads = c.loads } in k) also
 
 module _ (e : Desc) (h h' : Machinery) (o : Option Monitor) (m m' : Monitor) (idle : Psw) (c c' : Counts) (k n u : ℕ) where
   pub record IsBurst : Type 0 where

@@ -1,7 +1,5 @@
-use Rattle.std.proofs.Common.{ap, ◌∙◌}
-use Rattle.pg_hw.specs.declared.counts.Counts.{Counts}
 use Rattle.pg_nest.proofs.AgreeingBursts.{served-same, agree-same}
-use Rattle.pg_nest.proofs.LevelLemmas.{kept-served, kept-room, kept-runs, some-runs, some-presents, presents-machine, none-stateless, level-burst}
+use Rattle.pg_nest.proofs.LevelLemmas.{kept-served, kept-room, kept-runs, some-runs, some-presents, presents-machine, level-burst, counts-of}
 use Rattle.pg_nest.proofs.level.Level.run.Goals as goal
 
 pub burst-all-requires-clause-served : goal.burst-all-requires-clause-served
@@ -20,3 +18,18 @@ invariant_of-self g c =
       runs = kept-runs l.accepted.machine.now.desc m c.burst-all.new.monitor c.burst-all.ensures.machine (some-runs l.accepted.machine.now.desc l.monitor m c.in-Some.is l.runs);
       presents = presents-machine m c.burst-all.new.monitor now c.burst-all.ensures.machine c.burst-all.ensures.presents;
     }
+
+pub returns-clause-ran : goal.returns-clause-ran
+returns-clause-ran g c =
+    let l = c.args.self.now in
+    let m = c.in-Some.monitor in
+    level-burst c.args.m.now.desc (g.H.Hardware.machinery l.hw) (g.H.Hardware.machinery c.burst-all.new.hw) l.monitor m c.burst-all.new.monitor l.idle l.counts _ c.args.k c.burst-all.result.done c.burst-all.result.untrapped
+    (record {
+      monitor = c.in-Some.is;
+      agrees = agree-same m.accepted.machine.now.desc l.accepted.machine.now.desc c.args.m.now.desc (some-runs l.accepted.machine.now.desc l.monitor m c.in-Some.is l.runs) c.requires.served;
+      count = c.burst-all.ensures.count;
+      state = c.burst-all.ensures.state;
+      untrapped = c.burst-all.ensures.untrapped;
+      bottom = c.burst-all.ensures.bottom;
+      counted = counts-of l.counts c.burst-all.result.done c.burst-all.result.untrapped c.raised-self.result c.raised-self-in-Some.result c.raised-self.ensures c.raised-self-in-Some.ensures;
+    })

@@ -14,7 +14,7 @@ invariant_of-self g c =
       served = kept-served g.H.Hardware.serves _ _ l.accepted.machine.now.desc c.install.ensures.fixed l.served;
       room = kept-room g.H.Hardware.room _ _ l.accepted.machine.now.desc.size c.install.ensures.fixed l.room;
       runs = l.runs;
-      presents = subst (λ (h : Machinery). PresentsAny h.state l.monitor) (sym c.in-Err-install.ensures.refused) l.presents;
+      presents = subst (λ (h : Machinery). PresentsAny h.state l.monitor) (sym c.in-Err.ensures.refused) l.presents;
     }
 
 pub invariant_of-self-2 : goal.invariant_of-self-2
