@@ -38,9 +38,9 @@ impl<H: Hardware> Hardware for Lent<'_, H> {
     ghost use Rattle.std.specs.Prelude.{ℕ};
 
     ghost machinery = { λ s. record {
-        state = (H.machinery s.hw.now).state;
-        tally = (H.machinery s.hw.now).tally;
-        bottom = record { steps = (H.machinery s.hw.now).tally.steps; untrapped = (H.machinery s.hw.now).tally.untrapped };
+      state = (H.machinery s.hw.now).state;
+      tally = (H.machinery s.hw.now).tally;
+      bottom = record { steps = (H.machinery s.hw.now).tally.steps; untrapped = (H.machinery s.hw.now).tally.untrapped };
     } };
 
     ghost Fixed = { ℕ × H.Fixed };
