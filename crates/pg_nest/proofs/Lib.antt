@@ -1,0 +1,5 @@
+pub mod AgreeingBursts
+pub mod DirectCounts
+pub mod PresentLemmas
+pub mod SegmentLemmas
+pub mod LevelLemmas

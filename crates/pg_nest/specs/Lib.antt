@@ -1,0 +1,3 @@
+pub mod Presenting
+pub mod Levels
+pub mod Bursting
