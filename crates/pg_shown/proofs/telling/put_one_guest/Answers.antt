@@ -6,7 +6,7 @@ use Rattle.pg_image.specs.Lines.{state_text}
 use Rattle.pg_control.specs.Guests.{virtual}
 use Rattle.pg_report.specs.Runs.{guest_line}
 use Rattle.pg_report.specs.Spans.{span}
-use Rattle.pg_shown.proofs.telling.put_one.Goals as goal
+use Rattle.pg_shown.proofs.telling.put_one_guest.Goals as goal
 
 -- what was put for a number that is the one asked for
 of_number : (P : ℕ → Type 0) (put asked : ℕ) → P put → put ≡ asked → P asked
