@@ -56,8 +56,8 @@ use entered::asked;
 use line::command_line;
 pub use pg_asked::{
     AsmWords, BareWords, Budget, CheckWords, Count, Depth, DisasmWords, Fault, FileName, GenWords,
-    Grant, Images, MigrateWords, NestWords, PrintWords, ReplayWords, Request, ResumeWords, RunWords,
-    SaveWords, Skip, Slice, Steps, VerifyWords,
+    Grant, Images, MigrateWords, NestWords, PrintWords, ReplayWords, Request, ResumeWords,
+    RunWords, SaveWords, Skip, Slice, Steps, VerifyWords,
 };
 use std::alloc::Global;
 

@@ -43,6 +43,9 @@ returns-in-Ok-clause-comes g c =
     let of : ℕ → ℕ → OneGuest = λ grant depth. record { desc = n.desc; image = n.image; cert = n.cert; grant = grant; kept = kept_cells * depth } in
     let came = subst (λ k. GuestDue (of n.grant k) told (Came l)) c.monitors-depth.ensures.monitors
     (subst (λ k. GuestDue (of k c.monitors-depth.result) told (Came l)) c.cells.ensures.cells c.in-Ok.ensures.comes) in
-    let run : ℕ → ℕ → ℕ → NestRun = λ grant depth steps. record { desc = l.desc; image = l.image; grant = grant; depth = depth; steps = steps; report = l.report } in
-    (l, came, ap (λ k. run k c.monitors-depth.result c.count.result) c.cells.ensures.cells ∙ ap (λ k. run n.grant k c.count.result) c.monitors-depth.ensures.monitors
-    ∙ ap (run n.grant n.depth) c.count.ensures.count)
+    let run : ℕ → ℕ → ℕ → NestRun = λ grant depth steps. record { desc = l.desc; image = l.image; grant = grant; depth = depth; steps = steps; report = l.report } in (
+      l,
+      came,
+      ap (λ k. run k c.monitors-depth.result c.count.result) c.cells.ensures.cells ∙ ap (λ k. run n.grant k c.count.result) c.monitors-depth.ensures.monitors
+          ∙ ap (run n.grant n.depth) c.count.ensures.count,
+    )
