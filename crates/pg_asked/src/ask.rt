@@ -38,7 +38,7 @@ pub enum Request {
     Hcheck(CheckWords),
     /// `hybrid`: run images as guests under a hybrid monitor.
     Hybrid(RunWords),
-    /// `nest`: run an image as the guest of the innermost of several monitors.
+    /// `nest`: run an image under one to four monitors, each but the outermost on the guest of the one below it.
     Nest(NestWords),
     /// `asm`: assemble a source into an image.
     Asm(AsmWords),

@@ -1,4 +1,5 @@
-//! The command `nest`: a run of an image as the guest of the innermost of several monitors, each on a guest of the one below it.
+//! The command `nest`: a run of an image under one to four monitors. The outermost runs on the hardware, each other on the guest of
+//! the one below it, and the image is the guest of the innermost.
 //!
 //! It takes three words: the names of the files with the description, with the certificate and with the image. What the guest is
 //! granted, how many steps it does, and how many monitors there are, is said by options that have to be there.

@@ -56,7 +56,7 @@ unless_fault (fault ∷ more) asked = None
 unfoldable pub request_of : List Text → Option Request
 request_of words = unless_fault (fault_of line words) (named_as (subcommand_of line words))
 
--- a command that runs images as guests
+-- a command that takes several images
 abbrev pub RunsImages : CommandName → Type 0
 RunsImages command = (command ≡ Run) ⊎ (command ≡ Hybrid)
 

@@ -10,7 +10,7 @@ use Rattle.pg_inputs.specs.Descriptions.{DescDue}
 use Rattle.pg_inputs.specs.Images.{ImageDue}
 use Rattle.pg_inputs.proofs.OneInput.{one-desc, one-image}
 use Rattle.pg_judged.specs.Certificates.{CertDue}
-use Rattle.pg_judged.specs.Guests.{OneGuest, Loaded, judged_of, behind_image, behind_room, behind_machine, GuestDue}
+use Rattle.pg_judged.specs.Guests.{GuestFiles, Loaded, judged_of, behind_image, behind_room, behind_desc, GuestDue}
 use Rattle.pg_judged.specs.Judged.{verdict_on}
 use Rattle.pg_judged.specs.Meaning.{IsAcceptedBy, Means}
 use Rattle.pg_judged.proofs.JudgedLemmas.{IsRead, certificate-read, desc-valid}
@@ -31,7 +31,7 @@ cert-accepts d family told name report valid h is =
     subst (λ (f : Family). IsAcceptedBy f d) read.of_family (subst (Means d report) is read.means.means)
 
 -- the certificate was read
-pub guest-read : (g : OneGuest) (told : Option Files) (l : Loaded) → GuestDue g told (Came l) → IsRead Plain (judged_of l)
+pub guest-read : (g : GuestFiles) (told : Option Files) (l : Loaded) → GuestDue g told (Came l) → IsRead Plain (judged_of l)
 unfolding GuestDue
 guest-read g told l h =
     subst (λ (x : Loaded). IsRead Plain (judged_of x)) (sym h.2.2.2.2)
@@ -39,18 +39,18 @@ guest-read g told l h =
 
 -- ---- one thing, for told files
 
-one-behind_image : (g : OneGuest) (files : Files) (d : Desc) (image : List ℕ) → IsOne (behind_image g (Some files) d image)
+one-behind_image : (g : GuestFiles) (files : Files) (d : Desc) (image : List ℕ) → IsOne (behind_image g (Some files) d image)
 one-behind_image g files d image =
     one-then (CertDue d Plain (Some files) g.cert) (λ report. Gives (record { desc = d; image = image; report = report })) (one-certificate d Plain files g.cert)
     (λ report. one-gives (record { desc = d; image = image; report = report }))
 
-one-behind_room : (g : OneGuest) (files : Files) (d : Desc) → IsOne (behind_room g (Some files) d)
+one-behind_room : (g : GuestFiles) (files : Files) (d : Desc) → IsOne (behind_room g (Some files) d)
 one-behind_room g files d = one-then (ImageDue (Some files) 0 g.image d.word g.grant) (behind_image g (Some files) d) (one-image files 0 g.image d.word g.grant) (one-behind_image g files d)
 
-one-behind_machine : (g : OneGuest) (files : Files) (d : Desc) → IsOne (behind_machine g (Some files) d)
-one-behind_machine g files d =
+one-behind_desc : (g : GuestFiles) (files : Files) (d : Desc) → IsOne (behind_desc g (Some files) d)
+one-behind_desc g files d =
     one-then (RoomDue g.grant (d.size - g.kept)) (λ cells. behind_room g (Some files) d) (one-room g.grant (d.size - g.kept)) (λ cells. one-behind_room g files d)
 
-pub one-guest : (files : Files) (g : OneGuest) → IsOne (GuestDue g (Some files))
+pub one-guest : (files : Files) (g : GuestFiles) → IsOne (GuestDue g (Some files))
 unfolding GuestDue
-one-guest files g = one-then (DescDue (Some files) g.desc) (behind_machine g (Some files)) (one-desc files g.desc) (one-behind_machine g files)
+one-guest files g = one-then (DescDue (Some files) g.desc) (behind_desc g (Some files)) (one-desc files g.desc) (one-behind_desc g files)

@@ -13,7 +13,7 @@ use Rattle.pg_steps.specs.Rooms.{RoomDue}
 use Rattle.pg_steps.specs.Steps.{Step, Then, Gives}
 
 -- the names of the files, how many cells the guest is granted, and how many cells monitors keep
-pub record OneGuest : Type 0 where
+pub record GuestFiles : Type 0 where
   pub desc : List ℕ
   pub image : List ℕ
   pub cert : List ℕ
@@ -31,17 +31,17 @@ abbrev pub judged_of : Loaded → Judged
 judged_of l = record { desc = l.desc; report = l.report }
 
 -- the certificate, and then all of it is there
-abbrev pub behind_image : OneGuest → Option Files → Desc → List ℕ → Step Refusal Loaded
+abbrev pub behind_image : GuestFiles → Option Files → Desc → List ℕ → Step Refusal Loaded
 behind_image g told d image = Then (CertDue d Plain told g.cert) (λ report. Gives (record { desc = d; image = image; report = report }))
 
 -- the image, and what is behind it
-abbrev pub behind_room : OneGuest → Option Files → Desc → Step Refusal Loaded
+abbrev pub behind_room : GuestFiles → Option Files → Desc → Step Refusal Loaded
 behind_room g told d = Then (ImageDue told 0 g.image d.word g.grant) (behind_image g told d)
 
 -- the room beside the cells of monitors, and what is behind that
-abbrev pub behind_machine : OneGuest → Option Files → Desc → Step Refusal Loaded
-behind_machine g told d = Then (RoomDue g.grant (d.size - g.kept)) (λ cells. behind_room g told d)
+abbrev pub behind_desc : GuestFiles → Option Files → Desc → Step Refusal Loaded
+behind_desc g told d = Then (RoomDue g.grant (d.size - g.kept)) (λ cells. behind_room g told d)
 
 -- the description, the room, the image, and the certificate
-unfoldable pub GuestDue : OneGuest → Option Files → Step Refusal Loaded
-GuestDue g told = Then (DescDue told g.desc) (behind_machine g told)
+unfoldable pub GuestDue : GuestFiles → Option Files → Step Refusal Loaded
+GuestDue g told = Then (DescDue told g.desc) (behind_desc g told)

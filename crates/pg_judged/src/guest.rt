@@ -34,11 +34,11 @@ pub struct GuestSource<'a> {
     pub image: &'a FileName,
     /// The name of the file with the certificate, by which a monitor may run the machine.
     pub cert: &'a FileName,
-    /// How many cells the guest is granted: 2 to 1,048,575.
+    /// How many cells the guest is granted: 2 or more.
     pub grant: u32,
     /// How many cells monitors keep.
     pub kept: u32,
-    /// An image has two cells.
+    /// Two or more.
     pub ghost least: { 2 ≤ grant },
 }
 

@@ -4,7 +4,7 @@
 //! for the machine is `VerdictMeans` (`specs/Meaning.antt`).
 //!
 //! - `certified`: a file to what is kept of a certificate. `machine`, `judged`: a machine with that.
-//! - `guest`: files to one guest of a machine with that. `telling`: the verdict told, and its status.
+//! - `guest`: files to one guest, its machine and the certificate by which it may run. `telling`: the verdict told, and its status.
 #![tactic(auto)]
 
 mod certified;

@@ -1,8 +1,9 @@
 //! The room that is wanted, and the room that there is.
 
-ghost use Rattle.std.specs.Prelude.{◌≡◌, ◌≤◌, ◌+◌, ◌-◌, ℕ, OnOk};
+ghost use Rattle.std.specs.Prelude.{◌≡◌, ◌≢◌, ◌≤◌, ◌+◌, ◌-◌, ℕ, Err, OnOk};
 ghost use Rattle.pg_steps.specs.Answering.{Comes};
 ghost use Rattle.pg_steps.specs.Rooms.{RoomDue, of_room};
+ghost use Rattle.pg_steps.specs.declared.refusal.Stop.TheVariants.{Memory};
 
 use crate::refusal::{Refusal, Stop};
 use pg_report::RefusalLine;
@@ -21,6 +22,7 @@ pub fn try_room(wanted: u32, kept: u32, shape: &Shape) -> Result<(), Stop>
     requires { 1 ≤ wanted }
     ensures comes { (reads : ℕ) → Comes (λ done. wanted) (RoomDue wanted (shape.now.q - kept)) reads reads result }
     ensures fits { OnOk result (kept + wanted ≤ shape.now.q) }
+    ensures no_memory { result ≢ Err Memory }
 {
     let free = shape.q.saturating_sub(kept);
     if wanted > free {

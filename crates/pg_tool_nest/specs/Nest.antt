@@ -1,4 +1,4 @@
--- `nest`: an image as the guest of the innermost of several monitors, each but the outermost on the guest of the one below it,
+-- `nest`: an image as the guest of the innermost of one to four monitors, each but the outermost on the guest of the one below it,
 -- where a certificate says that a monitor may run the machine.
 use Rattle.std.specs.Prelude.{◌≡◌, ◌*◌, ℕ, List, [], ◌∷◌, length, Option, None}
 use Rattle.pg_alloc.specs.Fit.{kept_cells}
@@ -8,7 +8,7 @@ use Rattle.pg_cert.specs.declared.cert.Family.TheVariants.{Plain}
 use Rattle.pg_cert.specs.declared.report.Report.{Report}
 use Rattle.pg_cert.specs.declared.report.Verdict.TheVariants as verdict
 use Rattle.pg_edge.specs.Shelf.{Files}
-use Rattle.pg_judged.specs.Guests.{OneGuest, Loaded, GuestDue}
+use Rattle.pg_judged.specs.Guests.{GuestFiles, Loaded, GuestDue}
 use Rattle.pg_judged.specs.Judged.{Judged, verdict_on}
 use Rattle.pg_judged.specs.Telling.{EndsBy}
 use Rattle.pg_meaning.specs.States.{State}
@@ -34,7 +34,7 @@ pub record NestRun : Type 0 where
   pub report : Report
 
 -- the files that the words name; the guest wants room beside the cells of all monitors
-abbrev pub files_of : NestWords → OneGuest
+abbrev pub files_of : NestWords → GuestFiles
 files_of n = record { desc = n.desc; image = n.image; cert = n.cert; grant = n.grant; kept = kept_cells * n.depth }
 
 -- the run of what they hold
@@ -74,8 +74,8 @@ pub record GuestNested (j : NestRun) (old new : World) (given : Status) (text : 
 pub record NestEnds (j : NestRun) (old new : World) (given : Status) (text : List ℕ) : Type 0 where
   pub by_verdict : EndsBy (verdict_on (judged_by j)) (GuestNested j) Plain (judged_by j) old new given text
 
--- without memory for the storage, the machines, the monitors or the guest nothing was put, no file saved and no step made; it is
--- taken only where the verdict accepts the machine
+-- without memory for the storage, the machines, the monitors or the guest nothing was put, no file saved and no step made; memory is
+-- taken only where the verdict accepts the machine. What some of the monitors have set up by then is not said
 pub record NestStarves (j : NestRun) (old new : World) : Type 0 where
   pub accepted : verdict_on (judged_by j) ≡ verdict.Accepted
   pub silent : new.out ≡ old.out

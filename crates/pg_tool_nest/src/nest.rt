@@ -1,4 +1,4 @@
-//! `nest`: an image as the guest of the innermost of several monitors.
+//! `nest`: an image as the guest of the innermost of one to four monitors.
 //!
 //! Description, room, image and certificate are loaded (`prepare_nest`), in the order of the definition (`NestDue`,
 //! `specs/Nest.antt`). Where its verdict does not accept the machine it is told, and nothing runs. Else the image runs under the

@@ -1,4 +1,4 @@
-//! A run under several monitors: what is loaded for it.
+//! A run under one to four monitors: what is loaded for it.
 
 ghost use Rattle.std.specs.Prelude.{◌≡◌, IfOk};
 ghost use Rattle.pg_cert.specs.declared.report.Verdict.TheVariants.{Accepted};

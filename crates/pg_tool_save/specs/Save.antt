@@ -9,7 +9,7 @@ use Rattle.pg_cert.specs.declared.report.Verdict.TheVariants as verdict
 use Rattle.pg_edge.specs.Shelf.{Files}
 use Rattle.pg_edge.specs.Told.{BothTold}
 use Rattle.pg_guests.specs.Runs.{RanGuests}
-use Rattle.pg_judged.specs.Guests.{OneGuest, Loaded, GuestDue}
+use Rattle.pg_judged.specs.Guests.{GuestFiles, Loaded, GuestDue}
 use Rattle.pg_judged.specs.Judged.{Judged, verdict_on}
 use Rattle.pg_judged.specs.Telling.{EndsBy}
 use Rattle.pg_meaning.specs.States.{State, shape_of}
@@ -37,7 +37,7 @@ pub record SaveRun : Type 0 where
   pub report : Report
 
 -- the files that the words name
-abbrev pub files_of : SaveWords → OneGuest
+abbrev pub files_of : SaveWords → GuestFiles
 files_of s = record { desc = s.desc; image = s.image; cert = s.cert; grant = s.grant; kept = kept_cells }
 
 -- the run of what they hold

@@ -1,7 +1,7 @@
 use Rattle.std.proofs.Common.{◌≡◌, ◌∙◌, ◌*◌, ◌≤◌, ℕ, Err, ap, sym, subst, arith}
 use Rattle.pg_alloc.specs.Fit.{kept_cells}
 use Rattle.pg_judged.specs.GuestViews.{loaded_guest}
-use Rattle.pg_judged.specs.Guests.{OneGuest, GuestDue}
+use Rattle.pg_judged.specs.Guests.{GuestFiles, GuestDue}
 use Rattle.pg_steps.specs.Answering.{Comes}
 use Rattle.pg_steps.specs.Steps.{Came, Gives}
 use Rattle.pg_steps.proofs.StepLemmas.{comes-stopped}
@@ -29,7 +29,7 @@ returns-in-Err-clause-comes g c =
     let told = g.F.Shelf.files c.args.shelf.now in
     let before = g.F.Shelf.reads c.args.shelf.now in
     let after = g.F.Shelf.reads c.load_guest.new.shelf in
-    let of : ℕ → ℕ → OneGuest = λ grant depth. record { desc = n.desc; image = n.image; cert = n.cert; grant = grant; kept = kept_cells * depth } in
+    let of : ℕ → ℕ → GuestFiles = λ grant depth. record { desc = n.desc; image = n.image; cert = n.cert; grant = grant; kept = kept_cells * depth } in
     let came = subst (λ k. Comes loaded_guest (GuestDue (of n.grant k) told) before after (Err c.in-Err.stop)) c.monitors-depth.ensures.monitors
     (subst (λ k. Comes loaded_guest (GuestDue (of k c.monitors-depth.result) told) before after (Err c.in-Err.stop)) c.cells.ensures.cells c.in-Err.ensures.comes) in
     comes-stopped loaded_guest nest_run (GuestDue (files_of n) told) (λ l. Gives (nest_run_of n l)) before after after c.in-Err.stop came (omega arith)
@@ -40,7 +40,7 @@ returns-in-Ok-clause-comes g c =
     let n = c.args.words.now in
     let l = loaded_guest c.in-Ok.loaded in
     let told = g.F.Shelf.files c.args.shelf.now in
-    let of : ℕ → ℕ → OneGuest = λ grant depth. record { desc = n.desc; image = n.image; cert = n.cert; grant = grant; kept = kept_cells * depth } in
+    let of : ℕ → ℕ → GuestFiles = λ grant depth. record { desc = n.desc; image = n.image; cert = n.cert; grant = grant; kept = kept_cells * depth } in
     let came = subst (λ k. GuestDue (of n.grant k) told (Came l)) c.monitors-depth.ensures.monitors
     (subst (λ k. GuestDue (of k c.monitors-depth.result) told (Came l)) c.cells.ensures.cells c.in-Ok.ensures.comes) in
     let run : ℕ → ℕ → ℕ → NestRun = λ grant depth steps. record { desc = l.desc; image = l.image; grant = grant; depth = depth; steps = steps; report = l.report } in (

@@ -1,7 +1,7 @@
 use Rattle.std.proofs.Common.{◌≡◌, ◌∙◌, ◌≤◌, ℕ, Err, ap, sym, subst, arith}
 use Rattle.pg_alloc.specs.Fit.{kept_cells}
 use Rattle.pg_judged.specs.GuestViews.{loaded_guest}
-use Rattle.pg_judged.specs.Guests.{OneGuest, GuestDue}
+use Rattle.pg_judged.specs.Guests.{GuestFiles, GuestDue}
 use Rattle.pg_steps.specs.Answering.{Comes}
 use Rattle.pg_steps.specs.Steps.{Came, Gives}
 use Rattle.pg_steps.proofs.StepLemmas.{comes-stopped}
@@ -28,7 +28,7 @@ returns-in-Err-clause-comes g c =
     let told = g.F.Shelf.files c.args.shelf.now in
     let before = g.F.Shelf.reads c.args.shelf.now in
     let after = g.F.Shelf.reads c.load_guest.new.shelf in
-    let of : ℕ → OneGuest = λ grant. record { desc = s.desc; image = s.image; cert = s.cert; grant = grant; kept = kept_cells } in
+    let of : ℕ → GuestFiles = λ grant. record { desc = s.desc; image = s.image; cert = s.cert; grant = grant; kept = kept_cells } in
     let came = subst (λ n. Comes loaded_guest (GuestDue (of n) told) before after (Err c.in-Err.stop)) c.cells.ensures.cells c.in-Err.ensures.comes in
     comes-stopped loaded_guest save_run (GuestDue (files_of s) told) (λ l. Gives (save_run_of s l)) before after after c.in-Err.stop came (omega arith)
 
@@ -38,7 +38,7 @@ returns-in-Ok-clause-comes g c =
     let s = c.args.words.now in
     let l = loaded_guest c.in-Ok.loaded in
     let told = g.F.Shelf.files c.args.shelf.now in
-    let of : ℕ → OneGuest = λ grant. record { desc = s.desc; image = s.image; cert = s.cert; grant = grant; kept = kept_cells } in
+    let of : ℕ → GuestFiles = λ grant. record { desc = s.desc; image = s.image; cert = s.cert; grant = grant; kept = kept_cells } in
     let came = subst (λ n. GuestDue (of n) told (Came l)) c.cells.ensures.cells c.in-Ok.ensures.comes in
     let run : ℕ → ℕ → SaveRun = λ grant steps. record { desc = l.desc; image = l.image; grant = grant; steps = steps; report = l.report } in
     (l, came, ap (λ n. run n c.count.result) c.cells.ensures.cells ∙ ap (run s.grant) c.count.ensures.count)
