@@ -57,7 +57,8 @@ pub fn load_guest<F: Shelf>(
     source: &GuestSource<'_>,
     shelf: &mut F,
 ) -> Result<LoadedGuest, Stop>
-    ensures comes { Comes loaded_guest (GuestDue (guest_source source.now) (F.files shelf.old)) (F.reads shelf.old) (F.reads shelf.new) result }
+    ensures comes { Comes loaded_guest (GuestDue (guest_source source.now) (F.files shelf.old)) (F.reads shelf.old)
+        (F.reads shelf.new) result }
     ensures accepts { IfOk result (λ l. verdict_on (judged l.judged) ≡ Accepted → IsAccepted l.judged.machine.desc) }
     ensures room { IfOk result (λ l. source.now.kept + source.now.grant ≤ l.judged.machine.desc.size) }
     ensures fills { IfOk result (λ l. Fills l.judged.machine.desc.word source.now.grant l.image) }
@@ -81,7 +82,8 @@ fn load_behind_room<F: Shelf>(
     shelf: &mut F,
 ) -> Result<LoadedGuest, Stop>
     requires { source.now.kept + source.now.grant ≤ machine.desc.size }
-    ensures comes { Comes loaded_guest (behind_room (guest_source source.now) (F.files shelf.old) machine.desc) (F.reads shelf.old) (F.reads shelf.new) result }
+    ensures comes { Comes loaded_guest (behind_room (guest_source source.now) (F.files shelf.old) machine.desc)
+        (F.reads shelf.old) (F.reads shelf.new) result }
     ensures accepts { IfOk result (λ l. verdict_on (judged l.judged) ≡ Accepted → IsAccepted l.judged.machine.desc) }
     ensures same { IfOk result (λ l. l.judged.machine.desc ≡ machine.desc) }
     ensures fills { IfOk result (λ l. Fills machine.desc.word source.now.grant l.image) }
@@ -101,7 +103,8 @@ fn load_behind_image<F: Shelf>(
     image: Image,
     shelf: &mut F,
 ) -> Result<LoadedGuest, Stop>
-    ensures comes { Comes loaded_guest (behind_image (guest_source source.now) (F.files shelf.old) machine.desc image) (F.reads shelf.old) (F.reads shelf.new) result }
+    ensures comes { Comes loaded_guest (behind_image (guest_source source.now) (F.files shelf.old) machine.desc image)
+        (F.reads shelf.old) (F.reads shelf.new) result }
     ensures accepts { IfOk result (λ l. verdict_on (judged l.judged) ≡ Accepted → IsAccepted l.judged.machine.desc) }
     ensures same { IfOk result (λ l. l.judged.machine.desc ≡ machine.desc) }
     ensures image { IfOk result (λ l. l.image ≡ image) }

@@ -48,7 +48,8 @@ use std::alloc::Global;
 /// The hardware has to serve every machine, with room for 1,048,575 cells, and each of its counts below 2^62. It is
 /// untouched where the command is refused, a file could not be read or a certificate not be saved. Where memory is refused no
 /// step was done, and it is untouched but in one case: where a run was due, it may have been set up for that run, its storage
-/// and program status word made and cells poked (of `nest` no clause says how). Every file is left as it was, but one that the words name to be saved.
+/// and program status word made and cells poked (of `nest` no clause says how). Every file is left as it was, but one that the
+/// words name to be saved.
 pub fn tool<F: Shelf, S: Sink, H: Hardware>(
     alloc: Global,
     words: &[String],

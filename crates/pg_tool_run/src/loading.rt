@@ -32,7 +32,8 @@ pub(crate) fn load_guests<F: Shelf>(
     files: &GuestFiles<'_>,
     shelf: &mut F,
 ) -> Result<LoadedGuests, Stop>
-    ensures comes { Comes loaded (GuestsDue family (guest_files files.now) (F.files shelf.old)) (F.reads shelf.old) (F.reads shelf.new) result }
+    ensures comes { Comes loaded (GuestsDue family (guest_files files.now) (F.files shelf.old)) (F.reads shelf.old)
+        (F.reads shelf.new) result }
     ensures accepts { IfOk result (λ l. verdict_on (judged l.judged) ≡ Accepted → IsAcceptedBy family l.judged.machine.desc) }
     ensures count { IfOk result (λ l. length l.images ≡ length files.now.images.now) }
     ensures room { IfOk result (λ l. files.now.kept + length l.images * files.now.grant ≤ l.judged.machine.desc.size) }
@@ -60,7 +61,8 @@ fn load_behind_room<F: Shelf>(
     shelf: &mut F,
 ) -> Result<LoadedGuests, Stop>
     requires { files.now.kept + length files.now.images.now * files.now.grant ≤ machine.desc.size }
-    ensures comes { Comes loaded (behind_room family (guest_files files.now) (F.files shelf.old) machine.desc) (F.reads shelf.old) (F.reads shelf.new) result }
+    ensures comes { Comes loaded (behind_room family (guest_files files.now) (F.files shelf.old) machine.desc)
+        (F.reads shelf.old) (F.reads shelf.new) result }
     ensures accepts { IfOk result (λ l. verdict_on (judged l.judged) ≡ Accepted → IsAcceptedBy family l.judged.machine.desc) }
     ensures same { IfOk result (λ l. l.judged.machine.desc ≡ machine.desc) }
     ensures count { IfOk result (λ l. length l.images ≡ length files.now.images.now) }
@@ -82,7 +84,8 @@ fn load_behind_images<F: Shelf>(
     images: Items<Image>,
     shelf: &mut F,
 ) -> Result<LoadedGuests, Stop>
-    ensures comes { Comes loaded (behind_images family (guest_files files.now) (F.files shelf.old) machine.desc images) (F.reads shelf.old) (F.reads shelf.new) result }
+    ensures comes { Comes loaded (behind_images family (guest_files files.now) (F.files shelf.old) machine.desc images)
+        (F.reads shelf.old) (F.reads shelf.new) result }
     ensures accepts { IfOk result (λ l. verdict_on (judged l.judged) ≡ Accepted → IsAcceptedBy family l.judged.machine.desc) }
     ensures same { IfOk result (λ l. l.judged.machine.desc ≡ machine.desc) }
     ensures images { IfOk result (λ l. l.images ≡ images) }

@@ -53,7 +53,8 @@ fn load_behind_machine<F: Shelf>(
     machine: Machine,
     shelf: &mut F,
 ) -> Result<ResumePlan, Stop>
-    ensures comes { Comes resume_run (behind_desc words.now (F.files shelf.old) machine.desc) (F.reads shelf.old) (F.reads shelf.new) result }
+    ensures comes { Comes resume_run (behind_desc words.now (F.files shelf.old) machine.desc) (F.reads shelf.old)
+        (F.reads shelf.new) result }
     ensures accepts { IfOk result (λ p. verdict_on (judged p.judged) ≡ Accepted → IsAccepted p.judged.machine.desc) }
     ensures reads { OnlyReads F.Shelf shelf.old shelf.new }
 {
@@ -79,7 +80,8 @@ fn load_behind_room<F: Shelf>(
 ) -> Result<ResumePlan, Stop>
     requires saved { IsSaved (shape_of machine.desc) (guest_of saved) }
     requires room { kept_cells + (saved.state.size + words.now.skip) ≤ machine.desc.size }
-    ensures comes { Comes resume_run (behind_room words.now (F.files shelf.old) machine.desc (guest_of saved)) (F.reads shelf.old) (F.reads shelf.new) result }
+    ensures comes { Comes resume_run (behind_room words.now (F.files shelf.old) machine.desc (guest_of saved))
+        (F.reads shelf.old) (F.reads shelf.new) result }
     ensures accepts { IfOk result (λ p. verdict_on (judged p.judged) ≡ Accepted → IsAccepted p.judged.machine.desc) }
     ensures reads { OnlyReads F.Shelf shelf.old shelf.new }
 {
