@@ -7,7 +7,6 @@ use Rattle.pg_ast.specs.declared.tree.Desc.{Desc}
 use Rattle.pg_cert.specs.declared.cert.Family.TheVariants.{Plain}
 use Rattle.pg_cert.specs.declared.report.Verdict.TheVariants.{Accepted}
 use Rattle.pg_edge.specs.Shelf.{Files}
-use Rattle.pg_hw.specs.Machinery.{Machinery}
 use Rattle.pg_image.specs.Lines.{state_text}
 use Rattle.pg_inputs.specs.Images.{Fills}
 use Rattle.pg_judged.specs.Judged.{verdict_on, verdict_status, verdict_told}
@@ -15,8 +14,9 @@ use Rattle.pg_judged.proofs.GuestLemmas.{guest-read}
 use Rattle.pg_judged.proofs.JudgedLemmas.{IsRead}
 use Rattle.pg_judged.proofs.TellingLemmas.{ends-told, ends-left, verdict-ends}
 use Rattle.pg_meaning.specs.States.{State, IsState}
-use Rattle.pg_meaning.specs.Steps.{bare, power_on, steps}
-use Rattle.pg_nest_guests.specs.Nesting.{CanNest, HoldsNested, RanNested}
+use Rattle.pg_meaning.specs.Steps.{bare, power_on}
+use Rattle.pg_nest_guests.specs.Nesting.{CanNest, IsInnermost, RanNested, direct_steps}
+use Rattle.pg_nest_guests.specs.declared.nesting.Innermost.{Innermost}
 use Rattle.pg_report.specs.Runs.{guest_line, run_text, steps_line}
 use Rattle.pg_report.specs.Spans.{span}
 use Rattle.pg_steps.specs.Steps.{Came}
@@ -26,6 +26,7 @@ use Rattle.pg_tool_nest.specs.Nest.{NestRun, NestDue, NestEnds, GuestNested, fil
 use Rattle.pg_type.specs.Accepting.{IsAccepted}
 use Rattle.pg_valid.proofs.StepSound.{power_on-state, steps-state}
 use Rattle.pg_valid.specs.Valid.{IsValid}
+use Rattle.pg_word.specs.declared.psw.Psw.{Psw}
 
 -- ---- that there is such a run
 
@@ -72,4 +73,26 @@ reached-words d image depth n valid can =
 -- the text of one guest
 pub one-text : (w : ℕ) (s : State) (n direct : ℕ) → (guest_line 0 ++ state_text w s.cells s.psw) ++ steps_line n direct ≡ run_text w (s ∷ []) n direct
 unfolding run_text
-one-text w s n direct = ap (λ t. (guest_line 0 ++ t) ++ steps_line n direct) (sym (append-nil (state_text w s.cells s.psw)))
+one-text w s n direct = ap (λ t. t ++ steps_line n direct) (sym (append-nil (guest_line 0 ++ state_text w s.cells s.psw)))
+
+-- the text of the guest, whose cells lie behind those of all monitors, and of its steps
+pub nested-text : (j : NestRun) (cells : List ℕ) (x : Innermost) → length j.image ≡ j.grant → IsInnermost j.desc j.image j.steps x →
+    span (kept_cells * j.depth) (length j.image) cells ≡ (bare j.desc j.image (length j.image) j.steps).cells →
+    (guest_line 0 ++ state_text j.desc.word (span (kept_cells * j.depth) j.grant cells) x.psw) ++ steps_line j.steps x.direct ≡ told_of j
+nested-text j cells x whole inner held =
+    let w = j.desc.word in
+    let s : State = bare j.desc j.image j.grant j.steps in
+    let same_cells : span (kept_cells * j.depth) j.grant cells ≡ s.cells =
+    subst (λ m. span (kept_cells * j.depth) m cells ≡ (bare j.desc j.image m j.steps).cells) whole held in
+    let same_psw : x.psw ≡ s.psw = subst (λ m. x.psw ≡ (bare j.desc j.image m j.steps).psw) whole inner.psw in
+    ap (λ (cs : List ℕ). (guest_line 0 ++ state_text w cs x.psw) ++ steps_line j.steps x.direct) same_cells
+    ∙ ap (λ (psw : Psw). (guest_line 0 ++ state_text w s.cells psw) ++ steps_line j.steps x.direct) same_psw
+    ∙ ap (λ (k : ℕ). (guest_line 0 ++ state_text w s.cells s.psw) ++ steps_line j.steps k) inner.direct
+    ∙ one-text w s j.steps (direct_steps j.desc j.image j.steps)
+
+-- and its cells are words of the machine
+pub nested-words : (d : Desc) (image : List ℕ) (grant depth n : ℕ) (cells : List ℕ) → IsValid d → CanNest depth d image n → length image ≡ grant →
+    span (kept_cells * depth) (length image) cells ≡ (bare d image (length image) n).cells → All (λ cell. cell < 2 ^ d.word) (span (kept_cells * depth) grant cells)
+nested-words d image grant depth n cells valid can whole held =
+    subst (λ m. All (λ cell. cell < 2 ^ d.word) (span (kept_cells * depth) m cells)) whole
+    (subst (λ (cs : List ℕ). All (λ cell. cell < 2 ^ d.word) cs) (sym held) (reached-words d image depth n valid can))

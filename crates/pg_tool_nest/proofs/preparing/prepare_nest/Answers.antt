@@ -1,4 +1,4 @@
-use Rattle.std.proofs.Common.{◌≡◌, ◌∙◌, ◌*◌, ◌≤◌, ℕ, Err, ap, sym, subst, arith}
+use Rattle.std.proofs.Common.{◌∙◌, ◌*◌, ◌≤◌, ℕ, Err, ap, subst, arith}
 use Rattle.pg_alloc.specs.Fit.{kept_cells}
 use Rattle.pg_judged.specs.GuestViews.{loaded_guest}
 use Rattle.pg_judged.specs.Guests.{GuestFiles, GuestDue}
