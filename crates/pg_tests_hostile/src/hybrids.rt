@@ -67,6 +67,29 @@ fn run(
     Ok(Pair { hw, guests })
 }
 
+/// A guest alone that has six turns, by each call that gives turns.
+pub(crate) fn turned(
+    rt: &impl Abort,
+    alloc: Global,
+    accepted: HybridAccepted<'_>,
+    image: &Image,
+) -> Result<Pair, Fail>
+    requires { IsImage accepted.machine.now.desc image.now }
+{
+    let mut hw = Spy::new(Rig::new(alloc));
+    let mut monitor = taken(alloc, accepted, &mut hw)?;
+    load(&mut monitor, &mut hw, image)?;
+    assert_eq!(rt; monitor.len(), 1);
+    monitor.turn(&mut hw, 0);
+    assert_eq!(rt; monitor.len(), 1);
+    monitor.turns(&mut hw, 0, 2);
+    assert_eq!(rt; monitor.len(), 1);
+    monitor.run(&mut hw, &[(0, 1), (0, 2)]);
+    assert_eq!(rt; monitor.len(), 1);
+    let guests = [monitor.guest(0)].to_vec(alloc)?;
+    Ok(Pair { hw, guests })
+}
+
 /// Two guests, of which each ends where a bare machine does, and nothing is poked but their cells.
 pub(crate) fn expect(
     rt: &impl Abort,

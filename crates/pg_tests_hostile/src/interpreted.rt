@@ -2,9 +2,9 @@
 //! theirs in user mode, where the hardware does it.
 
 use crate::hostile::HOSTILE;
-use crate::hybrids::expect;
+use crate::hybrids::{expect, turned};
 use crate::pairs::is_at;
-use crate::setting::{hybrid_accepted, machine};
+use crate::setting::{hybrid_accepted, image, machine};
 use pg_hw::Hardware;
 use pg_machine::Machine;
 use pg_samples::{EDGES, LOOP, M0};
@@ -60,25 +60,45 @@ fn windows_past_a_grant_reach_nothing_in_user_mode(rt: HostRuntime) -> Result<()
     for l in EDGES {
         for b in EDGES {
             // Wherever the window begins, its cell 3 has the jump, if it has one.
-            let image = format!(in alloc; "1: 00020008 0400{l}{b} 05000004 05000004 05000004 05000004 05000004\n")?;
+            let image = format!(in alloc;
+                "1: 00020008 0400{l}{b} 05000004 05000004 05000004 05000004 05000004\n"
+            )?;
             expect(&rt, alloc, accepted, (image.as_str(), LOOP), 8)?;
         }
     }
     Ok(())
 }
 
-/// A guest that adds in user mode and calls the supervisor, over and over, beside one without an instruction. Of its six turns
-/// four begin in user mode, and the hardware steps those; two of them are direct.
+/// A guest that adds in user mode and calls the supervisor, over and over. Of its six turns four begin in user mode, and the
+/// hardware steps those; two of them are direct.
 #[test]
 fn the_hardware_steps_in_user_mode_alone(rt: HostRuntime) -> Result<(), Fail> {
     let alloc = rt.alloc();
     let machine = with_rtu(alloc)?;
     let accepted = hybrid_accepted(alloc, &machine)?;
-    let calls = "1: 00020008 05000003 01060506 03000000 00000002\n";
-    let pair = expect(&rt, alloc, accepted, (calls, ""), 6)?;
-    let on = Psw::power_on(8);
-    let cells = [0x0104_0008, 0x0002_0008, 0x0500_0003, 0x0106_0506, 0x0300_0000, 2, 4, 0];
-    assert!(rt; on.mode == Mode::S && is_at(&pair, 0, on, &cells));
+    let calls = image(
+        alloc,
+        &machine,
+        "1: 00020008 05000003 01060506 03000000 00000002\n",
+    )?;
+    let pair = turned(&rt, alloc, accepted, &calls)?;
+    let on = Psw {
+        mode: Mode::S,
+        p: 2,
+        l: 0,
+        b: 8,
+    };
+    let cells = [
+        0x0104_0008,
+        0x0002_0008,
+        0x0500_0003,
+        0x0106_0506,
+        0x0300_0000,
+        2,
+        4,
+        0,
+    ];
+    assert!(rt; is_at(&pair, 0, on, &cells));
     assert_eq!(rt; pair.hw.counts().steps, 4);
     assert_eq!(rt; pair.hw.counts().untrapped, 2);
     Ok(())

@@ -39,10 +39,7 @@ pub(crate) fn accepted(alloc: Global, machine: &Machine) -> Result<Accepted<'_>,
 }
 
 /// A machine that a hybrid monitor may run, as is known by the certificate that is found of it.
-pub(crate) fn hybrid_accepted(
-    alloc: Global,
-    machine: &Machine,
-) -> Result<HybridAccepted<'_>, Fail>
+pub(crate) fn hybrid_accepted(alloc: Global, machine: &Machine) -> Result<HybridAccepted<'_>, Fail>
     ensures { IfOk result (λ a. a.machine.now ≡ machine.now) }
 {
     let cert = classify_hybrid(alloc, machine, 20_000)?;
