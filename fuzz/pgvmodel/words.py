@@ -71,7 +71,7 @@ FORMS = {
     "migrate": Form("DESC CERT FILE", 3, saves_last=True),
     "hcheck": Form("DESC --cert FILE [--budget K]", 1, ("cert",), {"budget": BUDGET}),
     "hybrid": Form(_OF_GUESTS, 3, ("grant", "steps"), {"slice": SLICE}, more_files=MOST_IMAGES - 1),
-    "nest": Form("DESC CERT IMAGE --grant G --steps N --depth D", 3, ("grant", "steps", "depth"), is_on=False),
+    "nest": Form("DESC CERT IMAGE --grant G --steps N --depth D", 3, ("grant", "steps", "depth")),
     "asm": Form("DESC SOURCE --grant G", 2, ("grant",)),
     "disasm": Form("DESC IMAGE --grant G", 2, ("grant",)),
     "save": Form("DESC CERT IMAGE FILE --grant G --steps N", 4, ("grant", "steps"), saves_last=True),

@@ -12,16 +12,17 @@ use Rattle.pg_asked.specs.Generating.{gen}
 use Rattle.pg_asked.specs.Migrate.{migrate}
 use Rattle.pg_asked.specs.Hcheck.{hcheck}
 use Rattle.pg_asked.specs.Hybrid.{hybrid}
+use Rattle.pg_asked.specs.Nest.{nest}
 use Rattle.pg_asked.specs.Asm.{asm}
 use Rattle.pg_asked.specs.Disasm.{disasm}
 use Rattle.pg_asked.specs.Save.{save}
 use Rattle.pg_asked.specs.Resume.{resume}
 use Rattle.pg_asked.specs.declared.names.CommandName.{CommandName}
-use Rattle.pg_asked.specs.declared.names.CommandName.TheVariants.{Asm, Bare, Check, Disasm, Gen, Hcheck, Hybrid, Migrate, Print, Replay, Resume, Run, Save, Verify}
+use Rattle.pg_asked.specs.declared.names.CommandName.TheVariants.{Asm, Bare, Check, Disasm, Gen, Hcheck, Hybrid, Migrate, Nest, Print, Replay, Resume, Run, Save, Verify}
 
 -- the commands, in the order in which they are told
 abbrev pub commands : List CommandName
-commands = Bare ∷ Check ∷ Verify ∷ Replay ∷ Run ∷ Print ∷ Gen ∷ Migrate ∷ Hcheck ∷ Hybrid ∷ Asm ∷ Disasm ∷ Save ∷ Resume ∷ []
+commands = Bare ∷ Check ∷ Verify ∷ Replay ∷ Run ∷ Print ∷ Gen ∷ Migrate ∷ Hcheck ∷ Hybrid ∷ Nest ∷ Asm ∷ Disasm ∷ Save ∷ Resume ∷ []
 
 -- how a command is called
 abbrev pub synopsis : CommandName → Synopsis
@@ -35,6 +36,7 @@ synopsis Gen = gen
 synopsis Migrate = migrate
 synopsis Hcheck = hcheck
 synopsis Hybrid = hybrid
+synopsis Nest = nest
 synopsis Asm = asm
 synopsis Disasm = disasm
 synopsis Save = save

@@ -7,6 +7,7 @@ pub mod Generating
 pub mod Hcheck
 pub mod Hybrid
 pub mod Migrate
+pub mod Nest
 pub mod Print
 pub mod Replay
 pub mod Resume

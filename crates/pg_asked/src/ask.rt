@@ -7,6 +7,7 @@ use crate::check::CheckWords;
 use crate::disasm::DisasmWords;
 use crate::generating::GenWords;
 use crate::migrate::MigrateWords;
+use crate::nest::NestWords;
 use crate::print::PrintWords;
 use crate::replay::ReplayWords;
 use crate::resume::ResumeWords;
@@ -37,6 +38,8 @@ pub enum Request {
     Hcheck(CheckWords),
     /// `hybrid`: run images as guests under a hybrid monitor.
     Hybrid(RunWords),
+    /// `nest`: run an image under one to four monitors, each but the outermost on the guest of the one below it.
+    Nest(NestWords),
     /// `asm`: assemble a source into an image.
     Asm(AsmWords),
     /// `disasm`: write an image as a source.

@@ -16,8 +16,8 @@
 //!
 //! - `ask`: what is asked for, and why there is nothing that is asked for. `names`: the commands and their table. `synopsis`:
 //!   how a command is called, as plain data.
-//! - `bare`, `check`, `verify`, `replay`, `run`, `print`, `generating` (the command `gen`), `migrate`, `hcheck`, `hybrid`, `asm`,
-//!   `disasm`, `save`, `resume`: the commands.
+//! - `bare`, `check`, `verify`, `replay`, `run`, `print`, `generating` (the command `gen`), `migrate`, `hcheck`, `hybrid`, `nest`,
+//!   `asm`, `disasm`, `save`, `resume`: the commands.
 //! - `running`: the arguments of commands that run images. `values`: what arguments give.
 #![tactic(auto)]
 
@@ -31,6 +31,7 @@ mod hcheck;
 mod hybrid;
 mod migrate;
 mod names;
+mod nest;
 mod print;
 mod replay;
 mod resume;
@@ -49,11 +50,12 @@ pub use disasm::DisasmWords;
 pub use generating::GenWords;
 pub use migrate::MigrateWords;
 pub use names::{CommandName, commands};
+pub use nest::NestWords;
 pub use print::PrintWords;
 pub use replay::ReplayWords;
 pub use resume::ResumeWords;
 pub use run::RunWords;
 pub use save::SaveWords;
 pub use synopsis::{Argument, Range, Synopsis};
-pub use values::{Budget, Count, FileName, Grant, Images, Skip, Slice, Steps};
+pub use values::{Budget, Count, Depth, FileName, Grant, Images, Skip, Slice, Steps};
 pub use verify::VerifyWords;

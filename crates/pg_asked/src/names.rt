@@ -13,6 +13,7 @@ use crate::generating::GEN;
 use crate::hcheck::HCHECK;
 use crate::hybrid::HYBRID;
 use crate::migrate::MIGRATE;
+use crate::nest::NEST;
 use crate::print::PRINT;
 use crate::replay::REPLAY;
 use crate::resume::RESUME;
@@ -44,6 +45,8 @@ pub enum CommandName {
     Hcheck,
     /// `hybrid`
     Hybrid,
+    /// `nest`
+    Nest,
     /// `asm`
     Asm,
     /// `disasm`
@@ -69,6 +72,7 @@ pub fn commands() -> &'static [CommandName]
         CommandName::Migrate,
         CommandName::Hcheck,
         CommandName::Hybrid,
+        CommandName::Nest,
         CommandName::Asm,
         CommandName::Disasm,
         CommandName::Save,
@@ -106,6 +110,7 @@ impl CommandName {
             CommandName::Migrate => MIGRATE,
             CommandName::Hcheck => HCHECK,
             CommandName::Hybrid => HYBRID,
+            CommandName::Nest => NEST,
             CommandName::Asm => ASM,
             CommandName::Disasm => DISASM,
             CommandName::Save => SAVE,

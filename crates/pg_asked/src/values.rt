@@ -296,3 +296,39 @@ impl Skip {
         self.cells
     }
 }
+
+/// How many monitors there are, each but the outermost on a guest of the one below it: 1 to 4.
+#[derive(Drop)]
+pub struct Depth {
+    monitors: u32,
+}
+
+impl Model for Depth {
+    ghost use Rattle.std.specs.Prelude.{◌≤◌, ℕ};
+
+    ghost Value = { ℕ };
+
+    ghost view = { λ depth. depth.monitors };
+
+    ghost invariant = { λ depth. (1 ≤ depth.monitors) × (depth.monitors ≤ 4) };
+}
+
+impl Depth {
+    /// The depth of so many monitors.
+    pub fn new(monitors: u32) -> Depth
+        requires least { 1 ≤ monitors }
+        requires most { monitors ≤ 4 }
+        ensures { result ≡ monitors }
+    {
+        Depth { monitors }
+    }
+
+    /// The number of monitors.
+    pub fn monitors(&self) -> u32
+        ensures monitors { result ≡ self.now }
+        ensures least { 1 ≤ self.now }
+        ensures most { self.now ≤ 4 }
+    {
+        self.monitors
+    }
+}

@@ -1,10 +1,9 @@
 //! The assembler and the disassembler, for any description.
 //!
 //! `assemble` reads the text of a source into an image, `listing` writes the text of an image, and `disassemble` writes an image as
-//! a source that gives it. Below them
-//! `word_of` makes the word of an instruction and of values for its fields, and `decode` finds both of a word. The
-//! definitions stand in `specs/`: `Words` says which word is meant, `Said` what a line says, `Sources` which image or fault is
-//! due, and `Texts` what is written.
+//! a source that gives it. Below them `word_of` makes the word of an instruction and of values for its fields, and `decode` finds
+//! both of a word. The definitions stand in `specs/`: `Words` says which word is meant, `Said` what a line says, `Sources` which
+//! image or fault is due, and `Texts` what is written.
 //!
 //! # What the bytes of a source mean
 //!

@@ -6,7 +6,7 @@ use Rattle.std.proofs.lemmas.Bool.{cases_lt, le-leb, lt-leb}
 use Rattle.clap.specs.Walk.{Row, Text, first_of}
 use Rattle.pg_asked.specs.declared.ask.Request.TheVariants as request
 use Rattle.pg_asked.specs.declared.names.CommandName.{CommandName}
-use Rattle.pg_asked.specs.declared.names.CommandName.TheVariants.{Asm, Bare, Check, Disasm, Gen, Hcheck, Hybrid, Migrate, Print, Replay, Resume, Run, Save, Verify}
+use Rattle.pg_asked.specs.declared.names.CommandName.TheVariants.{Asm, Bare, Check, Disasm, Gen, Hcheck, Hybrid, Migrate, Nest, Print, Replay, Resume, Run, Save, Verify}
 use Rattle.pg_asked.specs.declared.run.RunWords.{RunWords}
 use Rattle.pg_command.specs.Arguments.{HasText, number_or, with_number}
 use Rattle.pg_command.specs.Asked.{RunsImages, asked_of}
@@ -57,6 +57,14 @@ all_ask Hybrid rows h = elim (cases_lt most_images (length (image_names rows))) 
     h.1.1.1.1.0.number.is_value,
   ) refl)
 ]
+all_ask Nest rows h = inl (rw (
+  (text_of _ rows h.0).1,
+  (text_of _ rows h.1.0).1,
+  (text_of _ rows h.1.1.0).1,
+  h.1.1.1.0.number.is_value,
+  h.1.1.1.1.0.number.is_value,
+  h.1.1.1.1.1.0.number.is_value,
+) refl)
 all_ask Asm rows h = inl (rw ((text_of _ rows h.0).1, (text_of _ rows h.1.0).1, h.1.1.0.number.is_value) refl)
 all_ask Disasm rows h = inl (rw ((text_of _ rows h.0).1, (text_of _ rows h.1.0).1, h.1.1.0.number.is_value) refl)
 all_ask Save rows h = inl (rw (

@@ -9,7 +9,7 @@ use Rattle.clap.specs.Faults.{entered_fault, fault_of, is_simple_and_free, level
 use Rattle.clap.proofs.OnLiterals.{clap_on_literals}
 use Rattle.pg_asked.specs.Commands.{commands, named, synopsis}
 use Rattle.pg_asked.specs.declared.names.CommandName.{CommandName}
-use Rattle.pg_asked.specs.declared.names.CommandName.TheVariants.{Asm, Bare, Check, Disasm, Gen, Hcheck, Hybrid, Migrate, Print, Replay, Resume, Run, Save, Verify}
+use Rattle.pg_asked.specs.declared.names.CommandName.TheVariants.{Asm, Bare, Check, Disasm, Gen, Hcheck, Hybrid, Migrate, Nest, Print, Replay, Resume, Run, Save, Verify}
 use Rattle.pg_command.specs.Line.{line}
 use Rattle.pg_command.specs.Entered.{HoldsCommand}
 use Rattle.pg_command.proofs.LeafLaws.{command_met}
@@ -38,6 +38,7 @@ named_by Gen = refl
 named_by Migrate = refl
 named_by Hcheck = refl
 named_by Hybrid = refl
+named_by Nest = refl
 named_by Asm = refl
 named_by Disasm = refl
 named_by Save = refl

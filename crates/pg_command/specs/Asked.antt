@@ -8,7 +8,7 @@ use Rattle.pg_asked.specs.Commands.{commands, named, synopsis}
 use Rattle.pg_asked.specs.declared.ask.Request.{Request}
 use Rattle.pg_asked.specs.declared.ask.Request.TheVariants as request
 use Rattle.pg_asked.specs.declared.names.CommandName.{CommandName}
-use Rattle.pg_asked.specs.declared.names.CommandName.TheVariants.{Asm, Bare, Check, Disasm, Gen, Hcheck, Hybrid, Migrate, Print, Replay, Resume, Run, Save, Verify}
+use Rattle.pg_asked.specs.declared.names.CommandName.TheVariants.{Asm, Bare, Check, Disasm, Gen, Hcheck, Hybrid, Migrate, Nest, Print, Replay, Resume, Run, Save, Verify}
 use Rattle.pg_command.specs.Line.{line}
 use Rattle.pg_command.specs.Bare.{bare_of}
 use Rattle.pg_command.specs.Check.{check_of}
@@ -18,6 +18,7 @@ use Rattle.pg_command.specs.Run.{HasTooManyImages, run_of}
 use Rattle.pg_command.specs.Print.{print_of}
 use Rattle.pg_command.specs.Generating.{gen_of}
 use Rattle.pg_command.specs.Migrate.{migrate_of}
+use Rattle.pg_command.specs.Nest.{nest_of}
 use Rattle.pg_command.specs.Asm.{asm_of}
 use Rattle.pg_command.specs.Disasm.{disasm_of}
 use Rattle.pg_command.specs.Save.{save_of}
@@ -35,6 +36,7 @@ asked_of Gen rows = option_map request.Gen (gen_of rows)
 asked_of Migrate rows = option_map request.Migrate (migrate_of rows)
 asked_of Hcheck rows = option_map request.Hcheck (check_of rows)
 asked_of Hybrid rows = option_map request.Hybrid (run_of rows)
+asked_of Nest rows = option_map request.Nest (nest_of rows)
 asked_of Asm rows = option_map request.Asm (asm_of rows)
 asked_of Disasm rows = option_map request.Disasm (disasm_of rows)
 asked_of Save rows = option_map request.Save (save_of rows)
@@ -54,7 +56,7 @@ unless_fault (fault ∷ more) asked = None
 unfoldable pub request_of : List Text → Option Request
 request_of words = unless_fault (fault_of line words) (named_as (subcommand_of line words))
 
--- a command that runs images as guests
+-- a command that takes several images
 abbrev pub RunsImages : CommandName → Type 0
 RunsImages command = (command ≡ Run) ⊎ (command ≡ Hybrid)
 

@@ -8,6 +8,7 @@ pub mod Entered
 pub mod Generating
 pub mod Line
 pub mod Migrate
+pub mod Nest
 pub mod Print
 pub mod Replay
 pub mod Resume

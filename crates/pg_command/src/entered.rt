@@ -5,8 +5,8 @@ ghost use Rattle.pg_command.specs.Asked.{asked_of, named_as};
 ghost use Rattle.pg_command.specs.Entered.{HoldsCommand, HoldsRows};
 
 use crate::{
-    asm, bare, check, disasm, generating, hcheck, hybrid, migrate, print, replay, resume, run,
-    save, verify,
+    asm, bare, check, disasm, generating, hcheck, hybrid, migrate, nest, print, replay, resume,
+    run, save, verify,
 };
 use clap::ArgMatches;
 use pg_asked::{CommandName, Request};
@@ -42,6 +42,7 @@ fn asked_of(
         CommandName::Migrate => migrate::asked(alloc, matches),
         CommandName::Hcheck => hcheck::asked(alloc, matches),
         CommandName::Hybrid => hybrid::asked(alloc, matches),
+        CommandName::Nest => nest::asked(alloc, matches),
         CommandName::Asm => asm::asked(alloc, matches),
         CommandName::Disasm => disasm::asked(alloc, matches),
         CommandName::Save => save::asked(alloc, matches),

@@ -19,8 +19,8 @@
 //! # Modules
 //!
 //! - `line`: the whole line. `entered`: the command that was named, and what it asks for.
-//! - `bare`, `check`, `verify`, `replay`, `run`, `print`, `generating` (the command `gen`), `migrate`, `hcheck`, `hybrid`, `asm`,
-//!   `disasm`, `save`, `resume`: what each command asks for. `running`: what the arguments of commands that run images give.
+//! - `bare`, `check`, `verify`, `replay`, `run`, `print`, `generating` (the command `gen`), `migrate`, `hcheck`, `hybrid`, `nest`,
+//!   `asm`, `disasm`, `save`, `resume`: what each command asks for. `running`: what the arguments of commands that run images give.
 //! - `arguments`: how `clap` is told of an argument, and how its value is read.
 #![tactic(auto)]
 
@@ -42,6 +42,7 @@ mod hcheck;
 mod hybrid;
 mod line;
 mod migrate;
+mod nest;
 mod print;
 mod replay;
 mod resume;
@@ -54,9 +55,9 @@ use clap::error::ErrorKind;
 use entered::asked;
 use line::command_line;
 pub use pg_asked::{
-    AsmWords, BareWords, Budget, CheckWords, Count, DisasmWords, Fault, FileName, GenWords, Grant,
-    Images, MigrateWords, PrintWords, ReplayWords, Request, ResumeWords, RunWords, SaveWords, Skip,
-    Slice, Steps, VerifyWords,
+    AsmWords, BareWords, Budget, CheckWords, Count, Depth, DisasmWords, Fault, FileName, GenWords,
+    Grant, Images, MigrateWords, NestWords, PrintWords, ReplayWords, Request, ResumeWords,
+    RunWords, SaveWords, Skip, Slice, Steps, VerifyWords,
 };
 use std::alloc::Global;
 

@@ -84,8 +84,10 @@ pub fn run_guests<'m, H: Hardware>(
     requires counts { CanCount (H.machinery hw.old).tally }
     requires can_run { CanRun (run_of accepted.machine.now images.now slice steps) }
     ensures have_run { IfOk result (λ ran. HaveRun (run_of accepted.entry.machine.now images.now slice steps) ran (H.machinery hw.new)) }
-    ensures ran { OnOk result (RanGuests (run_of accepted.entry.machine.now images.now slice steps) (H.machinery hw.old) (H.machinery hw.new)) }
-    ensures set_up { OnErr result (SetUp (run_of accepted.entry.machine.now images.now slice steps) (H.machinery hw.old) (H.machinery hw.new)) }
+    ensures ran { OnOk result (RanGuests (run_of accepted.entry.machine.now images.now slice steps) (H.machinery hw.old)
+        (H.machinery hw.new)) }
+    ensures set_up { OnErr result (SetUp (run_of accepted.entry.machine.now images.now slice steps) (H.machinery hw.old)
+        (H.machinery hw.new)) }
     ensures fixed { H.fixed hw.new ≡ H.fixed hw.old }
 {
     let mut monitor = match start(alloc, accepted, images, hw) {
@@ -116,9 +118,12 @@ pub fn run_state<'m, H: Hardware>(
     requires room { accepted.machine.now.desc.size ≤ H.room (H.fixed hw.old) }
     requires counts { CanCount (H.machinery hw.old).tally }
     requires can_run { CanRun (state_run accepted.machine.now skip (state_of state.now) slice steps) }
-    ensures have_run { IfOk result (λ ran. HaveRun (state_run accepted.entry.machine.now skip (state_of state.now) slice steps) ran (H.machinery hw.new)) }
-    ensures ran { OnOk result (RanGuests (state_run accepted.entry.machine.now skip (state_of state.now) slice steps) (H.machinery hw.old) (H.machinery hw.new)) }
-    ensures set_up { OnErr result (SetUp (state_run accepted.entry.machine.now skip (state_of state.now) slice steps) (H.machinery hw.old) (H.machinery hw.new)) }
+    ensures have_run { IfOk result (λ ran. HaveRun (state_run accepted.entry.machine.now skip (state_of state.now) slice steps)
+        ran (H.machinery hw.new)) }
+    ensures ran { OnOk result (RanGuests (state_run accepted.entry.machine.now skip (state_of state.now) slice steps)
+        (H.machinery hw.old) (H.machinery hw.new)) }
+    ensures set_up { OnErr result (SetUp (state_run accepted.entry.machine.now skip (state_of state.now) slice steps)
+        (H.machinery hw.old) (H.machinery hw.new)) }
     ensures fixed { H.fixed hw.new ≡ H.fixed hw.old }
 {
     let monitor = match start_state(alloc, accepted, skip, state, hw) {
@@ -137,8 +142,10 @@ fn run_on<'m, H: Hardware>(mut monitor: Monitor<'m>, slice: u64, steps: u64, hw:
     requires count { (H.machinery hw.old).tally.untrapped < 2 ^ 63 }
     ensures machine { result.monitor.accepted.machine.now ≡ monitor.entry.accepted.machine.now }
     ensures stands { Stands (desc_of monitor.entry) (H.machinery hw.new).state result.monitor.guests result.monitor.current }
-    ensures states { virtuals (H.machinery hw.new).state.cells result.monitor.guests ≡ map (stepped (desc_of monitor.entry) steps) (virtuals (H.machinery hw.old).state.cells monitor.entry.guests) }
-    ensures followed { Followed (desc_of monitor.entry) (schedule (length monitor.entry.guests) slice steps) (H.machinery hw.old) (H.machinery hw.new) monitor.entry.guests result.monitor.guests monitor.entry.current result.monitor.current }
+    ensures states { virtuals (H.machinery hw.new).state.cells result.monitor.guests ≡ map
+        (stepped (desc_of monitor.entry) steps) (virtuals (H.machinery hw.old).state.cells monitor.entry.guests) }
+    ensures followed { Followed (desc_of monitor.entry) (schedule (length monitor.entry.guests) slice steps)
+        (H.machinery hw.old) (H.machinery hw.new) monitor.entry.guests result.monitor.guests monitor.entry.current result.monitor.current }
     ensures turns { result.turns ≡ length monitor.entry.guests * steps }
     ensures direct { (H.machinery hw.old).tally.untrapped + result.direct ≡ (H.machinery hw.new).tally.untrapped }
     ensures fixed { H.fixed hw.new ≡ H.fixed hw.old }

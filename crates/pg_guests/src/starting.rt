@@ -30,7 +30,8 @@ pub(crate) fn start<'m, H: Hardware>(
     requires fit { HaveRoom accepted.machine.now.desc kept_cells (switched_on images.now) }
     ensures machine { IfOk result (λ m. m.accepted.machine.now ≡ accepted.entry.machine.now) }
     ensures begun { IfOk result (λ m. IsBegun kept_cells (switched_on images.now) (kept_by m) (H.machinery hw.new)) }
-    ensures made { OnOk result (H.machinery hw.new ≡ loaded_for accepted.entry.machine.now.desc kept_cells (switched_on images.now) (H.machinery hw.old)) }
+    ensures made { OnOk result (H.machinery hw.new ≡ loaded_for accepted.entry.machine.now.desc kept_cells
+        (switched_on images.now) (H.machinery hw.old)) }
     ensures set_up { OnErr result (SetUp (run_of accepted.entry.machine.now images.now 1 0) (H.machinery hw.old) (H.machinery hw.new)) }
     ensures fixed { H.fixed hw.new ≡ H.fixed hw.old }
 {
@@ -58,8 +59,10 @@ pub(crate) fn start_state<'m, H: Hardware>(
     requires fit { HaveRoom accepted.machine.now.desc (kept_cells + skip) (state_of state.now ∷ []) }
     ensures machine { IfOk result (λ m. m.accepted.machine.now ≡ accepted.entry.machine.now) }
     ensures begun { IfOk result (λ m. IsBegun (kept_cells + skip) (state_of state.now ∷ []) (kept_by m) (H.machinery hw.new)) }
-    ensures made { OnOk result (H.machinery hw.new ≡ loaded_for accepted.entry.machine.now.desc (kept_cells + skip) (state_of state.now ∷ []) (H.machinery hw.old)) }
-    ensures set_up { OnErr result (SetUp (state_run accepted.entry.machine.now skip (state_of state.now) 1 0) (H.machinery hw.old) (H.machinery hw.new)) }
+    ensures made { OnOk result (H.machinery hw.new ≡ loaded_for accepted.entry.machine.now.desc (kept_cells + skip)
+        (state_of state.now ∷ []) (H.machinery hw.old)) }
+    ensures set_up { OnErr result (SetUp (state_run accepted.entry.machine.now skip (state_of state.now) 1 0)
+        (H.machinery hw.old) (H.machinery hw.new)) }
     ensures fixed { H.fixed hw.new ≡ H.fixed hw.old }
 {
     let mut monitor = match begin(alloc, accepted, hw) {
@@ -84,7 +87,8 @@ fn begin<'m, H: Hardware>(
     ensures begun { IfOk result (λ m. IsBegun kept_cells [] (kept_by m) (H.machinery hw.new)) }
     ensures no_more { IfOk result (λ m. HoldsNoMore (kept_by m)) }
     ensures made { OnOk result (H.machinery hw.new ≡ taken_for accepted.entry.machine.now.desc (H.machinery hw.old)) }
-    ensures set_up { OnErr result ((r : GuestRun) → r.desc ≡ accepted.entry.machine.now.desc → SetUp r (H.machinery hw.old) (H.machinery hw.new)) }
+    ensures set_up { OnErr result ((r : GuestRun) → r.desc ≡ accepted.entry.machine.now.desc → SetUp r (H.machinery hw.old)
+        (H.machinery hw.new)) }
     ensures fixed { H.fixed hw.new ≡ H.fixed hw.old }
 {
     match hw.install(accepted.machine().shape().q) {

@@ -1,6 +1,7 @@
 -- Turns of the guest that the hardware runs from user mode: a burst, and what is interpreted behind it.
 use Rattle.std.proofs.Common.{◌≡◌, ℕ, suc, ◌+◌, Bool, true, false, refl, sym, ◌∙◌, ap, subst, arith}
 use Rattle.pg_word.specs.declared.psw.Mode.TheVariants.{U}
+use Rattle.pg_word.specs.declared.psw.Psw.{Psw}
 use Rattle.pg_ast.specs.declared.tree.Desc.{Desc}
 use Rattle.pg_meaning.specs.States.{State}
 use Rattle.pg_meaning.specs.Steps.{step, steps}
@@ -11,6 +12,7 @@ use Rattle.pg_hw.specs.Tallies.{Bottom, raised_by}
 use Rattle.pg_hw.specs.Machinery.{Machinery}
 use Rattle.pg_hw.specs.Bursts.{untrapped_among, supervisor_among}
 use Rattle.pg_hw.specs.Running.{Ran}
+use Rattle.pg_routine.specs.Composing.{composed}
 use Rattle.pg_routine.specs.Granting.{GrantPoked}
 use Rattle.pg_control.specs.declared.guest.Guest.{Guest}
 use Rattle.pg_control.specs.Guests.{virtual}
@@ -31,6 +33,11 @@ alike-of d g accepted user = subst (IsAlikeIn d) (sym user) (user-alike d accept
 
 -- ---- turns that were direct
 
+-- steps none of which traps leave the hardware's mode and R
+directly-kept : (d : Desc) (n : ℕ) (real : State) (g : Guest) → Runs d real g → Directly d n real g → (steps d n real).psw ≡ record real.psw { p = (steps d n real).psw.p }
+directly-kept d n real g runs run =
+    run.runs.under ∙ ap (λ (x : Psw). composed x g.base g.size) run.kept ∙ ap (λ (x : Psw). record x { p = (steps d n real).psw.p }) (sym runs.under)
+
 pub Stepped-direct : (d : Desc) (n : ℕ) (old new : Machinery) (g h : Guest) → ∥ IsHybridAccepted d ∥₁ → IsValid d → Runs d old.state g → g.psw.mode ≡ U → Directly d n old.state g → Ran d n old new →
     h ≡ with_psw g (record g.psw { p = new.state.psw.p }) → Stepped d n true old new g h
 Stepped-direct d n old new g h accepted valid runs user run ran guest =
@@ -42,6 +49,8 @@ Stepped-direct d n old new g h accepted valid runs user run ran guest =
     record {
       advanced = went.0;
       runs = λ on. went.1;
+      went_on = λ on. ran.state;
+      kept = λ on. ap (λ (x : State). x.psw) ran.state ∙ directly-kept d n old.state g runs run ∙ ap (λ (x : State). record old.state.psw { p = x.psw.p }) (sym ran.state);
       once = λ one. direct-once d g.base v (ap (λ k. direct_among d g.base k v) (sym one) ∙ run.direct ∙ one);
       tally = record {
         steps = omega (arith, ap (λ (c : Counts). c.steps) ran.tally, all.users);
@@ -91,6 +100,8 @@ Stepped-halted d n old between new g h k accepted valid runs user stopped halted
       advanced = subst (λ j. Advanced d j old.state new.state g k) steps_on
           (Advanced-then d m 1 old.state between.state new.state g h k (Advanced-halted d m old.state between.state g h before halted) done.advanced);
       runs = λ on. absurd (let wrong : ⊥ = cc in wrong);
+      went_on = λ on. absurd (let wrong : ⊥ = cc in wrong);
+      kept = λ on. absurd (let wrong : ⊥ = cc in wrong);
       once = first-stop d n m g.base v stopped.done halted.turned;
       tally = record {
         steps = omega (arith, done.tally.steps, ap (λ (c : Counts). c.steps) ran.tally, users);

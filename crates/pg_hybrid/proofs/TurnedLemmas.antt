@@ -9,7 +9,7 @@ use Rattle.pg_word.specs.declared.psw.Mode.{Mode}
 use Rattle.pg_word.specs.declared.psw.Mode.TheVariants.{S, U}
 use Rattle.pg_ast.specs.declared.tree.Desc.{Desc}
 use Rattle.pg_meaning.specs.States.{State}
-use Rattle.pg_meaning.specs.Steps.{steps}
+use Rattle.pg_meaning.specs.Steps.{step, steps}
 use Rattle.pg_meaning.proofs.StepLaws.{steps-add}
 use Rattle.pg_valid.specs.Valid.{IsValid}
 use Rattle.pg_hw.specs.declared.counts.Counts.{Counts}
@@ -27,12 +27,13 @@ use Rattle.pg_control.specs.Counting.{BottomTurns}
 use Rattle.pg_control.specs.Current.{Runs, is_current, change_to, with_psw}
 use Rattle.pg_control.specs.Advancing.{Advanced}
 use Rattle.pg_control.proofs.AdvanceLemmas.{Advanced-from, Moved-of, Stands-advanced, under-own}
+use Rattle.pg_control.proofs.BurstLemmas.{steps-once}
 use Rattle.pg_control.proofs.CountLemmas.{BottomTurns-none, BottomTurns-add}
 use Rattle.pg_control.proofs.GuestLemmas.{moved-none, virtuals-at, slice_get-set}
 use Rattle.pg_control.proofs.PlanLemmas.{moved-own}
 use Rattle.pg_hybrid.specs.UserTurns.{user_among, hybrid_among}
 use Rattle.pg_hybrid.specs.Turns.{loads_at, without, current_behind, CountsHybrid, HybridTurned}
-use Rattle.pg_hybrid.specs.Current.{Interpreted, Stepped}
+use Rattle.pg_hybrid.specs.Current.{Interpreted, Stepped, SteppedOnce}
 use Rattle.pg_hybrid.proofs.UserLemmas.{user_among-add, hybrid_among-add, user_among-most, hybrid_among-most, supervisor-users, supervisor-hybrid}
 
 -- ---- the current guest
@@ -200,6 +201,20 @@ Interpreted-machine d e old new g h same done = subst (λ x. Interpreted x old n
 
 pub Stepped-machine : (d e : Desc) (n : ℕ) (goes_on : Bool) (old new : Machinery) (g h : Guest) → e ≡ d → Stepped e n goes_on old new g h → Stepped d n goes_on old new g h
 Stepped-machine d e n goes_on old new g h same done = subst (λ x. Stepped x n goes_on old new g h) same done
+
+-- ---- a direct turn of the current guest
+
+pub stepped-once : (d : Desc) (k n : ℕ) (goes_on : Bool) (old mid new : Machinery) (guests : List Guest) (g h after : Guest) → slice_get guests k ≡ Some g → slice_get guests k ≡ Some h →
+    mid ≡ old → Stepped d n goes_on mid new g after → n ≡ 1 → is_direct d h.base (virtual old.state.cells h) ≡ true → SteppedOnce d old.state new.state
+stepped-once d k n goes_on old mid new guests g h after is_g is_h before done one direct =
+    let same : g ≡ h = some_same g h (sym is_g ∙ is_h) in
+    let on : goes_on ≡ true =
+    sym (done.once one) ∙ ap (λ (x : Guest). is_direct d x.base (virtual mid.state.cells x)) same
+    ∙ ap (λ (m : Machinery). is_direct d h.base (virtual m.state.cells h)) before ∙ direct in
+    record {
+      state = done.went_on on ∙ ap (λ j. steps d j mid.state) one ∙ steps-once d mid.state ∙ ap (λ (m : Machinery). step d m.state) before;
+      kept = done.kept on ∙ ap (λ (m : Machinery). record m.state.psw { p = new.state.psw.p }) before;
+    }
 
 -- ---- turns after turns
 

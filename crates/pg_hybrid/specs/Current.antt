@@ -2,6 +2,7 @@
 use Rattle.std.specs.Prelude.{◌≡◌, ℕ, Bool, true}
 use Rattle.pg_ast.specs.declared.tree.Desc.{Desc}
 use Rattle.pg_meaning.specs.States.{State}
+use Rattle.pg_meaning.specs.Steps.{step, steps}
 use Rattle.pg_hw.specs.Machinery.{Machinery}
 use Rattle.pg_routine.specs.Granting.{PokedWithin}
 use Rattle.pg_control.specs.declared.guest.Guest.{Guest}
@@ -25,8 +26,16 @@ pub record Stepped (d : Desc) (n : ℕ) (goes_on : Bool) (old new : Machinery) (
   pub advanced : Advanced d n old.state new.state g h
   -- the hardware runs the guest still
   pub runs : goes_on ≡ true → Runs d new.state h
+  -- it has made as many steps, which left its mode and R
+  pub went_on : goes_on ≡ true → new.state ≡ steps d n old.state
+  pub kept : goes_on ≡ true → new.state.psw ≡ record old.state.psw { p = new.state.psw.p }
   pub once : n ≡ 1 → is_direct d g.base (virtual old.state.cells g) ≡ goes_on
   pub tally : CountsHybrid n (user_among d n (virtual old.state.cells g)) (hybrid_among d g.base n (virtual old.state.cells g)) old.tally new.tally
   pub loads : new.tally.loads ≡ old.tally.loads
   pub users : user_among d n (virtual old.state.cells g) ≡ n
   pub bottom : BottomTurns (user_among d n (virtual old.state.cells g)) (hybrid_among d g.base n (virtual old.state.cells g)) old.bottom new.bottom
+
+-- a direct turn of the current guest: the hardware's state is one *Step* on, and its mode and R are as they were
+pub record SteppedOnce (d : Desc) (old new : State) : Type 0 where
+  pub state : new ≡ step d old
+  pub kept : new.psw ≡ record old.psw { p = new.psw.p }

@@ -4,7 +4,7 @@
 //! interpreted leaves its guest not current, since the hardware has not the program status word that follows; another guest
 //! that is current stays so, unless the hardware was entered. No call here takes memory or refuses anything.
 
-ghost use Rattle.std.specs.Prelude.{◌≡◌, ℕ, ◌<◌, ◌≤◌, length, All, Some, slice_get};
+ghost use Rattle.std.specs.Prelude.{◌≡◌, ℕ, ◌<◌, ◌≤◌, length, All, Some, slice_get, true};
 ghost use Rattle.std.specs.Option.{option_map};
 ghost use Rattle.pg_meaning.specs.Steps.{steps};
 ghost use Rattle.std.specs.Bool.{then_some};
@@ -17,6 +17,7 @@ ghost use Rattle.pg_control.specs.Plans.{turns_for};
 ghost use Rattle.pg_control.specs.Standing.{Stands};
 ghost use Rattle.pg_control.specs.Current.{change_to, is_current as is_current_guest};
 ghost use Rattle.pg_control.specs.Direct.{is_direct};
+ghost use Rattle.pg_hybrid.specs.Current.{SteppedOnce};
 ghost use Rattle.pg_hybrid.specs.Hybrids.{desc_of};
 ghost use Rattle.pg_hybrid.specs.Turns.{HybridTurned, current_behind, loads_at, without as without_guest};
 ghost use Rattle.pg_hybrid.specs.Plans.{HybridFollowed};
@@ -55,6 +56,11 @@ impl<'m> Hybrid<'m> {
             → (H.machinery hw.new).tally.loads ≡ raised_by (loads_at k (virtual (H.machinery hw.old).state.cells g) self.old.current) (H.machinery hw.old).tally.loads }
         ensures current { (g : Guests) → slice_get self.old.guests k ≡ Some g
             → self.new.current ≡ current_behind (desc_of self.old) k g.base (virtual (H.machinery hw.old).state.cells g) self.old.current }
+
+        // A direct turn of the current guest from user mode is one step of the hardware, which leaves its mode and R.
+        ensures direct { (g : Guests) → slice_get self.old.guests k ≡ Some g → self.old.current ≡ Some k → g.psw.mode ≡ U
+            → is_direct (desc_of self.old) g.base (virtual (H.machinery hw.old).state.cells g) ≡ true
+            → SteppedOnce (desc_of self.old) (H.machinery hw.old).state (H.machinery hw.new).state }
     {
         self.turn_on(hw, k, 1);
     }
@@ -113,6 +119,9 @@ impl<'m> Hybrid<'m> {
             → (H.machinery hw.new).tally.loads ≡ raised_by (loads_at k (virtual (H.machinery hw.old).state.cells g) self.old.current) (H.machinery hw.old).tally.loads }
         ensures current { (g : Guests) → slice_get self.old.guests k ≡ Some g → result ≡ 1
             → self.new.current ≡ current_behind (desc_of self.old) k g.base (virtual (H.machinery hw.old).state.cells g) self.old.current }
+        ensures direct { (g : Guests) → slice_get self.old.guests k ≡ Some g → self.old.current ≡ Some k → g.psw.mode ≡ U → result ≡ 1
+            → is_direct (desc_of self.old) g.base (virtual (H.machinery hw.old).state.cells g) ≡ true
+            → SteppedOnce (desc_of self.old) (H.machinery hw.old).state (H.machinery hw.new).state }
     {
         match self.guest(k).psw.mode {
             Mode::S => {
@@ -162,6 +171,9 @@ impl<'m> Hybrid<'m> {
         ensures loads { (H.machinery hw.new).tally.loads ≡ raised_by (change_to k self.old.current) (H.machinery hw.old).tally.loads }
         ensures current { (g : Guests) → slice_get self.old.guests k ≡ Some g → result ≡ 1
             → self.new.current ≡ then_some (is_direct (desc_of self.old) g.base (virtual (H.machinery hw.old).state.cells g)) k }
+        ensures direct { (g : Guests) → slice_get self.old.guests k ≡ Some g → self.old.current ≡ Some k → result ≡ 1
+            → is_direct (desc_of self.old) g.base (virtual (H.machinery hw.old).state.cells g) ≡ true
+            → SteppedOnce (desc_of self.old) (H.machinery hw.old).state (H.machinery hw.new).state }
     {
         let machine = self.accepted.machine();
         let mut guest = select(machine, hw, self.guests.as_slice(), &mut self.current, k);

@@ -58,7 +58,8 @@ pub fn load_image<F: Shelf>(
     requires shape { IsShape shape.now }
     requires least { 2 ≤ size }
     requires most { size ≤ shape.now.q }
-    ensures comes { Comes (λ image. image) (ImageDue (F.files shelf.old) number name.now shape.now.w size) (F.reads shelf.old) (F.reads shelf.new) result }
+    ensures comes { Comes (λ image. image) (ImageDue (F.files shelf.old) number name.now shape.now.w size) (F.reads shelf.old)
+        (F.reads shelf.new) result }
     ensures size { IfOk result (λ image. length image ≡ size) }
     ensures words { IfOk result (λ image. All (λ word. word < 2 ^ shape.now.w) image) }
     ensures reads { OnlyReads F.Shelf shelf.old shelf.new }
@@ -87,7 +88,8 @@ pub fn load_images<F: Shelf>(
     requires shape { IsShape shape.now }
     requires least { 2 ≤ size }
     requires most { size ≤ shape.now.q }
-    ensures comes { Comes (λ images. images) (ImagesDue (F.files shelf.old) 0 names.now shape.now.w size) (F.reads shelf.old) (F.reads shelf.new) result }
+    ensures comes { Comes (λ images. images) (ImagesDue (F.files shelf.old) 0 names.now shape.now.w size) (F.reads shelf.old)
+        (F.reads shelf.new) result }
     ensures count { IfOk result (λ images. length images ≡ length names.now) }
     ensures each { IfOk result (λ images. All (Fills shape.now.w size) images) }
     ensures reads { OnlyReads F.Shelf shelf.old shelf.new }

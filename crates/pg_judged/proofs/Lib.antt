@@ -4,3 +4,4 @@ pub mod JudgedLemmas
 pub mod TellingLemmas
 pub mod OneCertificate
 pub mod OneJudged
+pub mod GuestLemmas

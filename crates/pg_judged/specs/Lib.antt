@@ -4,3 +4,5 @@ pub mod Meaning
 pub mod Judged
 pub mod Telling
 pub mod Views
+pub mod Guests
+pub mod GuestViews

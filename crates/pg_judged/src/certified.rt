@@ -37,7 +37,8 @@ pub fn load_certificate<F: Shelf>(
     name: &FileName,
     shelf: &mut F,
 ) -> Result<Report, Stop>
-    ensures comes { Comes (λ report. report) (CertDue machine.now.desc family (F.files shelf.old) name.now) (F.reads shelf.old) (F.reads shelf.new) result }
+    ensures comes { Comes (λ report. report) (CertDue machine.now.desc family (F.files shelf.old) name.now) (F.reads shelf.old)
+        (F.reads shelf.new) result }
     ensures reads { OnlyReads F.Shelf shelf.old shelf.new }
 {
     match try_size(name, shelf) {
@@ -49,7 +50,8 @@ pub fn load_certificate<F: Shelf>(
 /// That a file is not too long for a certificate, or why a command goes no further.
 fn try_size<F: Shelf>(name: &FileName, shelf: &mut F) -> Result<(), Stop>
     ensures fits { OnOk result (HoldsUpTo (F.files shelf.old) name.now most_bytes) }
-    ensures stops { IfErr result (λ why. (d : Desc) (family : Family) → Comes (λ report. report) (CertDue d family (F.files shelf.old) name.now) (F.reads shelf.old) (F.reads shelf.new) (Err why)) }
+    ensures stops { IfErr result (λ why. (d : Desc) (family : Family) → Comes (λ report. report)
+        (CertDue d family (F.files shelf.old) name.now) (F.reads shelf.old) (F.reads shelf.new) (Err why)) }
     ensures reads { OnlyReads F.Shelf shelf.old shelf.new }
 {
     match shelf.size(name.as_str()) {
@@ -73,7 +75,8 @@ fn verify_parts<F: Shelf>(
     shelf: &mut F,
 ) -> Result<Report, Stop>
     requires { HoldsUpTo (F.files shelf.old) name.now most_bytes }
-    ensures comes { Comes (λ report. report) (CertDue machine.now.desc family (F.files shelf.old) name.now) (F.reads shelf.old) (F.reads shelf.new) result }
+    ensures comes { Comes (λ report. report) (CertDue machine.now.desc family (F.files shelf.old) name.now) (F.reads shelf.old)
+        (F.reads shelf.new) result }
     ensures reads { OnlyReads F.Shelf shelf.old shelf.new }
 {
     let mut verifier = verifier_of(alloc, family, machine);

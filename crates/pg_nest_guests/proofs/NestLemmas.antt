@@ -1,5 +1,5 @@
 -- One monitor more below others, and the run under the innermost one.
-use Rattle.std.proofs.Common.{◌≡◌, ℕ, zero, suc, ◌+◌, ◌-◌, ◌*◌, ◌<◌, ◌≤◌, ◌^◌, List, [], ◌∷◌, length, map, take, drop, All, Some, slice_get, slice_index, get_or, not, refl, sym, ◌∙◌, ap, subst, arith, slice_index_or}
+use Rattle.std.proofs.Common.{◌≡◌, ℕ, zero, suc, ◌+◌, ◌-◌, ◌*◌, ◌<◌, ◌≤◌, ◌⊎◌, inr, ◌^◌, List, [], ◌∷◌, length, map, take, drop, All, Some, slice_get, slice_index, get_or, not, refl, sym, ◌∙◌, ap, subst, arith, slice_index_or}
 use Rattle.std.proofs.lemmas.List.{length-take, length-drop, drop-take, drop-drop, take-take, get_or-take, get_or-drop}
 use Rattle.std.proofs.lemmas.List.Elements.{All-nil, All-cons}
 use Rattle.std.proofs.lemmas.Option.{same_Some, slice_get-get_or, slice_get_within, get_or_from_slice_get}
@@ -22,7 +22,7 @@ use Rattle.pg_routine.specs.Composing.{composed}
 use Rattle.pg_control.specs.declared.guest.Guest.{Guest}
 use Rattle.pg_control.specs.Counting.{BottomTurns, CanCount}
 use Rattle.pg_control.specs.Direct.{is_direct, direct_among}
-use Rattle.pg_control.specs.Guests.{virtual, virtuals}
+use Rattle.pg_control.specs.Guests.{virtual, virtuals, guest_in}
 use Rattle.pg_control.proofs.CountLemmas.{direct_among-most}
 use Rattle.pg_control.proofs.LoadLemmas.{power_on-whole}
 use Rattle.pg_report.specs.Spans.{span}
@@ -149,8 +149,16 @@ module _ (depth : ℕ) (d e : Desc) (image : List ℕ) (n : ℕ) where
           ∙ held.guest
           ∙ ap (λ (s : State). s.cells) (bare-agree d e agrees image (length image) n)
 
+      behind : (at : ℕ) → 2 * (depth + 1) + length image ≤ at → at < d.size → slice_get real.cells at ≡ Some 0
+      behind at from within =
+          let place : 2 + (at - 2) ≡ at = omega (arith, from) in
+          let same = smaller in
+          ap (slice_get real.cells) (sym place)
+          ∙ cell-of-span 2 (length upper.cells) (at - 2) 0 real.cells
+          (ap (λ xs. slice_get xs (at - 2)) (sym cells) ∙ held.behind (at - 2) (omega (arith, from)) (omega (arith, from, within, same)))
+
       pub under-holds : HoldsNested (depth + 1) d image n real
-      under-holds = record { size = carries.size; control = control; guest = guest }
+      under-holds = record { size = carries.size; control = control; guest = guest; behind = behind }
 
     -- what is presented has cells
     pub under-some : (upper : State) → HoldsNested depth e image n upper → 1 ≤ length upper.cells
@@ -168,6 +176,10 @@ module _ (depth : ℕ) (d e : Desc) (image : List ℕ) (n : ℕ) where
     }
 
 -- ---- the innermost monitor
+
+-- its guest
+abbrev one_guest : List ℕ → Guest
+one_guest image = guest_in 2 (length (power_on image (length image)).cells) (power_on image (length image)).psw
 
 power_on-length : (image : List ℕ) → length (power_on image (length image)).cells ≡ length image
 power_on-length image = ap (λ (s : State). length s.cells) (power_on-whole image)
@@ -204,6 +216,10 @@ module _ (machine : Machine) (image : List ℕ) (slice n : ℕ) where
           ap (λ g. span 2 g new.state.cells) (sym (power_on-length image))
           ∙ first-of (span 2 (length (power_on image (length image)).cells) new.state.cells) (bare machine.desc image (length image) n).cells
           (ran.grants ∙ ap (map (λ (s : State). s.cells)) (one_state machine image slice n));
+      behind = λ at from within.
+          let len = power_on-length image in
+          ran.outside at (omega (arith, from)) within
+          (record { outside = All-cons (λ (g : Guest). (at < g.base) ⊎ (g.base + g.size ≤ at)) (one_guest image) [] (inr (omega (arith, from, len))) (All-nil (λ (g : Guest). (at < g.base) ⊎ (g.base + g.size ≤ at))) });
     };
     bottom = (let turns : 1 * n ≡ n = omega arith in let all : direct_steps machine.desc image n + 0 ≡ direct_steps machine.desc image n = omega arith in
         subst (λ k. BottomTurns k (direct_steps machine.desc image n) old.bottom new.bottom) turns

@@ -1,5 +1,5 @@
 -- A guest under monitors, each of which but the outermost runs on the guest of the one below it.
-use Rattle.std.specs.Prelude.{◌≡◌, ℕ, ◌+◌, ◌-◌, ◌*◌, ◌≤◌, ◌^◌, List, length, slice_get, Some}
+use Rattle.std.specs.Prelude.{◌≡◌, ℕ, ◌+◌, ◌-◌, ◌*◌, ◌<◌, ◌≤◌, ◌^◌, List, length, slice_get, Some}
 use Rattle.pg_word.specs.Psw.{packed, power_on_psw}
 use Rattle.pg_ast.specs.declared.tree.Desc.{Desc}
 use Rattle.pg_meaning.specs.States.{State}
@@ -18,7 +18,8 @@ pub record CanNest (depth : ℕ) (d : Desc) (image : List ℕ) (steps : ℕ) : T
   pub room : length image + kept_cells * depth ≤ d.size
   pub counted : steps ≤ 2 ^ 32
 
--- how many of the first n steps from power-on with an image are direct; at which base makes no difference, nor under how many monitors
+-- how many of the first n steps from power-on with an image are direct, counted as under one monitor: of an accepted machine as many
+-- are so at each base, and under however many monitors
 abbrev pub direct_steps : Desc → List ℕ → ℕ → ℕ
 direct_steps d image n = direct_among d kept_cells n (power_on image (length image))
 
@@ -27,19 +28,21 @@ pub record IsInnermost (d : Desc) (image : List ℕ) (n : ℕ) (x : Innermost) :
   pub psw : x.psw ≡ (bare d image (length image) n).psw
   pub direct : x.direct ≡ direct_steps d image n
 
--- the outermost hardware's storage then: monitor j, from 1 on, keeps its program status word in cell 2 * j - 1, that of a machine
--- which has 2 * (j - 1) cells fewer; behind the cells of all monitors lies the storage that the bare machine reaches
+-- the storage of the hardware that was handed in, after the run: cell 2 * j - 1 holds the word that a trap loads for monitor j, from
+-- 1 on, whose machine has 2 * (j - 1) cells fewer; behind the cells of all monitors lies the storage that the bare machine reaches,
+-- and behind that nothing
 pub record HoldsNested (depth : ℕ) (d : Desc) (image : List ℕ) (n : ℕ) (s : State) : Type 0 where
   pub size : length s.cells ≡ d.size
   pub control : (j : ℕ) → 1 ≤ j → j ≤ depth → slice_get s.cells (kept_cells * j - 1) ≡ Some (packed d.address (power_on_psw (d.size - kept_cells * (j - 1))))
   pub guest : span (kept_cells * depth) (length image) s.cells ≡ (bare d image (length image) n).cells
+  pub behind : (at : ℕ) → kept_cells * depth + length image ≤ at → at < d.size → slice_get s.cells at ≡ Some 0
 
--- *Nested*: and of its counts those at the bottom have risen by the steps, and by the direct ones of them
+-- that storage, and the counts at the bottom, which have risen by the steps and by the direct ones of them
 pub record Nested (depth : ℕ) (d : Desc) (image : List ℕ) (n : ℕ) (old new : Machinery) : Type 0 where
   pub holds : HoldsNested depth d image n new.state
   pub bottom : BottomTurns n (direct_steps d image n) old.bottom new.bottom
 
--- a hardware on which that was done: what it did is in its own counts
+-- *RanNested*: the same on the hardware that was handed in, by its own counts
 pub record RanNested (depth : ℕ) (d : Desc) (image : List ℕ) (n : ℕ) (old new : Machinery) : Type 0 where
   pub holds : HoldsNested depth d image n new.state
   pub steps : new.tally.steps ≡ old.tally.steps + n

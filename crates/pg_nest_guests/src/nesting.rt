@@ -86,7 +86,8 @@ fn in_one<K: Hardware>(
 /// The machine that the guest of a monitor of this one has: the same, but for the cells that the monitor keeps.
 fn narrowed(alloc: Global, accepted: Accepted<'_>) -> Result<Machine, AllocError>
     requires { 4 + kept_cells ≤ accepted.machine.now.desc.size }
-    ensures { IfOk result (λ machine. machine.desc ≡ sized (accepted.entry.machine.now.desc.size - kept_cells) accepted.entry.machine.now.desc) }
+    ensures { IfOk result (λ machine. machine.desc ≡ sized (accepted.entry.machine.now.desc.size - kept_cells)
+        accepted.entry.machine.now.desc) }
 {
     let machine = accepted.machine();
     machine.narrow(alloc, machine.shape().q - KEPT_CELLS)
@@ -232,7 +233,8 @@ pub fn nest<H: Hardware>(
     requires counts { CanCount (H.machinery hw.old).tally }
     requires can_nest { CanNest depth accepted.machine.now.desc image.now steps }
     ensures innermost { IfOk result (λ x. IsInnermost accepted.entry.machine.now.desc image.now steps x) }
-    ensures nested { OnOk result (RanNested depth accepted.entry.machine.now.desc image.now steps (H.machinery hw.old) (H.machinery hw.new)) }
+    ensures nested { OnOk result (RanNested depth accepted.entry.machine.now.desc image.now steps (H.machinery hw.old)
+        (H.machinery hw.new)) }
     ensures refused { OnErr result (NotStepped (H.machinery hw.old) (H.machinery hw.new)) }
     ensures fixed { H.fixed hw.new ≡ H.fixed hw.old }
 {

@@ -98,8 +98,10 @@ pub fn row_line<H: Hardware>(shape: &Shape, hw: &H, base: u32, size: u32, k: u32
     requires addressable { base + size < 2 ^ 32 }
     requires some { line_cells * k < size }
     requires fit { All (λ word. word < 2 ^ shape.now.w) (span base size (H.machinery hw.now).state.cells) }
-    ensures none { result ≡ None → cells_shown shape.now.w (line_cells * k) (line_words k (span base size (H.machinery hw.now).state.cells)) ≡ [] }
-    ensures text { IfSome result (λ line. line.items ≡ cells_shown shape.now.w (line_cells * k) (line_words k (span base size (H.machinery hw.now).state.cells))) }
+    ensures none { result ≡ None → cells_shown shape.now.w (line_cells * k)
+        (line_words k (span base size (H.machinery hw.now).state.cells)) ≡ [] }
+    ensures text { IfSome result (λ line. line.items ≡ cells_shown shape.now.w (line_cells * k)
+        (line_words k (span base size (H.machinery hw.now).state.cells))) }
     ensures len { IfSome result (λ line. array_vec_len line ≤ 12 + 17 * line_cells) }
 {
     let row = words_of(hw, base, size, k);

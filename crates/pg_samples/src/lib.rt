@@ -76,6 +76,7 @@ pgv gen NUMBER SIZE --cert FILE
 pgv migrate DESC CERT FILE
 pgv hcheck DESC --cert FILE [--budget K]
 pgv hybrid DESC CERT IMAGE.. --grant G --steps N [--slice K]
+pgv nest DESC CERT IMAGE --grant G --steps N --depth D
 pgv asm DESC SOURCE --grant G
 pgv disasm DESC IMAGE --grant G
 pgv save DESC CERT IMAGE FILE --grant G --steps N

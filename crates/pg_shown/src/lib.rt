@@ -16,4 +16,4 @@ mod summing;
 mod telling;
 
 pub use summing::put_summaries;
-pub use telling::put_guests;
+pub use telling::{put_guests, put_one_guest};

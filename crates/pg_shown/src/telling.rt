@@ -32,7 +32,7 @@ pub fn put_guests<S: Sink, H: Hardware>(
         (run_text machine.now.desc.word (virtuals (H.machinery hw.now).state.cells guests.now) turns direct) result }
 {
     for k in 0..guests.len() {
-        match put_one(out, machine, guests[k], k, hw) {
+        match put_one_guest(out, machine, guests[k], k, hw) {
             Ok(()) => {}
             Err(failed) => return Err(failed),
         }
@@ -40,16 +40,20 @@ pub fn put_guests<S: Sink, H: Hardware>(
     put_steps(out, turns, direct)
 }
 
-/// Puts the number of a guest, and its state.
-fn put_one<S: Sink, H: Hardware>(
+/// Puts the number of a guest, and its state, which the hardware holds where the guest lies. It takes no memory, and the time grows
+/// with the guest's cells.
+///
+/// # Errors
+/// `Failed` where not all of the text went through. A front of it may have.
+pub fn put_one_guest<S: Sink, H: Hardware>(
     out: &mut S,
     machine: &Machine,
     guest: Guest,
     number: usize,
     hw: &H,
 ) -> Result<(), Failed>
-    requires words { All (λ cell. cell < 2 ^ machine.now.desc.word) (H.machinery hw.now).state.cells }
     requires within { guest.base + guest.size ≤ length (H.machinery hw.now).state.cells }
+    requires words { All (λ cell. cell < 2 ^ machine.now.desc.word) (virtual (H.machinery hw.now).state.cells guest).cells }
     ensures { Puts (S.written out.old) (S.written out.new) (S.faults out.old) (S.faults out.new)
         (guest_line number ++ state_text machine.now.desc.word (virtual (H.machinery hw.now).state.cells guest).cells guest.psw) result }
 {

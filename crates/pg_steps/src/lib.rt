@@ -5,7 +5,7 @@
 //! Nothing here names a command, a certificate or a reader.
 //!
 //! - `status`: how a command ends. `refusal`, `stop`: why one goes no further, and how that is told.
-//! - `loading`: files to bytes. `room`: more cells than there are.
+//! - `loading`: files to bytes. `room`: the room that is wanted, and the room that there is.
 //!
 //! What surrounds a command, shelf, sink and hardware, is one `World` in the contracts (`specs/World.antt`): a shelf `F`, a sink
 //! `S` and a hardware `H` as they are lent are `around F.Shelf S.Sink H.Hardware shelf out hw`.
@@ -19,6 +19,6 @@ mod stop;
 
 pub use loading::{load_file, stop_of};
 pub use refusal::{Refusal, Stop};
-pub use room::no_room;
+pub use room::{no_room, try_room};
 pub use status::Status;
 pub use stop::stopped;

@@ -25,11 +25,11 @@ pub enum Status {
     Image,
     /// A certificate is refused.
     Certificate,
-    /// More cells are wanted than the machine has, beside those of the monitor where there is one.
+    /// More cells are wanted than the machine has, beside those of the monitors where there are some.
     Room,
     /// A file could not be read.
     ReadFault,
-    /// The text, or the certificate that is to be saved, could not be written.
+    /// The text, or the certificate or the guest that is to be saved, could not be written.
     WriteFault,
     /// Memory was refused. The hardware did no step.
     Memory,

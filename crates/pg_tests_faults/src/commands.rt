@@ -8,7 +8,7 @@ pub(crate) type Row = (&'static str, Status, u64, bool);
 
 /// The descriptions and images are loaded, each by one call, and so is a certificate that is made anew. Of a certificate that
 /// is verified the size is asked first, and the last part of it is empty.
-pub(crate) const ROWS: [Row; 30] = [
+pub(crate) const ROWS: [Row; 31] = [
     ("bare m0 stay --grant 8 --steps 2", Status::Done, 2, false),
     ("bare m0 zeros --grant 8 --steps 2", Status::Done, 2, false),
     ("check none --cert c", Status::Done, 1, true),
@@ -34,6 +34,12 @@ pub(crate) const ROWS: [Row; 30] = [
         "hybrid none hend zeros zeros --grant 3 --steps 1",
         Status::Done,
         6,
+        false,
+    ),
+    (
+        "nest none end zeros --grant 2 --steps 1 --depth 3",
+        Status::Done,
+        5,
         false,
     ),
     ("print m0", Status::Done, 1, false),

@@ -107,6 +107,11 @@ fn hybrid(rt: HostRuntime) -> Result<(), Fail> {
 }
 
 #[test]
+fn nest(rt: HostRuntime) -> Result<(), Fail> {
+    rows_end_either_way(&rt, "nest")
+}
+
+#[test]
 fn asm(rt: HostRuntime) -> Result<(), Fail> {
     rows_end_either_way(&rt, "asm")
 }

@@ -4,7 +4,7 @@
 //!
 //! - `worked`: runs that were worked out by hand. `beside`: guests beside bare machines. `hostile`: guests that reach for what is not
 //!   theirs. `accepted`: which machines run guests. `refused`: runs that are refused, and calls that fail. `hybrid`: guests under a
-//!   hybrid monitor. `saved`: guests that are saved, and that go on.
+//!   hybrid monitor. `nested`: a guest under several monitors. `saved`: guests that are saved, and that go on.
 #![tactic(auto)]
 
 #[cfg(test)]
@@ -15,6 +15,8 @@ mod beside;
 mod hostile;
 #[cfg(test)]
 mod hybrid;
+#[cfg(test)]
+mod nested;
 #[cfg(test)]
 mod refused;
 #[cfg(test)]

@@ -1,8 +1,8 @@
 //! Lines as a user types them, with what they ask for. In the tables the words stand with a bar between them.
 
 use pg_command::{
-    AsmWords, BareWords, CheckWords, DisasmWords, Fault, GenWords, MigrateWords, PrintWords,
-    ReplayWords, Request, ResumeWords, RunWords, SaveWords, VerifyWords, request,
+    AsmWords, BareWords, CheckWords, DisasmWords, Fault, GenWords, MigrateWords, NestWords,
+    PrintWords, ReplayWords, Request, ResumeWords, RunWords, SaveWords, VerifyWords, request,
 };
 use std::alloc::{AllocError, Global};
 use std::test::Fail;
@@ -33,6 +33,7 @@ fn said(alloc: Global, line: &str) -> Result<String, AllocError> {
         Ok(Request::Migrate(words)) => migrate(alloc, &words),
         Ok(Request::Hcheck(words)) => check(alloc, "hcheck", &words),
         Ok(Request::Hybrid(words)) => run(alloc, "hybrid", &words),
+        Ok(Request::Nest(words)) => nest(alloc, &words),
         Ok(Request::Asm(words)) => asm(alloc, &words),
         Ok(Request::Disasm(words)) => disasm(alloc, &words),
         Ok(Request::Save(words)) => save(alloc, &words),
@@ -125,6 +126,18 @@ fn run(alloc: Global, command: &str, words: &RunWords) -> Result<String, AllocEr
     )
 }
 
+fn nest(alloc: Global, words: &NestWords) -> Result<String, AllocError> {
+    format!(in alloc;
+        "nest {} {} {} {} {} {}",
+        words.desc.as_str(),
+        words.cert.as_str(),
+        words.image.as_str(),
+        words.grant.cells(),
+        words.steps.count(),
+        words.depth.monitors()
+    )
+}
+
 fn save(alloc: Global, words: &SaveWords) -> Result<String, AllocError> {
     format!(in alloc;
         "save {} {} {} {} {} {}",
@@ -149,7 +162,7 @@ fn resume(alloc: Global, words: &ResumeWords) -> Result<String, AllocError> {
 }
 
 /// Lines that are taken, with what they ask for.
-const TAKEN: [(&str, &str); 47] = [
+const TAKEN: [(&str, &str); 50] = [
     ("pgv|bare|d|i|--grant|8|--steps|0", "bare d i 8 0"),
     (
         "pgv|bare|--steps=1000000|d|--grant=8|i",
@@ -219,6 +232,18 @@ const TAKEN: [(&str, &str); 47] = [
         "pgv|hybrid|d|c|i|j|--grant=8|--steps=3|--slice=7",
         "hybrid d c |i|j| 8 3 7",
     ),
+    (
+        "pgv|nest|d|c|i|--grant|8|--steps|3|--depth|1",
+        "nest d c i 8 3 1",
+    ),
+    (
+        "pgv|nest|--depth=4|d|--steps=1000000|c|--grant=1048575|i",
+        "nest d c i 1048575 1000000 4",
+    ),
+    (
+        "x|nest|--grant=2|--depth=+02|--steps=0|--|d|c|i",
+        "nest d c i 2 0 2",
+    ),
     ("pgv|asm|d|s|--grant|8", "asm d s 8"),
     ("pgv|asm|--grant=1048575|d|s", "asm d s 1048575"),
     ("pgv|disasm|d|i|--grant|2", "disasm d i 2"),
@@ -254,7 +279,7 @@ fn lines_that_are_taken(rt: HostRuntime) -> Result<(), Fail> {
 }
 
 /// Lines that are refused.
-const REFUSED: [&str; 118] = [
+const REFUSED: [&str; 125] = [
     "pgv",
     "pgv|verify",
     "pgv|--help",
@@ -351,6 +376,13 @@ const REFUSED: [&str; 118] = [
     "pgv|hcheck|d|--cert=c|--budget=0",
     "pgv|hybrid|d|c|--grant=8|--steps=3",
     "pgv|hybrid|d|c|i|--grant=8|--steps=3|--slice=0",
+    "pgv|nest|d|c|i|--grant=8|--steps=3",
+    "pgv|nest|d|c|--grant=8|--steps=3|--depth=2",
+    "pgv|nest|d|c|i|j|--grant=8|--steps=3|--depth=2",
+    "pgv|nest|d|c|i|--grant=8|--steps=3|--depth=0",
+    "pgv|nest|d|c|i|--grant=8|--steps=3|--depth=5",
+    "pgv|nest|d|c|i|--grant=8|--steps=3|--depth=2|--depth=2",
+    "pgv|nest|d|c|i|--grant=8|--steps=3|--depth=2|--slice=7",
     "pgv|asm|d|s",
     "pgv|asm|d|--grant=8",
     "pgv|asm|d|s|e|--grant=8",

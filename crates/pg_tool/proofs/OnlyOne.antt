@@ -11,6 +11,7 @@ use Rattle.pg_steps.specs.Steps.{IsOne}
 use Rattle.pg_tool_plain.proofs.OneBare.{one-bare, one-print}
 use Rattle.pg_tool_gen.proofs.OneGenerated.{one-gen}
 use Rattle.pg_tool_run.proofs.OneRun.{one-run}
+use Rattle.pg_tool_nest.proofs.OneNested.{one-nest}
 use Rattle.pg_tool_asm.proofs.OneAssembled.{one-asm, one-disasm}
 use Rattle.pg_tool_save.proofs.OneSaved.{one-save, one-resume}
 use Rattle.pg_tool.specs.Asking.{WordsRefused, command_of, command_or_none, command_for}
@@ -27,6 +28,7 @@ one-command files (request.Gen g) = one-gen files g
 one-command files (request.Migrate m) = one-judged Plain files m.desc m.cert
 one-command files (request.Hcheck c) = one-desc files c.desc
 one-command files (request.Hybrid r) = one-run Hybrid files r
+one-command files (request.Nest n) = one-nest files n
 one-command files (request.Asm a) = one-asm files a
 one-command files (request.Disasm a) = one-disasm files a
 one-command files (request.Save s) = one-save files s

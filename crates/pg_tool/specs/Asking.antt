@@ -15,6 +15,7 @@ use Rattle.pg_steps.specs.Steps.{Step, Came, Refused, Misread}
 use Rattle.pg_tool_plain.specs.Bare.{bare_command}
 use Rattle.pg_tool_run.specs.Run.{run_command}
 use Rattle.pg_tool_run.specs.Hybrid.{hybrid_command}
+use Rattle.pg_tool_nest.specs.Nest.{nest_command}
 use Rattle.pg_tool_plain.specs.Print.{print_command}
 use Rattle.pg_tool_judging.specs.Verify.{verify_command}
 use Rattle.pg_tool_judging.specs.Replay.{replay_command}
@@ -59,6 +60,7 @@ command_of (request.Gen g) = gen_command g
 command_of (request.Migrate m) = migrate_command m
 command_of (request.Hcheck c) = check_command Hybrid c
 command_of (request.Hybrid r) = hybrid_command r
+command_of (request.Nest n) = nest_command n
 command_of (request.Asm a) = asm_command a
 command_of (request.Disasm a) = disasm_command a
 command_of (request.Save s) = save_command s

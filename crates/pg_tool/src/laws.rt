@@ -29,7 +29,9 @@ pub fn a_read_fault_comes_behind_the_words()
 #[tactic(auto, using(crate::proofs::OneState::one_state))]
 pub fn a_run_leaves_one_state()
     ensures bare { (r : BareRun) (old one other : Machinery) → RanBare r old one → RanBare r old other → one.state ≡ other.state }
-    ensures bare_steps { (r : BareRun) (old one other : Machinery) → RanBare r old one → RanBare r old other → one.tally.steps ≡ other.tally.steps }
+    ensures bare_steps { (r : BareRun) (old one other : Machinery) → RanBare r old one → RanBare r old other → one.tally.steps
+        ≡ other.tally.steps }
     ensures guests { (r : GuestRun) (old one other : Machinery) → RanGuests r old one → RanGuests r old other → one.state ≡ other.state }
-    ensures guests_steps { (r : GuestRun) (old one other : Machinery) → RanGuests r old one → RanGuests r old other → one.tally.steps ≡ other.tally.steps }
+    ensures guests_steps { (r : GuestRun) (old one other : Machinery) → RanGuests r old one → RanGuests r old other
+        → one.tally.steps ≡ other.tally.steps }
 {}

@@ -6,8 +6,9 @@
 //! tells a watcher besides of each question that is asked.
 //!
 //! What a command is, and how its steps join, stands in `pg_steps`; the commands stand in families, crates of their own
-//! (`pg_tool_plain`, `pg_tool_asm`, `pg_tool_judging`, `pg_tool_run`, `pg_tool_gen`, `pg_tool_save`). Here a command has one line in each of three places: the
-//! definition (`command_of`, `specs/Asking.antt`), `carry` below, and the proof that it comes to one thing (`proofs/OnlyOne.antt`).
+//! (`pg_tool_plain`, `pg_tool_asm`, `pg_tool_judging`, `pg_tool_run`, `pg_tool_nest`, `pg_tool_gen`, `pg_tool_save`). Here a command
+//! has one line in each of three places: the definition (`command_of`, `specs/Asking.antt`), `carry` below, and the proof that it
+//! comes to one thing (`proofs/OnlyOne.antt`).
 //!
 //! - `laws`: what is due for told files is one thing.
 #![tactic(auto)]
@@ -35,6 +36,7 @@ pub use pg_steps::{Refusal, Status};
 use pg_tool_asm::{carry_asm, carry_disasm};
 use pg_tool_gen::carry_gen;
 use pg_tool_judging::{carry_check, carry_migrate, carry_replay, carry_verify};
+use pg_tool_nest::carry_nest;
 use pg_tool_plain::{carry_bare, carry_print};
 use pg_tool_run::{carry_hybrid, carry_run};
 use pg_tool_save::{carry_resume, carry_save};
@@ -46,7 +48,8 @@ use std::alloc::Global;
 /// The hardware has to serve every machine, with room for 1,048,575 cells, and each of its counts below 2^62. It is
 /// untouched where the command is refused, a file could not be read or a certificate not be saved. Where memory is refused no
 /// step was done, and it is untouched but in one case: where a run was due, it may have been set up for that run, its storage
-/// and program status word made and cells poked. Every file is left as it was, but one that the words name to be saved.
+/// and program status word made and cells poked (of `nest` no clause says how). Every file is left as it was, but one that the
+/// words name to be saved.
 pub fn tool<F: Shelf, S: Sink, H: Hardware>(
     alloc: Global,
     words: &[String],
@@ -145,6 +148,7 @@ fn carry<F: Shelf, S: Sink, H: Hardware, W: Watcher>(
             watcher,
         ),
         Request::Hybrid(words) => carry_hybrid(alloc, words, shelf, out, hw),
+        Request::Nest(words) => carry_nest(alloc, words, shelf, out, hw),
         Request::Asm(words) => carry_asm(alloc, words, shelf, out, hw),
         Request::Disasm(words) => carry_disasm(alloc, words, shelf, out, hw),
         Request::Save(words) => carry_save(alloc, words, shelf, out, hw),

@@ -26,7 +26,8 @@ pub(crate) fn load_source<F: Shelf>(
 ) -> Result<Image, Stop>
     requires least { 2 ≤ size }
     requires most { size ≤ machine.now.desc.size }
-    ensures comes { Comes (λ image. image) (SourceDue (F.files shelf.old) name.now machine.now.desc size) (F.reads shelf.old) (F.reads shelf.new) result }
+    ensures comes { Comes (λ image. image) (SourceDue (F.files shelf.old) name.now machine.now.desc size) (F.reads shelf.old)
+        (F.reads shelf.new) result }
     ensures size { IfOk result (λ image. length image ≡ size) }
     ensures words { IfOk result (λ image. All (λ word. word < 2 ^ machine.now.desc.word) image) }
     ensures reads { OnlyReads F.Shelf shelf.old shelf.new }

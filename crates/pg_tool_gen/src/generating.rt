@@ -114,7 +114,8 @@ fn run_plan<'m, H: Hardware>(
 ) -> Result<Option<Ran<'m>>, AllocError>
     requires accepts { verdict_on (judged_input plan.now) ≡ Accepted → IsAccepted plan.now.cert.judged.machine.desc }
     requires able { IsAble H.Hardware hw.old }
-    ensures ran { OnOk result (RanBy (verdict_on (judged_input plan.now)) (run_of_plan plan.now) (H.machinery hw.old) (H.machinery hw.new)) }
+    ensures ran { OnOk result (RanBy (verdict_on (judged_input plan.now)) (run_of_plan plan.now) (H.machinery hw.old)
+        (H.machinery hw.new)) }
     ensures have_run { IfOk result (λ ran. HaveRunBy (verdict_on (judged_input plan.now)) (run_of_plan plan.now) ran (H.machinery hw.new)) }
     ensures accepted { OnErr result (verdict_on (judged_input plan.now) ≡ Accepted) }
     ensures set_up { OnErr result (SetUp (run_of_plan plan.now) (H.machinery hw.old) (H.machinery hw.new)) }

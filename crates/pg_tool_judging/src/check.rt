@@ -54,7 +54,8 @@ fn prepare_check<F: Shelf, W: Watcher>(
     shelf: &mut F,
     watcher: &mut W,
 ) -> Result<WrittenCert, Stop>
-    ensures comes { Comes (λ p. p.judged.machine.desc) (CheckDue words.now (F.files shelf.old)) (F.reads shelf.old) (F.reads shelf.new) result }
+    ensures comes { Comes (λ p. p.judged.machine.desc) (CheckDue words.now (F.files shelf.old)) (F.reads shelf.old)
+        (F.reads shelf.new) result }
     ensures checked { IfOk result (λ p. IsChecked p.judged.machine.desc family words.now.budget p.text.items p.judged.report) }
     ensures reads { OnlyReads F.Shelf shelf.old shelf.new }
 {

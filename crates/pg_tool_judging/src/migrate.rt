@@ -55,8 +55,10 @@ fn prepare_migrate<F: Shelf>(
     words: &MigrateWords,
     shelf: &mut F,
 ) -> Result<WrittenCert, Stop>
-    ensures comes { Comes written (JudgedDue Plain words.now.desc words.now.cert (F.files shelf.old)) (F.reads shelf.old) (F.reads shelf.new) result }
-    ensures migrated { IfOk result (λ p. IsMigratedText (F.files shelf.old) words.now.cert p.judged.machine.desc p.text.items p.judged.report) }
+    ensures comes { Comes written (JudgedDue Plain words.now.desc words.now.cert (F.files shelf.old)) (F.reads shelf.old)
+        (F.reads shelf.new) result }
+    ensures migrated { IfOk result (λ p. IsMigratedText (F.files shelf.old) words.now.cert p.judged.machine.desc p.text.items
+        p.judged.report) }
     ensures reads { OnlyReads F.Shelf shelf.old shelf.new }
 {
     let machine = match load_machine(alloc, &words.desc, shelf) {
@@ -87,7 +89,8 @@ fn load_migrated<F: Shelf>(
     name: &FileName,
     shelf: &mut F,
 ) -> Result<Migrated, Stop>
-    ensures comes { Comes (λ m. m.report) (CertDue machine.now.desc Plain (F.files shelf.old) name.now) (F.reads shelf.old) (F.reads shelf.new) result }
+    ensures comes { Comes (λ m. m.report) (CertDue machine.now.desc Plain (F.files shelf.old) name.now) (F.reads shelf.old)
+        (F.reads shelf.new) result }
     ensures from_file { IfOk result (λ m. MigratesFile (F.files shelf.old) name.now machine.now.desc m.cert) }
     ensures family { IfOk result (λ m. m.report.family ≡ m.cert.family) }
     ensures marks { IfOk result (λ m. m.report.marks ≡ map mark_of m.cert.findings) }

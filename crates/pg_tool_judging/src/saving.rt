@@ -40,7 +40,8 @@ pub(crate) fn save_and_tell<F: Shelf, S: Sink, H: Hardware>(
     name: &FileName,
     cert: &WrittenCert,
 ) -> Status
-    ensures saved { SavedAs name.now cert.now.text.items (judged cert.now.judged) (around F.Shelf S.Sink H.Hardware shelf.old out.old hw.now)
+    ensures saved { SavedAs name.now cert.now.text.items (judged cert.now.judged)
+        (around F.Shelf S.Sink H.Hardware shelf.old out.old hw.now)
         (around F.Shelf S.Sink H.Hardware shelf.new out.new hw.now) result (class_of result) }
     ensures keeps { Keeps (Some name.now) (around F.Shelf S.Sink H.Hardware shelf.old out.old hw.now)
         (around F.Shelf S.Sink H.Hardware shelf.new out.new hw.now) }

@@ -99,7 +99,8 @@ fn run_bare<H: Hardware>(plan: &BarePlan, hw: &mut H) -> Result<(), AllocError>
 fn put_reached<S: Sink, H: Hardware>(plan: &BarePlan, hw: &H, out: &mut S) -> Result<(), Failed>
     requires { (H.machinery hw.now).state ≡ reached (bare_run plan.now) }
     ensures { let r = bare_run plan.now in
-        Puts (S.written out.old) (S.written out.new) (S.faults out.old) (S.faults out.new) (state_text r.desc.word (reached r).cells (reached r).psw) result }
+        Puts (S.written out.old) (S.written out.new) (S.faults out.old) (S.faults out.new)
+        (state_text r.desc.word (reached r).cells (reached r).psw) result }
 {
     let psw = hw.psw();
     put_state(out, plan.machine.shape(), hw, 0, plan.grant, psw)

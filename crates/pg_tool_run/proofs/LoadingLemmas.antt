@@ -2,22 +2,17 @@
 use Rattle.std.proofs.Common.{◌≡◌, ◌-◌, ◌*◌, ℕ, List, length, Option, Some, sym, subst}
 use Rattle.pg_ast.specs.declared.tree.Desc.{Desc}
 use Rattle.pg_cert.specs.declared.cert.Family.{Family}
-use Rattle.pg_cert.specs.declared.report.Report.{Report}
-use Rattle.pg_cert.specs.declared.report.Verdict.TheVariants.{Accepted}
 use Rattle.pg_edge.specs.Shelf.{Files}
 use Rattle.pg_inputs.specs.Descriptions.{DescDue}
 use Rattle.pg_inputs.specs.Images.{ImagesDue}
 use Rattle.pg_inputs.proofs.OneInput.{one-desc, one-images}
 use Rattle.pg_judged.specs.Certificates.{CertDue}
-use Rattle.pg_judged.specs.Judged.{verdict_on}
-use Rattle.pg_judged.specs.Meaning.{IsAcceptedBy, Means}
 use Rattle.pg_judged.proofs.JudgedLemmas.{IsRead, certificate-read, desc-valid}
 use Rattle.pg_judged.proofs.OneCertificate.{one-certificate}
 use Rattle.pg_steps.specs.Rooms.{RoomDue}
 use Rattle.pg_steps.specs.Steps.{Came, Gives, IsOne}
 use Rattle.pg_steps.proofs.OneRoom.{one-room}
 use Rattle.pg_steps.proofs.OneSteps.{one-gives, one-then}
-use Rattle.pg_valid.specs.Valid.{IsValid}
 use Rattle.pg_tool_run.specs.Loading.{GuestFiles, Loaded, judged_of, behind_images, behind_room, behind_desc, GuestsDue}
 
 -- ---- what is known of it
@@ -28,13 +23,6 @@ unfolding GuestsDue
 guests-read family f told l h =
     subst (λ (x : Loaded). IsRead family (judged_of x)) (sym h.2.2.2.2)
     (certificate-read h.0 family told f.cert h.2.2.2.0 (desc-valid told f.desc h.0 h.1) h.2.2.2.1)
-
--- and where its verdict accepts the machine, the condition of its family holds
-pub cert-accepts : (d : Desc) (family : Family) (told : Option Files) (name : List ℕ) (report : Report) → IsValid d → CertDue d family told name (Came report) →
-    verdict_on (record { desc = d; report = report }) ≡ Accepted → IsAcceptedBy family d
-cert-accepts d family told name report valid h is =
-    let read = certificate-read d family told name report valid h in
-    subst (λ (f : Family). IsAcceptedBy f d) read.of_family (subst (Means d report) is read.means.means)
 
 -- ---- one thing, for told files
 

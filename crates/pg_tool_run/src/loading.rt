@@ -4,17 +4,15 @@
 //! the order of the definition (`GuestsDue`, `specs/Loading.antt`). Each step hands what it has to the next, which goes on from
 //! there: its contract is what comes from there on.
 
-ghost use Rattle.std.specs.Prelude.{◌≡◌, ◌≤◌, ◌*◌, ◌-◌, ◌+◌, ℕ, All, IfOk, OnOk, length};
+ghost use Rattle.std.specs.Prelude.{◌≡◌, ◌≤◌, ◌*◌, ◌+◌, All, IfOk, length};
 ghost use Rattle.pg_cert.specs.declared.report.Verdict.TheVariants.{Accepted};
 ghost use Rattle.pg_inputs.specs.Images.{Fills};
 ghost use Rattle.pg_judged.specs.Judged.{verdict_on};
 ghost use Rattle.pg_judged.specs.Meaning.{IsAcceptedBy};
 ghost use Rattle.pg_judged.specs.Views.{judged};
 ghost use Rattle.pg_steps.specs.Answering.{Comes, OnlyReads};
-ghost use Rattle.pg_steps.specs.Rooms.{RoomDue};
 ghost use Rattle.pg_tool_run.specs.Loading.{GuestsDue, behind_images, behind_room};
 ghost use Rattle.pg_tool_run.specs.Views.{guest_files, loaded};
-ghost use Rattle.pg_word.specs.Shape.{IsShape};
 
 use crate::files::{GuestFiles, LoadedGuests};
 use pg_cert::Family;
@@ -23,8 +21,7 @@ use pg_image::Image;
 use pg_inputs::{load_images, load_machine};
 use pg_judged::{JudgedMachine, load_certificate};
 use pg_machine::Machine;
-use pg_steps::{Stop, no_room};
-use pg_word::Shape;
+use pg_steps::{Stop, try_room};
 use sqlite_items::Items;
 use std::alloc::Global;
 
@@ -35,7 +32,8 @@ pub(crate) fn load_guests<F: Shelf>(
     files: &GuestFiles<'_>,
     shelf: &mut F,
 ) -> Result<LoadedGuests, Stop>
-    ensures comes { Comes loaded (GuestsDue family (guest_files files.now) (F.files shelf.old)) (F.reads shelf.old) (F.reads shelf.new) result }
+    ensures comes { Comes loaded (GuestsDue family (guest_files files.now) (F.files shelf.old)) (F.reads shelf.old)
+        (F.reads shelf.new) result }
     ensures accepts { IfOk result (λ l. verdict_on (judged l.judged) ≡ Accepted → IsAcceptedBy family l.judged.machine.desc) }
     ensures count { IfOk result (λ l. length l.images ≡ length files.now.images.now) }
     ensures room { IfOk result (λ l. files.now.kept + length l.images * files.now.grant ≤ l.judged.machine.desc.size) }
@@ -46,26 +44,12 @@ pub(crate) fn load_guests<F: Shelf>(
         Ok(machine) => machine,
         Err(stop) => return Err(stop),
     };
-    match try_room(files, machine.shape()) {
+    // At most 8 * 1,048,575.
+    let wanted = files.images.len() as u32 * files.grant;
+    match try_room(wanted, files.kept, machine.shape()) {
         Ok(()) => load_behind_room(alloc, family, files, machine, shelf),
         Err(stop) => Err(stop),
     }
-}
-
-/// That images find room beside the cells that monitors keep, each in a grant of this size; or why a command goes no further.
-fn try_room(files: &GuestFiles<'_>, shape: &Shape) -> Result<(), Stop>
-    requires { IsShape shape.now }
-    ensures comes { (reads : ℕ) → Comes (λ done. length files.now.images.now * files.now.grant)
-        (RoomDue (length files.now.images.now * files.now.grant) (shape.now.q - files.now.kept)) reads reads result }
-    ensures fits { OnOk result (files.now.kept + length files.now.images.now * files.now.grant ≤ shape.now.q) }
-{
-    // At most 8 * 1,048,575.
-    let wanted = files.images.len() as u32 * files.grant;
-    let free = shape.q.saturating_sub(files.kept);
-    if wanted > free {
-        return Err(no_room(wanted, free));
-    }
-    Ok(())
 }
 
 /// Behind the room: the images, and what is behind them.
@@ -77,7 +61,8 @@ fn load_behind_room<F: Shelf>(
     shelf: &mut F,
 ) -> Result<LoadedGuests, Stop>
     requires { files.now.kept + length files.now.images.now * files.now.grant ≤ machine.desc.size }
-    ensures comes { Comes loaded (behind_room family (guest_files files.now) (F.files shelf.old) machine.desc) (F.reads shelf.old) (F.reads shelf.new) result }
+    ensures comes { Comes loaded (behind_room family (guest_files files.now) (F.files shelf.old) machine.desc)
+        (F.reads shelf.old) (F.reads shelf.new) result }
     ensures accepts { IfOk result (λ l. verdict_on (judged l.judged) ≡ Accepted → IsAcceptedBy family l.judged.machine.desc) }
     ensures same { IfOk result (λ l. l.judged.machine.desc ≡ machine.desc) }
     ensures count { IfOk result (λ l. length l.images ≡ length files.now.images.now) }
@@ -99,7 +84,8 @@ fn load_behind_images<F: Shelf>(
     images: Items<Image>,
     shelf: &mut F,
 ) -> Result<LoadedGuests, Stop>
-    ensures comes { Comes loaded (behind_images family (guest_files files.now) (F.files shelf.old) machine.desc images) (F.reads shelf.old) (F.reads shelf.new) result }
+    ensures comes { Comes loaded (behind_images family (guest_files files.now) (F.files shelf.old) machine.desc images)
+        (F.reads shelf.old) (F.reads shelf.new) result }
     ensures accepts { IfOk result (λ l. verdict_on (judged l.judged) ≡ Accepted → IsAcceptedBy family l.judged.machine.desc) }
     ensures same { IfOk result (λ l. l.judged.machine.desc ≡ machine.desc) }
     ensures images { IfOk result (λ l. l.images ≡ images) }

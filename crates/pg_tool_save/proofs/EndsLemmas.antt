@@ -8,6 +8,7 @@ use Rattle.pg_cert.specs.declared.report.Verdict.TheVariants.{Accepted}
 use Rattle.pg_edge.specs.Shelf.{Files}
 use Rattle.pg_edge.specs.Told.{BothTold}
 use Rattle.pg_guests.specs.Runs.{RanGuests}
+use Rattle.pg_judged.proofs.GuestLemmas.{guest-read}
 use Rattle.pg_judged.proofs.JudgedLemmas.{IsRead, certificate-read, desc-valid}
 use Rattle.pg_judged.proofs.TellingLemmas.{ends-told, ends-left, verdict-ends}
 use Rattle.pg_judged.specs.Judged.{verdict_on, verdict_status, verdict_told}
@@ -19,7 +20,7 @@ use Rattle.pg_steps.specs.World.{World, IsUntouched}
 use Rattle.pg_steps.specs.declared.status.Status.TheVariants.{Done}
 use Rattle.pg_tool_judging.specs.Saving.{HoldsNow}
 use Rattle.pg_tool_save.specs.Resume.{ResumeRun, ResumeDue, ResumeEnds, GuestWentOn, guest_on, judged_on, told_on}
-use Rattle.pg_tool_save.specs.Save.{SaveRun, SaveDue, SaveEnds, GuestSaved, guest_of, judged_by, saved_of, told_of_run}
+use Rattle.pg_tool_save.specs.Save.{SaveRun, SaveDue, SaveEnds, GuestSaved, files_of, guest_of, judged_by, saved_of, told_of_run}
 use Rattle.pg_type.specs.Accepting.{IsAccepted}
 
 -- ---- `save`
@@ -27,9 +28,7 @@ use Rattle.pg_type.specs.Accepting.{IsAccepted}
 -- the certificate was read
 pub save-read : (told : Option Files) (s : SaveWords) (j : SaveRun) → SaveDue s told (Came j) → IsRead Plain (judged_by j)
 unfolding SaveDue
-save-read told s j h =
-    subst (λ (x : SaveRun). IsRead Plain (judged_by x)) (sym h.2.2.2.2)
-    (certificate-read h.0 Plain told s.cert h.2.2.2.0 (desc-valid told s.desc h.0 h.1) h.2.2.2.1)
+save-read told s j h = subst (λ (x : SaveRun). IsRead Plain (judged_by x)) (sym h.2) (guest-read (files_of s) told h.0 h.1)
 
 -- the verdict was told, and nothing ran
 pub save-told : (told : Option Files) (s : SaveWords) (j : SaveRun) (old new : World) → SaveDue s told (Came j) → ¬ (verdict_on (judged_by j) ≡ Accepted) → IsUntouched old new →

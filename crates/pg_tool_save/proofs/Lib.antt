@@ -1,4 +1,3 @@
-mod CertLemmas
 mod GuestLemmas
 mod RunLemmas
 mod EndsLemmas

@@ -7,9 +7,10 @@ use Rattle.pg_ast.specs.declared.tree.Desc.{Desc}
 use Rattle.pg_cert.specs.declared.cert.Family.TheVariants.{Plain}
 use Rattle.pg_edge.specs.Shelf.{Files}
 use Rattle.pg_inputs.specs.Descriptions.{DescDue}
-use Rattle.pg_inputs.specs.Images.{ImageDue}
-use Rattle.pg_inputs.proofs.OneInput.{one-desc, one-image}
+use Rattle.pg_inputs.proofs.OneInput.{one-desc}
 use Rattle.pg_judged.specs.Certificates.{CertDue}
+use Rattle.pg_judged.specs.Guests.{GuestDue}
+use Rattle.pg_judged.proofs.GuestLemmas.{one-guest}
 use Rattle.pg_judged.proofs.OneCertificate.{one-certificate}
 use Rattle.pg_meaning.specs.States.{shape_of}
 use Rattle.pg_move.specs.declared.fault.SavedFault.{SavedFault}
@@ -25,7 +26,7 @@ use Rattle.pg_steps.specs.Steps.{Gives, IsOne}
 use Rattle.pg_steps.proofs.OneRoom.{one-room}
 use Rattle.pg_steps.proofs.OneSteps.{one-as, one-file, one-gives, one-then}
 use Rattle.pg_tool_save.specs.Resume as resume
-use Rattle.pg_tool_save.specs.Save as save
+use Rattle.pg_tool_save.specs.Save.{SaveDue, files_of, save_run_of}
 use Rattle.pg_tool_save.specs.SavedFiles.{ReadsSaved, SavedDue, told_of_saved}
 
 -- ---- a saved guest
@@ -50,22 +51,9 @@ one-saved files name d =
 
 -- ---- `save`
 
-one-behind_image : (s : SaveWords) (files : Files) (d : Desc) (image : List ℕ) → IsOne (save.behind_image s (Some files) d image)
-one-behind_image s files d image =
-    one-then (CertDue d Plain (Some files) s.cert) (λ report. Gives (record { desc = d; image = image; grant = s.grant; steps = s.steps; report = report }))
-    (one-certificate d Plain files s.cert) (λ report. one-gives (record { desc = d; image = image; grant = s.grant; steps = s.steps; report = report }))
-
-one-behind_room : (s : SaveWords) (files : Files) (d : Desc) → IsOne (save.behind_room s (Some files) d)
-one-behind_room s files d =
-    one-then (ImageDue (Some files) 0 s.image d.word s.grant) (save.behind_image s (Some files) d) (one-image files 0 s.image d.word s.grant) (one-behind_image s files d)
-
-one-behind_desc : (s : SaveWords) (files : Files) (d : Desc) → IsOne (save.behind_desc s (Some files) d)
-one-behind_desc s files d =
-    one-then (RoomDue s.grant (d.size - kept_cells)) (λ cells. save.behind_room s (Some files) d) (one-room s.grant (d.size - kept_cells)) (λ cells. one-behind_room s files d)
-
-pub one-save : (files : Files) (s : SaveWords) → IsOne (save.SaveDue s (Some files))
-unfolding save.SaveDue
-one-save files s = one-then (DescDue (Some files) s.desc) (save.behind_desc s (Some files)) (one-desc files s.desc) (one-behind_desc s files)
+pub one-save : (files : Files) (s : SaveWords) → IsOne (SaveDue s (Some files))
+unfolding SaveDue
+one-save files s = one-then (GuestDue (files_of s) (Some files)) (λ l. Gives (save_run_of s l)) (one-guest files (files_of s)) (λ l. one-gives (save_run_of s l))
 
 -- ---- `resume`
 

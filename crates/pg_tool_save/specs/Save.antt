@@ -1,5 +1,5 @@
 -- `save`: an image as a guest of a monitor, and the state that it reaches saved.
-use Rattle.std.specs.Prelude.{◌≡◌, ◌-◌, ℕ, List, [], ◌∷◌, length, Option, Some}
+use Rattle.std.specs.Prelude.{◌≡◌, ℕ, List, [], ◌∷◌, length, Option, Some}
 use Rattle.pg_alloc.specs.Fit.{kept_cells}
 use Rattle.pg_asked.specs.declared.save.SaveWords.{SaveWords}
 use Rattle.pg_ast.specs.declared.tree.Desc.{Desc}
@@ -9,9 +9,7 @@ use Rattle.pg_cert.specs.declared.report.Verdict.TheVariants as verdict
 use Rattle.pg_edge.specs.Shelf.{Files}
 use Rattle.pg_edge.specs.Told.{BothTold}
 use Rattle.pg_guests.specs.Runs.{RanGuests}
-use Rattle.pg_inputs.specs.Descriptions.{DescDue}
-use Rattle.pg_inputs.specs.Images.{ImageDue}
-use Rattle.pg_judged.specs.Certificates.{CertDue}
+use Rattle.pg_judged.specs.Guests.{GuestFiles, Loaded, GuestDue}
 use Rattle.pg_judged.specs.Judged.{Judged, verdict_on}
 use Rattle.pg_judged.specs.Telling.{EndsBy}
 use Rattle.pg_meaning.specs.States.{State, shape_of}
@@ -24,7 +22,6 @@ use Rattle.pg_steps.specs.declared.refusal.Refusal.{Refusal}
 use Rattle.pg_steps.specs.declared.status.Status.{Status}
 use Rattle.pg_steps.specs.declared.status.Status.TheVariants as status
 use Rattle.pg_steps.specs.Commands.{Command}
-use Rattle.pg_steps.specs.Rooms.{RoomDue}
 use Rattle.pg_steps.specs.Steps.{Step, Then, Gives}
 use Rattle.pg_steps.specs.World.{World}
 use Rattle.pg_tool_judging.specs.Saving.{HoldsAtMost, HoldsNow}
@@ -39,22 +36,17 @@ pub record SaveRun : Type 0 where
   pub steps : ℕ
   pub report : Report
 
--- the certificate, and then the run
-abbrev pub behind_image : SaveWords → Option Files → Desc → List ℕ → Step Refusal SaveRun
-behind_image s told d image =
-    Then (CertDue d Plain told s.cert) (λ report. Gives (record { desc = d; image = image; grant = s.grant; steps = s.steps; report = report }))
+-- the files that the words name
+abbrev pub files_of : SaveWords → GuestFiles
+files_of s = record { desc = s.desc; image = s.image; cert = s.cert; grant = s.grant; kept = kept_cells }
 
--- the image, and what is behind it
-abbrev pub behind_room : SaveWords → Option Files → Desc → Step Refusal SaveRun
-behind_room s told d = Then (ImageDue told 0 s.image d.word s.grant) (behind_image s told d)
-
--- the room beside the cells that a monitor keeps, and what is behind that
-abbrev pub behind_desc : SaveWords → Option Files → Desc → Step Refusal SaveRun
-behind_desc s told d = Then (RoomDue s.grant (d.size - kept_cells)) (λ cells. behind_room s told d)
+-- the run of what they hold
+abbrev pub save_run_of : SaveWords → Loaded → SaveRun
+save_run_of s l = record { desc = l.desc; image = l.image; grant = s.grant; steps = s.steps; report = l.report }
 
 -- the description, the room, the image and the certificate, and then the run
 unfoldable pub SaveDue : SaveWords → Option Files → Step Refusal SaveRun
-SaveDue s told = Then (DescDue told s.desc) (behind_desc s told)
+SaveDue s told = Then (GuestDue (files_of s) told) (λ l. Gives (save_run_of s l))
 
 -- one guest has its turns in one slice
 abbrev pub one_slice : ℕ

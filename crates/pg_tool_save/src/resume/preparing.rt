@@ -18,16 +18,16 @@ ghost use Rattle.pg_tool_save.specs.Resume.{ResumeDue, behind_desc, behind_room}
 ghost use Rattle.pg_type.specs.Accepting.{IsAccepted};
 
 use super::plan::ResumePlan;
-use crate::room::try_room;
 use crate::saved::load_saved;
 use pg_asked::ResumeWords;
 use pg_cert::Family;
+use pg_control::KEPT_CELLS;
 use pg_edge::Shelf;
 use pg_inputs::load_machine;
 use pg_judged::{JudgedMachine, load_certificate};
 use pg_machine::Machine;
 use pg_move::Saved;
-use pg_steps::Stop;
+use pg_steps::{Stop, try_room};
 use std::alloc::Global;
 
 /// The guest that is to go on; or why there is none.
@@ -53,7 +53,8 @@ fn load_behind_machine<F: Shelf>(
     machine: Machine,
     shelf: &mut F,
 ) -> Result<ResumePlan, Stop>
-    ensures comes { Comes resume_run (behind_desc words.now (F.files shelf.old) machine.desc) (F.reads shelf.old) (F.reads shelf.new) result }
+    ensures comes { Comes resume_run (behind_desc words.now (F.files shelf.old) machine.desc) (F.reads shelf.old)
+        (F.reads shelf.new) result }
     ensures accepts { IfOk result (λ p. verdict_on (judged p.judged) ≡ Accepted → IsAccepted p.judged.machine.desc) }
     ensures reads { OnlyReads F.Shelf shelf.old shelf.new }
 {
@@ -63,7 +64,7 @@ fn load_behind_machine<F: Shelf>(
     };
     // At most twice 1,048,575.
     let wanted = saved.state.size + words.skip.cells();
-    match try_room(wanted, machine.shape()) {
+    match try_room(wanted, KEPT_CELLS, machine.shape()) {
         Ok(()) => load_behind_room(alloc, words, machine, saved, shelf),
         Err(stop) => Err(stop),
     }
@@ -79,7 +80,8 @@ fn load_behind_room<F: Shelf>(
 ) -> Result<ResumePlan, Stop>
     requires saved { IsSaved (shape_of machine.desc) (guest_of saved) }
     requires room { kept_cells + (saved.state.size + words.now.skip) ≤ machine.desc.size }
-    ensures comes { Comes resume_run (behind_room words.now (F.files shelf.old) machine.desc (guest_of saved)) (F.reads shelf.old) (F.reads shelf.new) result }
+    ensures comes { Comes resume_run (behind_room words.now (F.files shelf.old) machine.desc (guest_of saved))
+        (F.reads shelf.old) (F.reads shelf.new) result }
     ensures accepts { IfOk result (λ p. verdict_on (judged p.judged) ≡ Accepted → IsAccepted p.judged.machine.desc) }
     ensures reads { OnlyReads F.Shelf shelf.old shelf.new }
 {

@@ -17,7 +17,7 @@ loop-k-preserved g c =
     let states = virtuals cells c.args.guests.now in
     let x = get_or c.args.guests.now c.loop-k.k no_guest in
     record {
-      put = subst (λ t. Puts {T = Unit {0}} {E = Failed} (g.S.Sink.written c.args.out.now) (g.S.Sink.written c.put_one.new.out) (g.S.Sink.faults c.args.out.now) (g.S.Sink.faults c.put_one.new.out) t (Ok tt))
+      put = subst (λ t. Puts {T = Unit {0}} {E = Failed} (g.S.Sink.written c.args.out.now) (g.S.Sink.written c.put_one_guest.new.out) (g.S.Sink.faults c.args.out.now) (g.S.Sink.faults c.put_one_guest.new.out) t (Ok tt))
           (told-next w states c.loop-k.k (virtual cells x) (virtuals-of cells c.args.guests.now c.loop-k.k c.loop-k-test.true))
           (Puts-then _ _ _ _ _ _ (guests_text w 0 (take c.loop-k.k states)) (guest_line c.loop-k.k ++ state_text w (virtual cells x).cells x.psw) tt (Ok tt) c.loop-k.invariant.put
           c.in-Ok.ensures);
@@ -32,12 +32,12 @@ returns-in-Err g c =
     let k = c.loop-k.k in
     let x = get_or c.args.guests.now k no_guest in
     let within : k + 1 ≤ length states = (let len = length-map c.args.guests.now (virtual cells) in omega (arith, len, c.loop-k-test.true)) in
-    let front : Puts {T = Unit {0}} {E = Failed} (g.S.Sink.written c.args.out.now) (g.S.Sink.written c.put_one.new.out) (g.S.Sink.faults c.args.out.now) (g.S.Sink.faults c.put_one.new.out)
+    let front : Puts {T = Unit {0}} {E = Failed} (g.S.Sink.written c.args.out.now) (g.S.Sink.written c.put_one_guest.new.out) (g.S.Sink.faults c.args.out.now) (g.S.Sink.faults c.put_one_guest.new.out)
     (guests_text w 0 (take (k + 1) states)) (Err c.in-Err.failed) =
-    subst (λ t. Puts {T = Unit {0}} {E = Failed} (g.S.Sink.written c.args.out.now) (g.S.Sink.written c.put_one.new.out) (g.S.Sink.faults c.args.out.now) (g.S.Sink.faults c.put_one.new.out) t (Err c.in-Err.failed))
+    subst (λ t. Puts {T = Unit {0}} {E = Failed} (g.S.Sink.written c.args.out.now) (g.S.Sink.written c.put_one_guest.new.out) (g.S.Sink.faults c.args.out.now) (g.S.Sink.faults c.put_one_guest.new.out) t (Err c.in-Err.failed))
     (told-next w states k (virtual cells x) (virtuals-of cells c.args.guests.now k c.loop-k-test.true))
     (Puts-then _ _ _ _ _ _ (guests_text w 0 (take k states)) (guest_line k ++ state_text w (virtual cells x).cells x.psw) tt (Err c.in-Err.failed) c.loop-k.invariant.put c.in-Err.ensures) in
-    subst (λ t. Puts {T = Unit {0}} {E = Failed} (g.S.Sink.written c.args.out.now) (g.S.Sink.written c.put_one.new.out) (g.S.Sink.faults c.args.out.now) (g.S.Sink.faults c.put_one.new.out) t (Err c.in-Err.failed))
+    subst (λ t. Puts {T = Unit {0}} {E = Failed} (g.S.Sink.written c.args.out.now) (g.S.Sink.written c.put_one_guest.new.out) (g.S.Sink.faults c.args.out.now) (g.S.Sink.faults c.put_one_guest.new.out) t (Err c.in-Err.failed))
     (told-rest w states c.args.turns c.args.direct (k + 1) within)
     (Puts-stopped _ _ _ _ (guests_text w 0 (take (k + 1) states)) (guests_text w (k + 1) (drop (k + 1) states) ++ steps_line c.args.turns c.args.direct) c.in-Err.failed c.in-Err.failed front)
 

@@ -1,5 +1,5 @@
+use Rattle.pg_judged.proofs.GuestLemmas.{cert-accepts}
 use Rattle.pg_judged.proofs.JudgedLemmas.{certificate-read}
-use Rattle.pg_tool_run.proofs.LoadingLemmas.{cert-accepts}
 use Rattle.pg_tool_run.proofs.loading.load_behind_images.Goals as goal
 
 pub invariant_of-result : goal.invariant_of-result

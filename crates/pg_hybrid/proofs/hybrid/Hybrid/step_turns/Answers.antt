@@ -3,7 +3,7 @@ use Rattle.pg_machine.specs.declared.machine.Machine.{Machine}
 use Rattle.pg_control.specs.declared.guest.Guest.{Guest}
 use Rattle.pg_control.specs.Standing.{Stands}
 use Rattle.pg_control.proofs.OwnLemmas.{owned-set}
-use Rattle.pg_hybrid.proofs.TurnedLemmas.{Stepped-machine, turned-stepped, stands-stepped}
+use Rattle.pg_hybrid.proofs.TurnedLemmas.{Stepped-machine, stepped-once, turned-stepped, stands-stepped}
 use Rattle.pg_hybrid.proofs.hybrid.Hybrid.step_turns.Goals as goal
 
 pub invariant_of-self : goal.invariant_of-self
@@ -47,3 +47,10 @@ returns-clause-turned g c =
       done = Stepped-machine m.desc c.machine-machine.result.now.desc _ _ _ _ _ _ (ap (λ (x : Machine). x.desc) c.machine-machine.ensures.same) c.burst_on-burst.ensures.stepped;
       set = c.set.ensures;
     })
+
+pub returns-clause-direct : goal.returns-clause-direct
+returns-clause-direct g c = λ h is current one direct.
+    let m = c.args.self.now.accepted.machine.now in
+    stepped-once m.desc c.args.k c.burst_on-burst.result.done c.burst_on-burst.result.goes_on _ (g.H.Hardware.machinery c.select-guest.new.hw) _ c.args.self.now.guests c.select-guest.result h _
+    (ap (λ (l : List Guest). slice_get l c.args.k) (sym c.as_slice.ensures) ∙ c.select-guest.ensures.guest) is (c.select-guest.ensures.same current)
+    (Stepped-machine m.desc c.machine-machine.result.now.desc _ _ _ _ _ _ (ap (λ (x : Machine). x.desc) c.machine-machine.ensures.same) c.burst_on-burst.ensures.stepped) one direct

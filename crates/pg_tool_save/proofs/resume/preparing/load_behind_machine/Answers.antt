@@ -23,6 +23,13 @@ overflow_add-wanted g c =
     let small = size-small m.desc m.valid in
     omega (arith, cells, most, small, c.cells.ensures.cells, c.cells.ensures.most)
 
+pub try_room-requires : goal.try_room-requires
+try_room-requires g c =
+    let state = c.in-Ok.saved.state in
+    let cells = length-storage_of state.size state.cells in
+    let least = c.in-Ok.ensures.saved.least in
+    omega (arith, cells, least)
+
 -- the saved guest stops it
 pub returns-in-Err-clause-comes : goal.returns-in-Err-clause-comes
 returns-in-Err-clause-comes g c =

@@ -1,7 +1,7 @@
 use Rattle.std.proofs.Common.{arith}
 use Rattle.pg_cert.specs.declared.cert.Family.TheVariants.{Plain}
+use Rattle.pg_judged.proofs.GuestLemmas.{cert-accepts}
 use Rattle.pg_judged.proofs.JudgedLemmas.{certificate-read}
-use Rattle.pg_tool_save.proofs.CertLemmas.{cert-accepts}
 use Rattle.pg_tool_save.proofs.RunLemmas.{state-runs}
 use Rattle.pg_tool_save.proofs.resume.preparing.load_behind_room.Goals as goal
 
@@ -21,4 +21,4 @@ invariant_of-result g c =
 pub returns-in-Ok-clause-accepts : goal.returns-in-Ok-clause-accepts
 returns-in-Ok-clause-accepts g c =
     let m = c.args.machine in
-    cert-accepts m.desc (g.F.Shelf.files c.args.shelf.now) c.args.words.now.cert c.in-Ok.report m.valid c.in-Ok.ensures.comes
+    cert-accepts m.desc Plain (g.F.Shelf.files c.args.shelf.now) c.args.words.now.cert c.in-Ok.report m.valid c.in-Ok.ensures.comes

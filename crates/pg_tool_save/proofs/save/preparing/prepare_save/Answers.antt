@@ -1,56 +1,44 @@
-use Rattle.std.proofs.Common.{◌≡◌, ◌-◌, Option, Err, ap, subst, arith}
+use Rattle.std.proofs.Common.{◌≡◌, ◌∙◌, ◌≤◌, ℕ, Err, ap, sym, subst, arith}
 use Rattle.pg_alloc.specs.Fit.{kept_cells}
-use Rattle.pg_edge.specs.Shelf.{Files}
-use Rattle.pg_inputs.specs.Descriptions.{DescDue}
-use Rattle.pg_machine.specs.declared.machine.Machine.{Machine}
+use Rattle.pg_judged.specs.GuestViews.{loaded_guest}
+use Rattle.pg_judged.specs.Guests.{GuestFiles, GuestDue}
 use Rattle.pg_steps.specs.Answering.{Comes}
-use Rattle.pg_steps.specs.Rooms.{RoomDue}
-use Rattle.pg_steps.specs.Steps.{Came}
-use Rattle.pg_steps.proofs.StepLemmas.{comes-stopped, comes-behind}
+use Rattle.pg_steps.specs.Steps.{Came, Gives}
+use Rattle.pg_steps.proofs.StepLemmas.{comes-stopped}
 use Rattle.pg_tool_save.specs.Plans.{save_run}
-use Rattle.pg_tool_save.specs.Save.{SaveDue, behind_desc, behind_room}
+use Rattle.pg_tool_save.specs.Save.{SaveRun, SaveDue, files_of, save_run_of}
+use Rattle.pg_tool_save.proofs.RunLemmas.{image-runs}
 use Rattle.pg_tool_save.proofs.save.preparing.prepare_save.Goals as goal
 
--- the description stops it
+pub invariant_of-result : goal.invariant_of-result
+invariant_of-result g c =
+    let l = c.in-Ok.loaded in
+    let least : 2 ≤ c.cells.result = omega (arith, c.cells.ensures.cells, c.cells.ensures.least) in
+    let few : c.count.result ≤ 1000000 = omega (arith, c.count.ensures.count, c.count.ensures.most) in
+    record {
+      can_run = image-runs l.judged.machine l.image c.cells.result c.count.result least c.in-Ok.ensures.fills c.in-Ok.ensures.room few;
+      filled = c.in-Ok.ensures.fills.whole;
+      few = few;
+    }
+
 pub returns-in-Err-clause-comes : goal.returns-in-Err-clause-comes
 unfolding SaveDue
 returns-in-Err-clause-comes g c =
     let s = c.args.words.now in
     let told = g.F.Shelf.files c.args.shelf.now in
-    comes-stopped (λ (m : Machine). m.desc) save_run (DescDue told s.desc) (behind_desc s told) _ _ _ c.in-Err.stop c.in-Err.ensures.comes (omega arith)
+    let before = g.F.Shelf.reads c.args.shelf.now in
+    let after = g.F.Shelf.reads c.load_guest.new.shelf in
+    let of : ℕ → GuestFiles = λ grant. record { desc = s.desc; image = s.image; cert = s.cert; grant = grant; kept = kept_cells } in
+    let came = subst (λ n. Comes loaded_guest (GuestDue (of n) told) before after (Err c.in-Err.stop)) c.cells.ensures.cells c.in-Err.ensures.comes in
+    comes-stopped loaded_guest save_run (GuestDue (files_of s) told) (λ l. Gives (save_run_of s l)) before after after c.in-Err.stop came (omega arith)
 
--- the room stops it
-pub returns-in-Err-try_room-clause-comes : goal.returns-in-Err-try_room-clause-comes
+pub returns-in-Ok-clause-comes : goal.returns-in-Ok-clause-comes
 unfolding SaveDue
-returns-in-Err-try_room-clause-comes g c =
+returns-in-Ok-clause-comes g c =
     let s = c.args.words.now in
+    let l = loaded_guest c.in-Ok.loaded in
     let told = g.F.Shelf.files c.args.shelf.now in
-    let d = c.in-Ok.machine.desc in
-    let now = g.F.Shelf.reads c.load_machine.new.shelf in
-    let stop = c.in-Err-try_room.stop in
-    let most : c.shape.result.now.q ≡ d.size = ap (λ x. x.q) c.shape.ensures.numbers in
-    let room = subst (λ n. Comes (λ (done : Unit {0}). n) (RoomDue n (d.size - kept_cells)) now now (Err stop)) c.cells.ensures.cells
-    (subst (λ q. Comes (λ (done : Unit {0}). c.cells.result) (RoomDue c.cells.result (q - kept_cells)) now now (Err stop)) most (c.in-Err-try_room.ensures.comes now)) in
-    comes-behind save_run (DescDue told s.desc) (behind_desc s told) d _ now now (Err stop) c.in-Ok.ensures.comes c.load_machine.ensures.reads.later
-    (comes-stopped (λ (done : Unit {0}). s.grant) save_run (RoomDue s.grant (d.size - kept_cells)) (λ cells. behind_room s told d) now now now stop room (omega arith))
-
--- what is behind it says what comes
-pub returns-in-Ok-try_room-clause-comes : goal.returns-in-Ok-try_room-clause-comes
-unfolding SaveDue
-returns-in-Ok-try_room-clause-comes g c =
-    let s = c.args.words.now in
-    let told = g.F.Shelf.files c.args.shelf.now in
-    let d = c.in-Ok.machine.desc in
-    let mid = g.F.Shelf.reads c.load_machine.new.shelf in
-    let after = g.F.Shelf.reads c.load_behind_room.new.shelf in
-    let most : c.shape.result.now.q ≡ d.size = ap (λ x. x.q) c.shape.ensures.numbers in
-    let room = subst (λ n. RoomDue n (d.size - kept_cells) (Came n)) c.cells.ensures.cells
-    (subst (λ q. RoomDue c.cells.result (q - kept_cells) (Came c.cells.result)) most (c.in-Ok-try_room.ensures.comes mid)) in
-    let rest = subst (λ (files : Option Files). Comes save_run (behind_room s files d) mid after c.load_behind_room.result) c.load_machine.ensures.reads.same_files c.load_behind_room.ensures.comes in
-    comes-behind save_run (DescDue told s.desc) (behind_desc s told) d _ mid after c.load_behind_room.result c.in-Ok.ensures.comes c.load_machine.ensures.reads.later
-    (comes-behind save_run (RoomDue s.grant (d.size - kept_cells)) (λ (n : _). behind_room s told d) s.grant mid mid after c.load_behind_room.result room (omega arith) rest)
-
-pub load_behind_room-requires : goal.load_behind_room-requires
-load_behind_room-requires g c =
-    let most = ap (λ x. x.q) c.shape.ensures.numbers in
-    record { room = omega (arith, most, c.cells.ensures.cells, c.in-Ok-try_room.ensures.fits) }
+    let of : ℕ → GuestFiles = λ grant. record { desc = s.desc; image = s.image; cert = s.cert; grant = grant; kept = kept_cells } in
+    let came = subst (λ n. GuestDue (of n) told (Came l)) c.cells.ensures.cells c.in-Ok.ensures.comes in
+    let run : ℕ → ℕ → SaveRun = λ grant steps. record { desc = l.desc; image = l.image; grant = grant; steps = steps; report = l.report } in
+    (l, came, ap (λ n. run n c.count.result) c.cells.ensures.cells ∙ ap (run s.grant) c.count.ensures.count)

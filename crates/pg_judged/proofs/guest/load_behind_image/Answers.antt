@@ -1,0 +1,15 @@
+use Rattle.pg_cert.specs.declared.cert.Family.TheVariants.{Plain}
+use Rattle.pg_judged.proofs.GuestLemmas.{cert-accepts}
+use Rattle.pg_judged.proofs.JudgedLemmas.{certificate-read}
+use Rattle.pg_judged.proofs.guest.load_behind_image.Goals as goal
+
+pub invariant_of-result : goal.invariant_of-result
+invariant_of-result g c =
+    let m = c.args.machine in
+    let read = certificate-read m.desc Plain (g.F.Shelf.files c.args.shelf.now) c.args.source.now.cert.now c.in-Ok.report m.valid c.in-Ok.ensures.comes in
+    record { whole = read.whole; fit = read.fit }
+
+pub returns-in-Ok-clause-accepts : goal.returns-in-Ok-clause-accepts
+returns-in-Ok-clause-accepts g c =
+    let m = c.args.machine in
+    cert-accepts m.desc Plain (g.F.Shelf.files c.args.shelf.now) c.args.source.now.cert.now c.in-Ok.report m.valid c.in-Ok.ensures.comes

@@ -1,0 +1,2 @@
+mod NestLemmas
+pub mod OneNested
