@@ -1,6 +1,6 @@
 //! Guests that go on elsewhere, and guests that find no room.
 
-ghost use Rattle.std.specs.Prelude.{◌≡◌, ◌≤◌};
+ghost use Rattle.std.specs.Prelude.{◌≡◌, ◌≤◌, IfOk};
 ghost use Rattle.pg_meaning.specs.States.{IsState};
 ghost use Rattle.pg_hw.specs.Serving.{IsServed};
 ghost use Rattle.pg_type.specs.Listed.{state_of};
@@ -313,11 +313,38 @@ fn a_guest_moves_where_each_step_traps(rt: HostRuntime) -> Result<(), Fail> {
     )
 }
 
-/// Guests of seven cells and of six, where six are free.
+/// A guest of this text comes behind one of eight cells and 48 that are held, where six are left: it has this number, or finds
+/// no room.
+fn fits<H: Hardware>(
+    rt: &impl Abort,
+    alloc: Global,
+    accepted: Accepted<'_>,
+    hw: &mut H,
+    text: &str,
+    number: Option<usize>,
+) -> Result<(), Fail>
+    requires served { IsServed (H.serves (H.fixed hw.old)) accepted.machine.now.desc }
+    requires room { accepted.machine.now.desc.size ≤ H.room (H.fixed hw.old) }
+{
+    let image = image(alloc, accepted.machine(), "", 8)?;
+    let saved = read(rt, alloc, accepted.machine(), text)?;
+    let mut monitor = taken(alloc, accepted, hw)?;
+    load(&mut monitor, hw, &image)?;
+    let base = monitor.hold(48)?;
+    assert!(rt; base == 10, "{base}");
+    let got = adopted(rt, alloc, &mut monitor, hw, &saved)?;
+    assert!(rt; got == number, "{got:?}");
+    match got {
+        Some(k) => stands_at(rt, alloc, &monitor, hw, k, 0, text),
+        None => Ok(()),
+    }
+}
+
+/// Guests of seven cells and of six.
 const SEVEN: &str = "pgguest 1\nsteps 0\nsize 7\npsw s 2 0 7\nend\n";
 
 const SIX: &str = "pgguest 1
-steps 1000000000
+steps 0
 size 6
 psw u 255 255 255
 0: 00000000 00000000 00000000 00000000 00000000 ffffffff
@@ -328,19 +355,7 @@ end
 fn a_guest_that_finds_no_room_changes_nothing(rt: HostRuntime) -> Result<(), Fail> {
     let alloc = rt.alloc();
     let machine = head_alone(alloc, 64)?;
-    let (seven, six) = (
-        read(&rt, alloc, &machine, SEVEN)?,
-        read(&rt, alloc, &machine, SIX)?,
-    );
-    let image = image(alloc, &machine, "", 8)?;
-    let mut hw = Rig::new(alloc);
-    let mut monitor = taken(alloc, Accepted::of(&machine), &mut hw)?;
-    load(&mut monitor, &mut hw, &image)?;
-    let base = monitor.hold(48)?;
-    assert!(rt; base == 10);
-    let number = adopted(&rt, alloc, &mut monitor, &mut hw, &seven)?;
-    assert!(rt; number == None, "{number:?}");
-    let number = adopted(&rt, alloc, &mut monitor, &mut hw, &six)?;
-    assert!(rt; number == Some(1), "{number:?}");
-    stands_at(&rt, alloc, &monitor, &hw, 1, six.steps, SIX)
+    let accepted = Accepted::of(&machine);
+    fits(&rt, alloc, accepted, &mut Rig::new(alloc), SEVEN, None)?;
+    fits(&rt, alloc, accepted, &mut Rig::new(alloc), SIX, Some(1))
 }
