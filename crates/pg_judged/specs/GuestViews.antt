@@ -1,6 +1,6 @@
 -- The files of one guest and what they hold, as plain data.
-use Rattle.pg_judged.specs.declared.guest.GuestSource.{GuestSource}
-use Rattle.pg_judged.specs.declared.guest.LoadedGuest.{LoadedGuest}
+use Rattle.pg_judged.specs.declared.source.GuestSource.{GuestSource}
+use Rattle.pg_judged.specs.declared.source.LoadedGuest.{LoadedGuest}
 use Rattle.pg_judged.specs.Guests.{GuestFiles, Loaded}
 
 abbrev pub guest_source : GuestSource → GuestFiles

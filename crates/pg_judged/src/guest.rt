@@ -16,7 +16,7 @@ ghost use Rattle.pg_type.specs.Accepting.{IsAccepted};
 
 use crate::certified::load_certificate;
 use crate::machine::JudgedMachine;
-use pg_asked::FileName;
+use crate::source::{GuestSource, LoadedGuest};
 use pg_cert::Family;
 use pg_edge::Shelf;
 use pg_image::Image;
@@ -24,32 +24,6 @@ use pg_inputs::{load_image, load_machine};
 use pg_machine::Machine;
 use pg_steps::{Stop, try_room};
 use std::alloc::Global;
-
-/// The files of one guest, and the room that it wants.
-#[derive(Drop)]
-pub struct GuestSource<'a> {
-    /// The name of the file with the description.
-    pub desc: &'a FileName,
-    /// The name of the file with the image.
-    pub image: &'a FileName,
-    /// The name of the file with the certificate, by which a monitor may run the machine.
-    pub cert: &'a FileName,
-    /// How many cells the guest is granted: 2 or more.
-    pub grant: u32,
-    /// How many cells monitors keep.
-    pub kept: u32,
-    /// Two or more.
-    pub ghost least: { 2 ≤ grant },
-}
-
-/// What the files of one guest hold.
-#[derive(Drop)]
-pub struct LoadedGuest {
-    /// The machine, and what is kept of its certificate.
-    pub judged: JudgedMachine,
-    /// The words of the guest's cells when it is switched on.
-    pub image: Image,
-}
 
 /// What the files of one guest hold; or why a command goes no further.
 pub fn load_guest<F: Shelf>(

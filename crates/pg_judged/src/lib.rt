@@ -4,17 +4,20 @@
 //! for the machine is `VerdictMeans` (`specs/Meaning.antt`).
 //!
 //! - `certified`: a file to what is kept of a certificate. `machine`, `judged`: a machine with that.
-//! - `guest`: files to one guest, its machine and the certificate by which it may run. `telling`: the verdict told, and its status.
+//! - `source`, `guest`: files to one guest, its machine and the certificate by which it may run.
+//! - `telling`: the verdict told, and its status.
 #![tactic(auto)]
 
 mod certified;
 mod guest;
 mod judged;
 mod machine;
+mod source;
 mod telling;
 
 pub use certified::{load_certificate, stop_of_text};
-pub use guest::{GuestSource, LoadedGuest, load_guest};
+pub use guest::load_guest;
 pub use judged::load_judged;
 pub use machine::JudgedMachine;
+pub use source::{GuestSource, LoadedGuest};
 pub use telling::{is_accepted, status_of, tell_verdict};
