@@ -1,5 +1,5 @@
 -- Bare machines of eight cells.
-use Rattle.std.proofs.Common.{◌≡◌, ℕ, ◌<◌, ◌≤◌, ◌^◌, List, length, All, ◌∙◌, ap, pow_mono, arith, lit≤}
+use Rattle.std.proofs.Common.{◌≡◌, ℕ, ◌<◌, ◌≤◌, ◌^◌, List, length, All, ◌∙◌, ap, arith, lit≤}
 use Rattle.std.proofs.lemmas.List.{length-replicate}
 use Rattle.std.proofs.lemmas.List.Elements.{All-weaker}
 use Rattle.pg_word.specs.Psw.{power_on_psw}
@@ -8,7 +8,6 @@ use Rattle.pg_meaning.specs.States.{State, IsState}
 use Rattle.pg_meaning.specs.Steps.{power_on}
 use Rattle.pg_valid.specs.Valid.{IsValid}
 use Rattle.pg_valid.proofs.StepSound.{power_on-state}
-use Rattle.pg_valid.proofs.ValidFacts.{IsShape-of_valid}
 use Rattle.pg_hw.specs.Serving.{IsServedWord, IsServedPsw, blank}
 use Rattle.pg_hw.proofs.ServingLaws.{IsServedWord-of, IsServedPsw-of, blank-state}
 use Rattle.pg_tests_hostile.specs.Images.{IsImage}
@@ -30,10 +29,3 @@ pub first-state : (d : Desc) (image : List ℕ) → IsValid d → IsImage d imag
 first-state d image v is =
     let size = is.size in
     power_on-state d image (length image) v (omega (arith, size)) (omega (arith, size, is.within)) (omega arith) is.words
-
--- no machine has more cells than a hardware in memory has room for
-pub size-small : (d : Desc) → IsValid d → d.size ≤ 4294967295
-size-small d v =
-    let shape = IsShape-of_valid d v in
-    let most : 2 ^ d.address ≤ 2 ^ 20 = pow_mono shape.address_most in
-    omega (arith, shape.size_most, most)

@@ -1,13 +1,15 @@
 //! Guests that reach for what is not theirs, each beside a neighbour that must not notice.
 
-use crate::pairs::{expect, is_at};
+use crate::monitors::expect;
+use crate::pairs::is_at;
 use crate::setting::{accepted, machine};
 use pg_hw::Hardware;
-use pg_samples::{EDGES, LOOP};
+use pg_samples::{EDGES, LOOP, M0};
 use pg_word::{Mode, Psw};
 use std::test::Fail;
 
-const HOSTILE: [&str; 12] = [
+/// Images of guests of eight cells.
+pub(crate) const HOSTILE: [&str; 12] = [
     // It makes of its next instruction one that loads a register past its grant.
     "1: 00020008 01030405 02000002 04000000 0000ffff\n",
     // It makes a jump of its next word, which is no instruction; and no instruction of its own word.
@@ -75,7 +77,7 @@ const WORKED: [Worked; 2] = [
 #[test]
 fn windows_past_a_grant_reach_nothing(rt: HostRuntime) -> Result<(), Fail> {
     let alloc = rt.alloc();
-    let machine = machine(alloc)?;
+    let machine = machine(alloc, M0)?;
     let accepted = accepted(alloc, &machine)?;
     for l in EDGES {
         for b in EDGES {
@@ -89,7 +91,7 @@ fn windows_past_a_grant_reach_nothing(rt: HostRuntime) -> Result<(), Fail> {
 #[test]
 fn a_neighbour_does_not_notice(rt: HostRuntime) -> Result<(), Fail> {
     let alloc = rt.alloc();
-    let machine = machine(alloc)?;
+    let machine = machine(alloc, M0)?;
     let accepted = accepted(alloc, &machine)?;
     for image in HOSTILE {
         expect(&rt, alloc, accepted, (image, LOOP), 20)?;
@@ -101,7 +103,7 @@ fn a_neighbour_does_not_notice(rt: HostRuntime) -> Result<(), Fail> {
 #[test]
 fn hostile_guests_come_to_what_was_worked_out(rt: HostRuntime) -> Result<(), Fail> {
     let alloc = rt.alloc();
-    let machine = machine(alloc)?;
+    let machine = machine(alloc, M0)?;
     let accepted = accepted(alloc, &machine)?;
     for run in &WORKED {
         let pair = expect(&rt, alloc, accepted, (run.image, run.neighbour), run.steps)?;

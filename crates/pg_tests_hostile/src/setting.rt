@@ -1,17 +1,16 @@
-//! The machine, images of guests of eight cells, and bare machines.
+//! Machines, images of guests of eight cells, and bare machines.
 
 ghost use Rattle.std.specs.Prelude.{◌≡◌, IfOk};
 ghost use Rattle.pg_tests_hostile.specs.Images.{IsImage};
 
 use pg_cert::{Verdict, report_of};
-use pg_classify::classify;
+use pg_classify::{classify, classify_hybrid};
 use pg_hw::Hardware;
 use pg_image::{Image, read_image};
 use pg_machine::{Machine, check};
 use pg_read::read_desc;
 use pg_rig::{Rig, bare, power_on};
-use pg_samples::M0;
-use pg_type::Accepted;
+use pg_type::{Accepted, HybridAccepted};
 use pg_word::Psw;
 use std::alloc::Global;
 use std::test::Fail;
@@ -19,9 +18,9 @@ use std::test::Fail;
 /// How many cells a guest has.
 pub(crate) const CELLS: u32 = 8;
 
-/// The machine.
-pub(crate) fn machine(alloc: Global) -> Result<Machine, Fail> {
-    match check(alloc, read_desc(alloc, M0.as_bytes())?) {
+/// The machine of a description.
+pub(crate) fn machine(alloc: Global, text: &str) -> Result<Machine, Fail> {
+    match check(alloc, read_desc(alloc, text.as_bytes())?) {
         Ok(machine) => Ok(machine),
         Err(_) => Err("it is valid".into()),
     }
@@ -35,6 +34,18 @@ pub(crate) fn accepted(alloc: Global, machine: &Machine) -> Result<Accepted<'_>,
     let report = report_of(alloc, &cert)?;
     match report.verdict() {
         Verdict::Accepted => Ok(Accepted::of(machine)),
+        _ => Err("it is accepted".into()),
+    }
+}
+
+/// A machine that a hybrid monitor may run, as is known by the certificate that is found of it.
+pub(crate) fn hybrid_accepted(alloc: Global, machine: &Machine) -> Result<HybridAccepted<'_>, Fail>
+    ensures { IfOk result (λ a. a.machine.now ≡ machine.now) }
+{
+    let cert = classify_hybrid(alloc, machine, 20_000)?;
+    let report = report_of(alloc, &cert)?;
+    match report.verdict() {
+        Verdict::Accepted => Ok(HybridAccepted::of(machine)),
         _ => Err("it is accepted".into()),
     }
 }

@@ -5,8 +5,8 @@ use Rattle.pg_valid.proofs.ValidFacts.{IsShape-of_valid}
 use Rattle.pg_hw.specs.Machinery.{Machinery}
 use Rattle.pg_hw.proofs.ServingLaws.{blank-state}
 use Rattle.pg_control.proofs.LoadLemmas.{shape-same}
-use Rattle.pg_tests_hostile.proofs.Bare.{blank-length}
-use Rattle.pg_tests_hostile.proofs.pairs.taken.Goals as goal
+use Rattle.pg_tests_move.proofs.Blank.{blank-length}
+use Rattle.pg_tests_move.proofs.setting.taken.Goals as goal
 
 pub new-requires-clause-size : goal.new-requires-clause-size
 new-requires-clause-size g c =
