@@ -3,7 +3,7 @@
 # are, and ends well where each of the machines is accepted. PGV is the program.
 PGV ?= pgv
 ACCEPTED ?= $(names)
-names := $(patsubst %.isa,%,$(wildcard *.isa))
+names := $(patsubst %.isa,%,$(sort $(wildcard *.isa)))
 
 .PHONY: verdicts verify
 verdicts: $(names:=.cert)
