@@ -1,0 +1,81 @@
+# Completion of pgv for bash: source it, or install it as share/bash-completion/completions/pgv. It needs bash 4.
+
+# The files of one ending that begin with a word, and folders; any file where there is none of that ending.
+_pgv_files() {
+  local word="$1" ending="$2" found
+  compopt -o filenames 2>/dev/null
+  mapfile -t COMPREPLY < <(compgen -f -X "!*$ending" -- "$word")
+  [ ${#COMPREPLY[@]} -gt 0 ] || mapfile -t COMPREPLY < <(compgen -f -- "$word")
+  while IFS= read -r found; do
+    [[ " ${COMPREPLY[*]} " == *" $found "* ]] || COMPREPLY+=("$found")
+  done < <(compgen -d -- "$word")
+}
+
+_pgv() {
+  local commands="bare check verify replay run print gen migrate hcheck hybrid nest asm disasm save resume"
+  local word="${COMP_WORDS[COMP_CWORD]}" command="${COMP_WORDS[1]}" files="" options="" used=" " value="" at=0 past=no i name
+  COMPREPLY=()
+  if [ "$COMP_CWORD" = 1 ]; then
+    mapfile -t COMPREPLY < <(compgen -W "$commands" -- "$word")
+    return
+  fi
+  case $command in
+    bare) files=".isa .img" options="--grant --steps" ;;
+    check | hcheck) files=".isa" options="--cert --budget" ;;
+    verify | replay) files=".isa .cert" ;;
+    run | hybrid) files=".isa .cert .img .img .img .img .img .img .img .img" options="--grant --steps --slice" ;;
+    print) files=".isa" ;;
+    gen) files="- -" options="--cert" ;;
+    migrate) files=".isa .cert .cert" ;;
+    nest) files=".isa .cert .img" options="--grant --steps --depth" ;;
+    asm) files=".isa .s" options="--grant" ;;
+    disasm) files=".isa .img" options="--grant" ;;
+    save) files=".isa .cert .img .saved" options="--grant --steps" ;;
+    resume) files=".isa .cert .saved" options="--steps --skip" ;;
+    *) return ;;
+  esac
+
+  # What stands before the word: options with their values, and files. bash makes three words of --grant=8.
+  for ((i = 2; i < COMP_CWORD; i++)); do
+    name="${COMP_WORDS[i]}"
+    if [ $past = no ] && [ "$name" = -- ]; then
+      past=yes
+    elif [ $past = no ] && [[ $name == --* ]]; then
+      used+="${name%%=*} "
+      [[ $name == *=* ]] && continue
+      [ "${COMP_WORDS[i + 1]}" = "=" ] && ((i++))
+      ((i++))
+      [ "$i" -ge "$COMP_CWORD" ] && value="$name"
+    else
+      ((at++))
+    fi
+  done
+
+  [ "$word" = "=" ] && word=""
+  case $value in
+    --cert) _pgv_files "$word" .cert; return ;;
+    --depth) mapfile -t COMPREPLY < <(compgen -W "1 2 3 4" -- "$word"); return ;;
+    --*) return ;;
+  esac
+  if [ $past = no ] && [[ $word == -* ]]; then
+    for name in $options; do
+      [[ $used == *" $name "* ]] || COMPREPLY+=("$name")
+    done
+    mapfile -t COMPREPLY < <(compgen -W "${COMPREPLY[*]}" -- "$word")
+    return
+  fi
+  set -f
+  # shellcheck disable=SC2086
+  set -- $files
+  set +f
+  shift "$((at < $# ? at : $#))"
+  if [ $# -gt 0 ] && [ "$1" != - ]; then
+    _pgv_files "$word" "$1"
+  elif [ $# = 0 ] && [ $past = no ] && [ -z "$word" ]; then
+    for name in $options; do
+      [[ $used == *" $name "* ]] || COMPREPLY+=("$name")
+    done
+  fi
+}
+
+complete -F _pgv pgv
