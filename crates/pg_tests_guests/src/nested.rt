@@ -17,25 +17,77 @@ psw s 0 7 5
 steps 3 direct 1
 ";
 
-/// The word of a monitor: supervisor mode, P 2, and the whole storage, which has two cells fewer for each monitor below it.
-const WORDS: [u64; 4] = [0x0002_0040, 0x0002_003e, 0x0002_003c, 0x0002_003a];
+/// The guest under each number of monitors, and cells of the hardware behind its run: the word of each monitor (supervisor mode, P 2
+/// and the whole storage, which has two cells fewer for each monitor below it), the guest's own cells, and one behind them.
+const DEPTHS: [(&str, &[(u32, u64)]); 4] = [
+    (
+        "nest d c i --grant 8 --steps 3 --depth 1",
+        &[
+            (1, 0x0002_0040),
+            (2, 0x0001_0705),
+            (3, 0x0000_0705),
+            (9, 0x0200_0000),
+            (10, 0),
+        ],
+    ),
+    (
+        "nest d c i --grant 8 --steps 3 --depth 2",
+        &[
+            (1, 0x0002_0040),
+            (3, 0x0002_003e),
+            (4, 0x0001_0705),
+            (5, 0x0000_0705),
+            (11, 0x0200_0000),
+            (12, 0),
+        ],
+    ),
+    (
+        "nest d c i --grant 8 --steps 3 --depth 3",
+        &[
+            (1, 0x0002_0040),
+            (3, 0x0002_003e),
+            (5, 0x0002_003c),
+            (6, 0x0001_0705),
+            (7, 0x0000_0705),
+            (13, 0x0200_0000),
+            (14, 0),
+        ],
+    ),
+    (
+        "nest d c i --grant 8 --steps 3 --depth 4",
+        &[
+            (1, 0x0002_0040),
+            (3, 0x0002_003e),
+            (5, 0x0002_003c),
+            (7, 0x0002_003a),
+            (8, 0x0001_0705),
+            (9, 0x0000_0705),
+            (15, 0x0200_0000),
+            (16, 0),
+        ],
+    ),
+];
+
+/// Whether cells of the hardware hold these words, each of which stands behind its address.
+fn holds(at: &Setting, cells: &[(u32, u64)]) -> bool {
+    for cell in cells {
+        if at.cell(cell.0) != Some(cell.1) {
+            return false;
+        }
+    }
+    true
+}
 
 #[test]
 fn a_guest_ends_alike_under_each_number_of_monitors(rt: HostRuntime) -> Result<(), Fail> {
     let files = [("d", M0), ("c", ""), ("i", CLIPPED)];
     let mut at = Setting::new(rt.alloc(), &files, &[])?;
     at.run("check d --cert c")?;
-    for depth in 1..=4 {
-        let line = format!(in rt.alloc(); "nest d c i --grant 8 --steps 3 --depth {depth}")?;
-        at.expect(&line, Status::Done, CLIPPED_TOLD)?;
+    for (line, cells) in DEPTHS {
+        at.expect(line, Status::Done, CLIPPED_TOLD)?;
         assert_eq!(rt; at.size(), 64);
         assert_eq!(rt; (at.counts().steps, at.counts().untrapped), (3, 1));
-        for j in 1..=depth {
-            assert_eq!(rt; at.cell(2 * j - 1), Some(WORDS[j as usize - 1]), "{line}");
-        }
-        let cells = [0, 1, 2, 7].map(|n| at.cell(2 * depth + n));
-        let wanted = [0x0001_0705, 0x0000_0705, 0, 0x0200_0000].map(Some);
-        assert_eq!(rt; cells, wanted, "{line}");
+        assert!(rt; holds(&at, cells), "{line}");
     }
     Ok(())
 }
