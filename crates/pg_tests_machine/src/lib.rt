@@ -1,4 +1,4 @@
-//! Tests of the machine and of what runs guests on it: `pg_word`, `pg_hw`, `pg_routine`, `pg_alloc`, `pg_monitor`, `pg_nest`.
+//! Tests of the machine and of what runs guests on it: `pg_word`, `pg_hw`, `pg_routine`, `pg_alloc`, `pg_monitor`.
 //!
 //! They stand in a crate of their own, since a crate with tests is proved twice. Each public call is made once on its happy
 //! path, where memory is ample; the values that are compared were worked out by hand. The hardware is `Idle`, the smallest
@@ -9,7 +9,6 @@
 //! - `routine`: a guest's composed program status word, and its interpreted steps.
 //! - `grants`: grants that are placed and released.
 //! - `monitor`: a monitor that takes guests, reaches them, and gives them turns, by plans and by slices.
-//! - `nested`: the guest of a monitor as a hardware.
 //! - `setting`: the machine without instructions, on which all of them run, and what is asked of a hardware.
 #![tactic(auto)]
 
@@ -19,8 +18,6 @@ mod grants;
 mod hardware;
 #[cfg(test)]
 mod monitor;
-#[cfg(test)]
-mod nested;
 #[cfg(test)]
 mod routine;
 #[cfg(test)]

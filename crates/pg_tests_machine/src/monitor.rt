@@ -5,7 +5,7 @@ ghost use Rattle.pg_hw.specs.Serving.{IsServed};
 ghost use Rattle.pg_monitor.specs.Monitors.{desc_of};
 ghost use Rattle.pg_control.specs.Standing.{Stands};
 
-use crate::setting::{accepted, counts, has_words, head_alone, psw};
+use crate::setting::{counts, has_words, head_alone, psw};
 use pg_hw::{Hardware, Idle};
 use pg_image::Image;
 use pg_machine::Machine;
@@ -215,6 +215,14 @@ fn turns_and_changes_of_guest_are_counted(rt: HostRuntime) -> Result<(), Fail> {
         )
     );
     Ok(())
+}
+
+/// Without instructions there is none that is sensitive.
+fn accepted(machine: &Machine) -> Accepted
+    requires { machine.now.desc.instrs ≡ [] }
+    ensures { result.machine.now ≡ machine.now }
+{
+    Accepted::of(machine)
 }
 
 /// A monitor that took a storage of 64 cells.

@@ -5,7 +5,6 @@ ghost use Rattle.std.specs.Prelude.{◌≡◌, [], IfOk};
 use pg_ast::Desc;
 use pg_hw::{Counts, Hardware};
 use pg_machine::{Machine, check};
-use pg_type::Accepted;
 use pg_word::{Mode, Psw};
 use sqlite_items::Items;
 use std::alloc::Global;
@@ -29,14 +28,6 @@ pub(crate) fn head_alone(alloc: Global, causes: bool) -> Result<Machine, Fail>
         Ok(machine) => Ok(machine),
         Err(_) => Err(Fail::from("a head alone is valid")),
     }
-}
-
-/// Without instructions there is none that is sensitive.
-pub(crate) fn accepted(machine: &Machine) -> Accepted
-    requires { machine.now.desc.instrs ≡ [] }
-    ensures { result.machine.now ≡ machine.now }
-{
-    Accepted::of(machine)
 }
 
 /// A program status word.
