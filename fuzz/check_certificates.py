@@ -15,7 +15,7 @@ from judging_migrations import MigrationJudge
 from pgvmodel.answers import Answer, verifying
 from pgvmodel.clauses import Clause, Clauses, Step, Wrong
 from pgvmodel.command import Migration, answer, on_full_output
-from pgvmodel.error_lines import NO_OUTPUT, ErrorLine, missing, unreadable, unwritable
+from pgvmodel.error_lines import NO_OUTPUT, ErrorLine, fits_refusal, missing, unreadable, unwritable
 from pgvmodel.families import HYBRID
 from pgvmodel.questions import NotModelled, read_formula
 from pgvmodel.reader import read
@@ -536,7 +536,15 @@ def wrong_error_lines() -> list[str]:
         "a long name": missing("n" * 4096).fits(b"pgv: " + b"n" * 4096 + b": no such file\n"),
         "a longer one": missing("n" * 4097).fits(b"pgv: " + b"n" * 4096 + b"...: no such file\n"),
         "cut in a character": missing("n" + "\u00e9" * 2048).fits(b"pgv: n" + b"\xc3\xa9" * 2047 + b"\xc3...: no such file\n"),
-        "sink": NO_OUTPUT.fits(b"pgv: standard output: cannot be written\n"),
+        "sink": NO_OUTPUT.fits(b"pgv: standard output: cannot be written: no space left on device\n"),
+        "behind a verdict": unwritable("c").fits(b"pgv: warning: c: cannot be written: x\naccepted\npgv: c: cannot be written: is a directory\n"),
+        "words": fits_refusal(3, b"pgv: unexpected argument 'x' found\n", 0),
+        "no words": not fits_refusal(3, b"", 0),
+        "pointed": fits_refusal(4, b"a b:2:10: this cannot stand here\n\tlet x\n\t    ^\n", 0),
+        "the whole file": fits_refusal(5, b"f: an image has at most 33,554,432 bytes\n", 0),
+        "no caret": not fits_refusal(4, b"f:2:10: this cannot stand here\nlet x\n", 0),
+        "a long file": fits_refusal(5, b"", 1 << 21) and not fits_refusal(5, b"", 9),
+        "nothing else": fits_refusal(0, b"", 0) and not fits_refusal(0, b"f: x\n", 0),
     }
     return [name for name, is_so in checks.items() if not is_so]
 

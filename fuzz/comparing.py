@@ -19,7 +19,7 @@ from judging_migrations import MigrationJudge
 from pgvmodel.answers import CERTIFICATE, DESCRIPTION, IMAGE, SAVED, SOURCE, Answer
 from pgvmodel.command import SAVING, Answered, Generation, Migration, Search, answer, on_full_output
 from pgvmodel.deciding import Solver
-from pgvmodel.error_lines import NO_OUTPUT
+from pgvmodel.error_lines import NO_OUTPUT, fits_refusal
 from pgvmodel.questions import NotModelled, Questions
 from pgvmodel.words import SWITCHED_ON
 
@@ -60,10 +60,14 @@ class Outcome(NamedTuple):
         return f"{self.status} {words[0].decode()}" if self.status in REFUSED_FILES and words else str(self.status)
 
 
-def beside(model: Answer, program: Outcome) -> Outcome:
-    """The outcome of an answer. Its line on standard error is the program's, where that has the form that is due."""
+def beside(model: Answer, program: Outcome, longest: int) -> Outcome:
+    """The outcome of an answer. What stands on standard error is the program's, where that has the form that is due.
+
+    The longest file has so many bytes.
+    """
     if model.error is None:
-        return Outcome(model.status, model.output, b"")
+        fits = fits_refusal(model.status, program.errors, longest)
+        return Outcome(model.status, model.output, program.errors if fits else b"(the form that is due)")
     errors = program.errors if model.error.fits(program.errors) else model.error.spelled()
     return Outcome(model.status, model.output, errors)
 
@@ -213,7 +217,7 @@ class Comparison:
         if isinstance(model, Outcome):
             return model
         if isinstance(model, Answer):
-            outcome = beside(model, program)
+            outcome = beside(model, program, self.longest())
             return outcome if after == with_saved(model, before) else outcome._replace(errors=b"other files were changed, or saved")
         ended = Ended(program.status, program.output)
         try:
@@ -224,7 +228,11 @@ class Comparison:
             return Outcome(None, b"", "\n".join(complaints).encode())
         is_full = isinstance(model, Generation) and model.is_full
         error = NO_OUTPUT if is_full else None
-        return beside(Answer(program.status, program.output, error), program)
+        return beside(Answer(program.status, program.output, error), program, self.longest())
+
+    def longest(self) -> int:
+        """How many bytes the longest file of the case has."""
+        return max((path.stat().st_size for path in self.files.rglob("*") if path.is_file()), default=0)
 
     def with_others(self, program: Outcome, words: Sequence[str], tally: Tally) -> Outcome:
         """The outcome of a run, or a complaint where one with these other words ends otherwise."""
@@ -246,12 +254,13 @@ class Comparison:
         return ended, saved.read_bytes() if saved.is_file() else None
 
     def run_again(self, words: Sequence[str], description: bytes, certificate: bytes) -> Ended:
-        """Runs the program on these texts; what is on standard error is counted as output."""
+        """Runs the program on these texts; what is on standard error is counted as output, but for words behind a refusal."""
         self.again.mkdir(exist_ok=True)
         (self.again / DESCRIPTION_FILE).write_bytes(description)
         (self.again / CERTIFICATE_FILE).write_bytes(certificate)
         program = self.by_program(words, self.again)
-        return Ended(program.status, program.output + program.errors)
+        words = fits_refusal(program.status, program.errors, len(certificate))
+        return Ended(program.status, program.output + (b"" if words else program.errors))
 
     def by_program(self, words: Sequence[str], folder: Path, is_full: bool = False) -> Outcome:
         with open(FULL if is_full else os.devnull, "wb") as full:

@@ -1,4 +1,4 @@
-"""What stands on standard error: one line where a file or standard output failed, and else nothing."""
+"""What stands on standard error: one line where a file or standard output failed, and words for people where words or a file are refused."""
 
 import re
 from typing import NamedTuple
@@ -13,14 +13,17 @@ MOST_NAMED = 4096
 
 
 class ErrorLine(NamedTuple):
-    """A line without its line feed; behind some a reason stands."""
+    """A line without its line feed; behind some a reason stands, and before some a warning and a verdict."""
 
     text: str
     has_reason: bool = False
+    is_last: bool = False
 
     def fits(self, errors: bytes) -> bool:
-        """Whether standard error has this line and no more."""
+        """Whether standard error has this line and no more, or as its last one."""
         text = self.bytes_of_text()
+        if self.is_last and errors.endswith(b"\n"):
+            errors = errors[:-1].rpartition(b"\n")[2] + b"\n"
         if not (errors.startswith(text) and errors.endswith(b"\n")):
             return False
         rest = errors[len(text) : -1]
@@ -42,7 +45,28 @@ def _named(name: str) -> str:
     return _CONTROL.sub(b"?", cut).decode(errors="surrogateescape")
 
 
-NO_OUTPUT = ErrorLine("pgv: standard output: cannot be written")
+NO_OUTPUT = ErrorLine("pgv: standard output: cannot be written: ", has_reason=True)
+
+_COMPLAINT = re.compile(rb"pgv: [^\x00-\x1f\x7f]+\n")
+"""What is wrong with words."""
+
+_POINTED = re.compile(rb"[^\n]*?(: |:[1-9][0-9]*:[1-9][0-9]*: )[^\n]+\n([^\n]*\n[\t ]*\^\n)?")
+"""Where a file is at fault, and what is wrong: with its line and a mark, or without."""
+
+MOST_HELD = 1 << 20
+"""Bytes of a file that the program holds; of a longer one it may say nothing."""
+
+_WORDS, _FILES = 3, (4, 5, 6, 12, 13)
+"""The statuses of refused words, and of refused files."""
+
+
+def fits_refusal(status: int, errors: bytes, longest: int) -> bool:
+    """Whether this may stand on standard error behind a status, where no file failed and the longest file has so many bytes."""
+    if status == _WORDS:
+        return bool(_COMPLAINT.fullmatch(errors))
+    if status in _FILES:
+        return bool(_POINTED.fullmatch(errors)) or (not errors and longest > MOST_HELD)
+    return not errors
 
 
 def missing(name: str) -> ErrorLine:
@@ -57,4 +81,4 @@ def unreadable(name: str) -> ErrorLine:
 
 def unwritable(name: str) -> ErrorLine:
     """Nothing can be saved under this name."""
-    return ErrorLine(f"pgv: {_named(name)}: cannot be written: ", has_reason=True)
+    return ErrorLine(f"pgv: {_named(name)}: cannot be written: ", has_reason=True, is_last=True)
