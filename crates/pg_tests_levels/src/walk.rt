@@ -69,7 +69,16 @@ fn told<H: Hardware>(alloc: Global, hw: &H, done: u64) -> Result<String, AllocEr
     let cells = (cell(hw, 0), cell(hw, 1), cell(hw, 5));
     format!(in alloc;
         "{done} done; 0: {:08x} 1: {:08x} 5: {:08x}; {mode} {} {} {}; {} steps, {} untrapped, {} poke, {} load",
-        cells.0, cells.1, cells.2, psw.p, psw.l, psw.b, counts.steps, counts.untrapped, counts.pokes, counts.loads
+        cells.0,
+        cells.1,
+        cells.2,
+        psw.p,
+        psw.l,
+        psw.b,
+        counts.steps,
+        counts.untrapped,
+        counts.pokes,
+        counts.loads
     )
 }
 

@@ -71,7 +71,10 @@ impl Held {
             return;
         };
         let whole = last + 1;
-        let lines = self.bytes[..whole].iter().filter(|byte| **byte == b'\n').count();
+        let lines = self.bytes[..whole]
+            .iter()
+            .filter(|byte| **byte == b'\n')
+            .count();
         self.first_line = self.first_line.saturating_add(lines as u64);
         self.bytes.drain(..whole);
     }
@@ -120,7 +123,13 @@ impl<F: Shelf + Drop> Shelf for Holding<'_, F> {
         answer
     }
 
-    fn part(&mut self, name: &str, at: u64, most: u64, into: &mut Vec<u8>) -> Result<(), LoadFault> {
+    fn part(
+        &mut self,
+        name: &str,
+        at: u64,
+        most: u64,
+        into: &mut Vec<u8>,
+    ) -> Result<(), LoadFault> {
         let answer = self.shelf.part(name, at, most, into);
         if let Ok(mut held) = self.held.try_borrow_mut() {
             held.part(name, at, into.as_slice());

@@ -7,7 +7,6 @@ use pg_asked::Request;
 use pg_cert::put::kind_name;
 use pg_host::{Progress, StdSink};
 use pg_judged::tell_verdict;
-
 use pg_tool::{JudgedMachine, Kind, Refusal, Stop, StopWatcher, VerdictWatcher, Watcher};
 use std::cell::RefCell;
 use std::io::Write;
@@ -96,7 +95,11 @@ impl<R: Files, E: Write + Drop> VerdictWatcher for Watching<'_, R, E> {
 }
 
 /// STUB
-fn push_pointed(into: &mut Vec<u8>, _refusal: &pg_report::RefusalLine, held: &Held) -> Result<(), std::alloc::AllocError> {
+fn push_pointed(
+    into: &mut Vec<u8>,
+    _refusal: &pg_report::RefusalLine,
+    held: &Held,
+) -> Result<(), std::alloc::AllocError> {
     into.extend_from_slice(held.name.as_str().as_bytes())?;
     into.push(b'\n')?;
     Ok(())

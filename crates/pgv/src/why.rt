@@ -2,9 +2,9 @@
 
 use crate::screen::PROGRAM;
 use pg_command::complaint;
-use pg_host::{Cause, Deed, Refused};
 use pg_host::streams::write_whole;
 use pg_host::telling::{tell, tell_refused};
+use pg_host::{Cause, Deed, Refused};
 use pg_tool::Status;
 use std::alloc::{AllocError, Global};
 use std::io::{ErrorKind, Write};
@@ -24,7 +24,11 @@ pub fn say_why<W: Write>(
     let _ = match (status, refused) {
         (Status::Memory, _) => tell(to, PROGRAM, "out of memory"),
         (Status::WriteFault, _) if output == Some(ErrorKind::BrokenPipe) => Ok(()),
-        (Status::WriteFault, _) if output.is_some() => tell_refused(to, PROGRAM, &unwritten(output)),
+        (Status::WriteFault, _) if output.is_some() => tell_refused(
+            to,
+            PROGRAM,
+            &unwritten(output),
+        ),
         (Status::ReadFault | Status::WriteFault | Status::Missing, Some(refused)) => {
             tell_refused(to, PROGRAM, refused)
         }
