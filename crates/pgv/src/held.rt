@@ -15,24 +15,27 @@ const MOST_HELD: usize = 1 << 20;
 
 /// What was read of the file that was asked for last.
 #[derive(Drop)]
-pub struct Held {
+pub struct LastRead {
     /// The file's name.
     pub name: String,
-    /// The number of the first line that is held, from 1.
-    pub first_line: u64,
-    /// The lines that are held, of which the last may go on.
+    /// How many line feeds stand in the file before what is held.
+    pub feeds: u64,
+    /// What is held: the file, or of a long one that is read in parts the last of its lines.
     pub bytes: Vec<u8>,
-    /// Where the file goes on behind them.
+    /// Whether that is so: false where there was too much to hold, or no memory.
+    pub is_held: bool,
+    /// Where the file goes on behind it.
     end: u64,
 }
 
-impl Held {
+impl LastRead {
     /// Nothing yet.
-    pub fn new(alloc: Global) -> Held {
-        Held {
+    pub fn new(alloc: Global) -> LastRead {
+        LastRead {
             name: String::new(alloc),
-            first_line: 1,
+            feeds: 0,
             bytes: Vec::new(alloc),
+            is_held: false,
             end: 0,
         }
     }
@@ -40,10 +43,11 @@ impl Held {
     /// Begins with the file of this name, of which nothing is held yet.
     fn begin(&mut self, name: &str) {
         self.bytes.clear();
-        (self.first_line, self.end) = (1, 0);
+        (self.feeds, self.end, self.is_held) = (0, 0, true);
         self.name.clear();
         if self.name.push_str(name).is_err() {
             self.name.clear();
+            self.is_held = false;
         }
     }
 
@@ -53,6 +57,7 @@ impl Held {
         let fits = bytes.len() <= MOST_HELD && self.bytes.len() <= MOST_HELD - bytes.len();
         if !fits || self.bytes.extend_from_slice(bytes).is_err() {
             self.bytes.clear();
+            self.is_held = false;
         }
     }
 
@@ -60,6 +65,8 @@ impl Held {
     fn part(&mut self, name: &str, at: u64, bytes: &[u8]) {
         if self.name.as_str() != name || self.end != at {
             self.begin(name);
+            self.is_held &= at == 0;
+            self.end = at;
         }
         self.pass();
         self.push(bytes);
@@ -75,7 +82,7 @@ impl Held {
             .iter()
             .filter(|byte| **byte == b'\n')
             .count();
-        self.first_line = self.first_line.saturating_add(lines as u64);
+        self.feeds = self.feeds.saturating_add(lines as u64);
         self.bytes.drain(..whole);
     }
 }
@@ -84,12 +91,12 @@ impl Held {
 #[derive(Drop)]
 pub struct Holding<'a, F: Shelf + Drop> {
     shelf: F,
-    held: &'a RefCell<Held>,
+    held: &'a RefCell<LastRead>,
 }
 
 impl<'a, F: Shelf + Drop> Holding<'a, F> {
     /// This shelf, of which is held here what is read.
-    pub fn new(shelf: F, held: &'a RefCell<Held>) -> Holding<'a, F> {
+    pub fn new(shelf: F, held: &'a RefCell<LastRead>) -> Holding<'a, F> {
         Holding { shelf, held }
     }
 

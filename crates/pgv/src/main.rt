@@ -15,7 +15,7 @@ mod warning;
 mod watching;
 mod why;
 
-use held::{Held, Holding};
+use held::{Holding, LastRead};
 use pg_command::request;
 use pg_host::streams::write_whole;
 use pg_host::{DirShelf, Progress, StdSink};
@@ -46,7 +46,7 @@ fn main(rt: HostRuntime) -> ExitCode {
 /// Runs the command that the words ask for, and says on standard error what is to be said.
 fn run(rt: &HostRuntime, words: &[String]) -> Status {
     let line = RefCell::new(Progress::new(rt.stderr(), rt.stderr().is_terminal()));
-    let held = RefCell::new(Held::new(rt.alloc()));
+    let held = RefCell::new(LastRead::new(rt.alloc()));
     let mut shelf = Holding::new(DirShelf::new(rt), &held);
     let mut out = StdSink::new(Beside::new(rt.stdout(), &line));
     let mut hw = Rig::new(rt.alloc());
@@ -57,7 +57,7 @@ fn run(rt: &HostRuntime, words: &[String]) -> Status {
     };
     let asked = request(rt.alloc(), words).ok();
     let errors = (rt.stderr(), rt.stderr());
-    let mut watching = Watching::new(seen, errors, asked, Vec::new(rt.alloc()));
+    let mut watching = Watching::new(rt.alloc(), seen, errors, asked);
     let status = tool_watched(
         rt.alloc(),
         words,

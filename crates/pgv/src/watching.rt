@@ -1,13 +1,16 @@
 //! Who watches a command: questions are shown on the line of progress, and what is to be said at the end is kept.
 
-use crate::held::Held;
+use crate::held::LastRead;
 use crate::screen::{PROGRAM, clear};
 use crate::warning::warn;
 use pg_asked::Request;
 use pg_cert::put::kind_name;
 use pg_host::{Progress, StdSink};
 use pg_judged::tell_verdict;
+use pg_pointing::{Held, point_out, three_lines};
+use pg_report::RefusalLine;
 use pg_tool::{JudgedMachine, Kind, Refusal, Stop, StopWatcher, VerdictWatcher, Watcher};
+use std::alloc::{AllocError, Global};
 use std::cell::RefCell;
 use std::io::Write;
 use std::rt::Files;
@@ -20,12 +23,13 @@ pub struct Seen<'a, R: Files, E: Write + Drop> {
     /// The line of progress.
     pub line: &'a RefCell<Progress<E>>,
     /// What was read of the file that was asked for last.
-    pub held: &'a RefCell<Held>,
+    pub held: &'a RefCell<LastRead>,
 }
 
 /// Who watches a command.
 #[derive(Drop)]
 pub struct Watching<'a, R: Files, E: Write + Drop> {
+    alloc: Global,
     seen: Seen<'a, R, E>,
     /// Standard error, for warnings and for verdicts.
     error: E,
@@ -37,19 +41,20 @@ pub struct Watching<'a, R: Files, E: Write + Drop> {
 }
 
 impl<'a, R: Files, E: Write + Drop> Watching<'a, R, E> {
-    /// Who watches what these words ask for, if they do, with two handles of standard error.
+    /// Who watches what is asked for, if something is, with two handles of standard error.
     pub fn new(
+        alloc: Global,
         seen: Seen<'a, R, E>,
         errors: (E, E),
         request: Option<Request>,
-        pointed: Vec<u8>,
     ) -> Watching<'a, R, E> {
         Watching {
+            alloc,
             seen,
             error: errors.0,
             verdicts: StdSink::new(errors.1),
             request,
-            pointed,
+            pointed: Vec::new(alloc),
         }
     }
 
@@ -77,10 +82,9 @@ impl<R: Files, E: Write + Drop> StopWatcher for Watching<'_, R, E> {
         let Stop::Refused(Refusal::Line(refusal)) = stop else {
             return;
         };
-        if let Ok(held) = self.seen.held.try_borrow() {
-            let told = push_pointed(&mut self.pointed, refusal, &held);
-            if told.is_err() {
-                self.pointed.clear();
+        if let Ok(read) = self.seen.held.try_borrow() {
+            if let Ok(Some(lines)) = pointed(self.alloc, refusal, &read) {
+                self.pointed = lines;
             }
         }
     }
@@ -94,13 +98,22 @@ impl<R: Files, E: Write + Drop> VerdictWatcher for Watching<'_, R, E> {
     }
 }
 
-/// STUB
-fn push_pointed(
-    into: &mut Vec<u8>,
-    _refusal: &pg_report::RefusalLine,
-    held: &Held,
-) -> Result<(), std::alloc::AllocError> {
-    into.extend_from_slice(held.name.as_str().as_bytes())?;
-    into.push(b'\n')?;
-    Ok(())
+/// Where a refusal points in the file that was read last, in lines; nothing where it is of no file, or nothing is held of it.
+fn pointed(
+    alloc: Global,
+    refusal: &RefusalLine,
+    read: &LastRead,
+) -> Result<Option<Vec<u8>>, AllocError> {
+    if !read.is_held {
+        return Ok(None);
+    }
+    let held = Held {
+        bytes: read.bytes.as_slice(),
+        feeds: read.feeds,
+        word: None,
+    };
+    match point_out(alloc, refusal, &held)? {
+        None => Ok(None),
+        Some(pointed) => Ok(Some(three_lines(alloc, read.name.as_str().as_bytes(), &pointed)?)),
+    }
 }
