@@ -1,4 +1,4 @@
-use Rattle.std.proofs.Common.{◌≡◌, ◌≢◌, ℕ, ◌<◌, ◌≤◌, slice_index}
+use Rattle.std.proofs.Common.{◌≢◌, ℕ, ◌<◌, ◌≤◌, slice_index}
 use Rattle.pg_spot.proofs.places.line_start.Given as goal
 
 abbrev pub invariant-loop-start : goal.invariant-loop-start
