@@ -20,7 +20,7 @@ use pg_word::{Mode, Sparse};
 use std::alloc::Global;
 
 /// The most rounds that are made; three or four are. A round tries at most 22 steps of each lever, of which there are at most
-/// nine, and for each listed word zero and the 126 blocks of its bits. A solver names at most 17 words: that at P, and one for each
+/// ten, and for each listed word zero and the 126 blocks of its bits. A solver names at most 17 words: that at P, and one for each
 /// of the eight accesses of a run.
 const ROUNDS: usize = 16;
 
