@@ -1,9 +1,10 @@
 -- What the answers of the solver are as findings.
-use Rattle.std.specs.Prelude.{Result, Ok, Err, IfOk}
+use Rattle.std.specs.Prelude.{Result, Ok, Err, IfOk, slice_get, Some}
 use Rattle.std.proofs.Common.{◌≡◌, ℕ, suc, ◌+◌, ◌^◌, ◌<◌, ◌≤◌, ℤ, List, [], ◌∷◌, ◌++◌, length, map, All, refl, sym, ap, subst, arith, length-append}
 use Rattle.pg_word.specs.declared.sparse.Sparse.{Sparse}
 use Rattle.pg_ast.specs.declared.tree.Instr.{Instr}
 use Rattle.pg_ast.specs.declared.tree.Desc.{Desc}
+use Rattle.pg_machine.specs.declared.machine.Machine.{Machine}
 use Rattle.pg_type.specs.declared.kind.Kind.{Kind}
 use Rattle.pg_type.specs.Kinds.{Shows}
 use Rattle.pg_type.specs.Listed.{state_of}
@@ -114,3 +115,13 @@ shown_found clauses budget d i kind s t f same listed shows =
       numbered = tt;
       searched = tt;
     })
+
+-- two listed states show a kind of the instruction with a number
+abbrev pub AreShown : Desc → ℕ → Kind → Sparse → Sparse → Type 0
+AreShown d instr kind s t = (i : Instr) → slice_get d.instrs instr ≡ Some i → Shows d i kind (state_of s) (state_of t)
+
+pub shown_again : (m n : Machine) (k j : ℕ) (x y : Kind) (s t : Sparse) → m ≡ n → k ≡ j → x ≡ y →
+    AreShown m.desc k x s t → AreShown n.desc j y s t
+shown_again m n k j x y s t same_machine same_number same_kind h =
+    subst (λ z. AreShown n.desc j z s t) same_kind
+    (subst (λ z. AreShown n.desc z x s t) same_number (subst (λ (z : Machine). AreShown z.desc k x s t) same_machine h))

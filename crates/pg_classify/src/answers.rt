@@ -15,6 +15,7 @@ use pg_ask::{Asked, states_of};
 use pg_cert::Finding;
 use pg_proof::{Act, ActList, trim};
 use pg_sat::{Answer, StepList, solve};
+use pg_small::small;
 use pg_word::Sparse;
 use std::alloc::{AllocError, Global};
 
@@ -67,8 +68,8 @@ fn pair(first: Sparse, second: Sparse) -> Finding
     Finding::Shown(first, second)
 }
 
-/// The finding of an assignment that makes all clauses of a question true: the states that it stands for. The error is want
-/// of memory.
+/// The finding of an assignment that makes all clauses of a question true: the states that it stands for, made small. The error
+/// is want of memory.
 fn shown(
     alloc: Global,
     asked: &Asked<'_>,
@@ -79,7 +80,15 @@ fn shown(
     ensures { IfOk result (λ f. (i : Instr) → slice_get asked.now.machine.now.desc.instrs asked.now.instr ≡ Some i → IsFound asked.now.cnf.clauses budget asked.now.machine.now.desc i asked.now.kind f) }
 {
     let (first, second) = states_of(alloc, asked, assignment)?;
-    Ok(pair(first, second))
+    let (one, other) = small(
+        alloc,
+        asked.machine(),
+        asked.instr(),
+        asked.kind(),
+        first,
+        second,
+    );
+    Ok(pair(one, other))
 }
 
 /// What is found of a question within a budget, from 1 to 1,000,000: states that show the kind, where the solver finds an

@@ -21,7 +21,7 @@
 //! - `line`: the whole line. `entered`: the command that was named, and what it asks for.
 //! - `bare`, `check`, `verify`, `replay`, `run`, `print`, `generating` (the command `gen`), `migrate`, `hcheck`, `hybrid`, `nest`,
 //!   `asm`, `disasm`, `save`, `resume`: what each command asks for. `running`: what the arguments of commands that run images give.
-//! - `arguments`: how `clap` is told of an argument, and how its value is read.
+//! - `arguments`: how `clap` is told of an argument, and how its value is read. `complaining`: what is wrong with a line, in words.
 #![tactic(auto)]
 
 ghost use Rattle.std.specs.Prelude.{◌≡◌, ◌≢◌, ◌↔◌, ◌⊎◌, IfOk, IsErrOf, Some, None, [], map, string_bytes};
@@ -35,6 +35,7 @@ mod arguments;
 mod asm;
 mod bare;
 mod check;
+mod complaining;
 mod disasm;
 mod entered;
 mod generating;
@@ -52,6 +53,7 @@ mod save;
 mod verify;
 
 use clap::error::ErrorKind;
+pub use complaining::complaint;
 use entered::asked;
 use line::command_line;
 pub use pg_asked::{

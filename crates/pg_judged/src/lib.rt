@@ -5,7 +5,7 @@
 //!
 //! - `certified`: a file to what is kept of a certificate. `machine`, `judged`: a machine with that.
 //! - `source`, `guest`: files to one guest, its machine and the certificate by which it may run.
-//! - `telling`: the verdict told, and its status.
+//! - `telling`: the verdict told, and its status. `watching`: who is told of one that could not be saved.
 #![tactic(auto)]
 
 mod certified;
@@ -14,6 +14,7 @@ mod judged;
 mod machine;
 mod source;
 mod telling;
+mod watching;
 
 pub use certified::{load_certificate, stop_of_text};
 pub use guest::load_guest;
@@ -21,3 +22,4 @@ pub use judged::load_judged;
 pub use machine::JudgedMachine;
 pub use source::{GuestSource, LoadedGuest};
 pub use telling::{is_accepted, status_of, tell_verdict};
+pub use watching::VerdictWatcher;

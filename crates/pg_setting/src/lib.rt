@@ -8,7 +8,7 @@
 use pg_edge::{MemShelf, MemSink};
 use pg_hw::{Counts, Hardware};
 use pg_rig::Rig;
-use pg_tool::{Status, Watcher, tool, tool_watched};
+use pg_tool::{Status, StopWatcher, VerdictWatcher, Watcher, tool, tool_watched};
 use std::alloc::{AllocError, Global};
 use std::test::Fail;
 
@@ -88,7 +88,7 @@ impl Setting {
     ///
     /// # Errors
     /// Where there is no memory for its words, or for the output.
-    pub fn run_watched<W: Watcher>(
+    pub fn run_watched<W: Watcher + StopWatcher + VerdictWatcher>(
         &mut self,
         line: &str,
         watcher: &mut W,

@@ -4,7 +4,8 @@
 //! any command, what is then left of files, sink and hardware, by the class of the status; `Exactly`, that what is due comes.
 //! Nothing here names a command, a certificate or a reader.
 //!
-//! - `status`: how a command ends. `refusal`, `stop`: why one goes no further, and how that is told.
+//! - `status`: how a command ends. `refusal`, `stop`: why one goes no further, and how that is told. `watching`: who is told of it
+//!   besides.
 //! - `loading`: files to bytes. `room`: the room that is wanted, and the room that there is.
 //!
 //! What surrounds a command, shelf, sink and hardware, is one `World` in the contracts (`specs/World.antt`): a shelf `F`, a sink
@@ -16,9 +17,11 @@ mod refusal;
 mod room;
 mod status;
 mod stop;
+mod watching;
 
 pub use loading::{load_file, stop_of};
 pub use refusal::{Refusal, Stop};
 pub use room::{no_room, try_room};
 pub use status::Status;
 pub use stop::stopped;
+pub use watching::StopWatcher;

@@ -12,14 +12,16 @@ ghost use Rattle.pg_steps.specs.World.{output};
 
 use crate::refusal::{Refusal, Stop};
 use crate::status::Status;
+use crate::watching::StopWatcher;
 use pg_edge::Sink;
 use pg_report::{RefusalLine, put_refusal, put_usage};
 
-/// Says why a command stops, where that is told, and answers with which status.
-pub fn stopped<S: Sink>(stop: &Stop, out: &mut S) -> Status
+/// Says why a command stops, where that is told, and answers with which status. The watcher is told first.
+pub fn stopped<S: Sink, W: StopWatcher>(stop: &Stop, out: &mut S, watcher: &mut W) -> Status
     ensures stops { Stops stop.now (output S.Sink out.old) (output S.Sink out.new) result }
     ensures later { S.faults out.old ≤ S.faults out.new }
 {
+    watcher.stops(stop);
     match stop {
         Stop::Refused(why) => refuse(why, out),
         Stop::ReadFault => Status::ReadFault,

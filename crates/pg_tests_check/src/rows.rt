@@ -69,7 +69,7 @@ fn machines_are_found_to_be_what_they_are(rt: HostRuntime) -> Result<(), Fail> {
         (with_half.as_str(), half_found.as_str(), Status::Done),
         (
             RTU,
-            "rtu privileged no control yes mode no location no bound no\nrefused rtu\nprivileged\nsize ",
+            "rtu privileged no control yes mode no location no bound no\nrefused rtu\nprivileged\nsize 2\npsw s 0 0 1\n0: 05000000 00000000\nsize 2\npsw u 0 0 1\n0: 05000000 00000000\ncontrol\nsize 2\npsw s 0 0 1\n0: 05000000 00000000\n",
             Status::Refused,
         ),
     ];
@@ -148,17 +148,17 @@ fn at_user_states_other_kinds_count(rt: HostRuntime) -> Result<(), Fail> {
         ),
         (
             "instr sm \"00000110_................_aaaaaaaa\" { mem[a] = ext(rel, 32); }\n",
-            "sm privileged no ucontrol no ulocation yes ubound no\nrefused sm\nprivileged\nsize ",
+            "sm privileged no ucontrol no ulocation yes ubound no\nrefused sm\nprivileged\nsize 2\npsw s 0 0 1\n0: 06000000 00000000\n",
             Status::Refused,
         ),
         (
             "instr sb \"00000110_................_aaaaaaaa\" { mem[a] = ext(bound, 32); }\n",
-            "sb privileged no ucontrol no ulocation no ubound yes\nrefused sb\nprivileged\nsize ",
+            "sb privileged no ucontrol no ulocation no ubound yes\nrefused sb\nprivileged\nsize 2\npsw s 0 0 1\n0: 06000000 00000000\n",
             Status::Refused,
         ),
         (
             "instr sr \"00000110_................_aaaaaaaa\" { rel = a; }\n",
-            "sr privileged no ucontrol yes ulocation no ubound no\nrefused sr\nprivileged\nsize ",
+            "sr privileged no ucontrol yes ulocation no ubound no\nrefused sr\nprivileged\nsize 2\npsw s 0 0 1\n0: 06000000 00000000\n",
             Status::Refused,
         ),
     ];
@@ -168,21 +168,25 @@ fn at_user_states_other_kinds_count(rt: HostRuntime) -> Result<(), Fail> {
     Ok(())
 }
 
-/// How the steps from shown states end.
+/// How the steps from shown states end. The states are small ones.
 #[test]
 fn steps_from_shown_states_are_told(rt: HostRuntime) -> Result<(), Fail> {
     let rows = [
         (
             "instr svc \"00000011_........................\" { trap; }\n",
-            "svc privileged\nsize ",
+            "svc privileged\nsize 2\npsw s 0 0 1\n0: 03000000 00000000\n",
             "\nstep trap\n",
         ),
         (
             "instr i \"00000110_................_aaaaaaaa\" { if mode { pc = a; } else { let t = mem[255:8]; } }\n",
-            "i privileged\nsize ",
+            "i privileged\nsize 2\npsw s 0 0 1\n0: 06000000 00000000\n",
             "\nstep memtrap\n",
         ),
-        (RTU, "rtu privileged\nsize ", "\nstep done\n"),
+        (
+            RTU,
+            "rtu privileged\nsize 2\npsw s 0 0 1\n0: 05000000 00000000\n",
+            "\nstep done\n",
+        ),
     ];
     for (text, front, step) in rows {
         let mut at = setting(rt.alloc(), &described(rt.alloc(), text)?, "")?;

@@ -3,14 +3,14 @@
 //! `tool` reads the words and does what they ask for: it loads the files that they name, works on the hardware that it is
 //! given, and puts the text of it into the sink that it is given. It makes no file, stream or hardware itself: what it is
 //! given is seen through the traits `Shelf`, `Sink` and `Hardware` alone. The program `pgv` makes one call, `tool_watched`, which
-//! tells a watcher besides of each question that is asked.
+//! tells a watcher besides of each question that is asked, why a command stops, and of a verdict that could not be saved.
 //!
 //! What a command is, and how its steps join, stands in `pg_steps`; the commands stand in families, crates of their own
 //! (`pg_tool_plain`, `pg_tool_asm`, `pg_tool_judging`, `pg_tool_run`, `pg_tool_nest`, `pg_tool_gen`, `pg_tool_save`). Here a command
 //! has one line in each of three places: the definition (`command_of`, `specs/Asking.antt`), `carry` below, and the proof that it
 //! comes to one thing (`proofs/OnlyOne.antt`).
 //!
-//! - `laws`: what is due for told files is one thing.
+//! - `laws`: what is due for told files is one thing. `silent`: a watcher that says nothing.
 #![tactic(auto)]
 
 ghost use Rattle.std.specs.Prelude.{◌≡◌, ◌≤◌, Some, map, string_bytes};
@@ -24,15 +24,17 @@ ghost use Rattle.pg_tool.specs.Asking.{command_for, command_of, stop_of_words};
 ghost use Rattle.pg_valid.specs.Valid.{IsValid};
 
 pub mod laws;
+mod silent;
 
 use pg_asked::{Fault, Request};
 use pg_cert::Family;
-pub use pg_classify::{Silent, Watcher};
+pub use pg_classify::Watcher;
 use pg_command::request;
 use pg_edge::{Shelf, Sink};
 use pg_hw::Hardware;
-use pg_steps::{Stop, stopped};
-pub use pg_steps::{Refusal, Status};
+pub use pg_judged::{JudgedMachine, VerdictWatcher};
+use pg_steps::stopped;
+pub use pg_steps::{Refusal, Status, Stop, StopWatcher};
 use pg_tool_asm::{carry_asm, carry_disasm};
 use pg_tool_gen::carry_gen;
 use pg_tool_judging::{carry_check, carry_migrate, carry_replay, carry_verify};
@@ -41,6 +43,7 @@ use pg_tool_plain::{carry_bare, carry_print};
 use pg_tool_run::{carry_hybrid, carry_run};
 use pg_tool_save::{carry_resume, carry_save};
 pub use pg_type::Kind;
+pub use silent::Silent;
 use std::alloc::Global;
 
 /// Does what the words ask for, of which the first is the program's name.
@@ -79,8 +82,9 @@ pub fn tool<F: Shelf, S: Sink, H: Hardware>(
     tool_watched(alloc, words, shelf, out, hw, &mut Silent)
 }
 
-/// As [`tool`], with a watcher, who is told of each question while a description is classified, and answers nothing.
-pub fn tool_watched<F: Shelf, S: Sink, H: Hardware, W: Watcher>(
+/// As [`tool`], with a watcher, who is told of each question while a description is classified, why a command goes no further,
+/// and of a verdict whose certificate could not be saved. It answers nothing.
+pub fn tool_watched<F: Shelf, S: Sink, H: Hardware, W: Watcher + StopWatcher + VerdictWatcher>(
     alloc: Global,
     words: &[String],
     shelf: &mut F,
@@ -109,12 +113,12 @@ pub fn tool_watched<F: Shelf, S: Sink, H: Hardware, W: Watcher>(
 {
     match request(alloc, words) {
         Ok(request) => carry(alloc, &request, shelf, out, hw, watcher),
-        Err(fault) => stopped(&stop_of_words(fault), out),
+        Err(fault) => stopped(&stop_of_words(fault), out, watcher),
     }
 }
 
 /// Carries out what was asked for.
-fn carry<F: Shelf, S: Sink, H: Hardware, W: Watcher>(
+fn carry<F: Shelf, S: Sink, H: Hardware, W: Watcher + StopWatcher + VerdictWatcher>(
     alloc: Global,
     request: &Request,
     shelf: &mut F,
@@ -130,14 +134,14 @@ fn carry<F: Shelf, S: Sink, H: Hardware, W: Watcher>(
     ensures fixed { H.fixed hw.new ≡ H.fixed hw.old }
 {
     match request {
-        Request::Bare(words) => carry_bare(alloc, words, shelf, out, hw),
+        Request::Bare(words) => carry_bare(alloc, words, shelf, out, hw, watcher),
         Request::Check(words) => carry_check(alloc, Family::Plain, words, shelf, out, hw, watcher),
-        Request::Verify(words) => carry_verify(alloc, words, shelf, out, hw),
-        Request::Replay(words) => carry_replay(alloc, words, shelf, out, hw),
-        Request::Run(words) => carry_run(alloc, words, shelf, out, hw),
-        Request::Print(words) => carry_print(alloc, words, shelf, out, hw),
+        Request::Verify(words) => carry_verify(alloc, words, shelf, out, hw, watcher),
+        Request::Replay(words) => carry_replay(alloc, words, shelf, out, hw, watcher),
+        Request::Run(words) => carry_run(alloc, words, shelf, out, hw, watcher),
+        Request::Print(words) => carry_print(alloc, words, shelf, out, hw, watcher),
         Request::Gen(words) => carry_gen(alloc, words, shelf, out, hw, watcher),
-        Request::Migrate(words) => carry_migrate(alloc, words, shelf, out, hw),
+        Request::Migrate(words) => carry_migrate(alloc, words, shelf, out, hw, watcher),
         Request::Hcheck(words) => carry_check(
             alloc,
             Family::Hybrid,
@@ -147,12 +151,12 @@ fn carry<F: Shelf, S: Sink, H: Hardware, W: Watcher>(
             hw,
             watcher,
         ),
-        Request::Hybrid(words) => carry_hybrid(alloc, words, shelf, out, hw),
-        Request::Nest(words) => carry_nest(alloc, words, shelf, out, hw),
-        Request::Asm(words) => carry_asm(alloc, words, shelf, out, hw),
-        Request::Disasm(words) => carry_disasm(alloc, words, shelf, out, hw),
-        Request::Save(words) => carry_save(alloc, words, shelf, out, hw),
-        Request::Resume(words) => carry_resume(alloc, words, shelf, out, hw),
+        Request::Hybrid(words) => carry_hybrid(alloc, words, shelf, out, hw, watcher),
+        Request::Nest(words) => carry_nest(alloc, words, shelf, out, hw, watcher),
+        Request::Asm(words) => carry_asm(alloc, words, shelf, out, hw, watcher),
+        Request::Disasm(words) => carry_disasm(alloc, words, shelf, out, hw, watcher),
+        Request::Save(words) => carry_save(alloc, words, shelf, out, hw, watcher),
+        Request::Resume(words) => carry_resume(alloc, words, shelf, out, hw, watcher),
     }
 }
 

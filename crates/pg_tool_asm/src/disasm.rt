@@ -19,17 +19,18 @@ use pg_edge::{Shelf, Sink};
 use pg_hw::Hardware;
 use pg_inputs::load_image;
 use pg_report::put_text;
-use pg_steps::{Status, Stop, stopped};
+use pg_steps::{Status, Stop, StopWatcher, stopped};
 use plan::DisasmPlan;
 use std::alloc::Global;
 
 /// Carries out `disasm`. The hardware is lent, and stays as it is.
-pub fn carry_disasm<F: Shelf, S: Sink, H: Hardware>(
+pub fn carry_disasm<F: Shelf, S: Sink, H: Hardware, W: StopWatcher>(
     alloc: Global,
     words: &DisasmWords,
     shelf: &mut F,
     out: &mut S,
     hw: &H,
+    watcher: &mut W,
 ) -> Status
     ensures carries { Carries (disasm_command words.now)
         (around F.Shelf S.Sink H.Hardware shelf.old out.old hw.now)
@@ -39,7 +40,7 @@ pub fn carry_disasm<F: Shelf, S: Sink, H: Hardware>(
 {
     let plan = match prepare_disasm(alloc, words, shelf) {
         Ok(plan) => plan,
-        Err(stop) => return stopped(&stop, out),
+        Err(stop) => return stopped(&stop, out, watcher),
     };
     match put_text(out, &plan.text) {
         Ok(()) => Status::Done,

@@ -29,7 +29,7 @@ use pg_edge::{Failed, Shelf, Sink};
 use pg_generate::generate;
 use pg_guests::{Ran, run_guests};
 use pg_hw::Hardware;
-use pg_judged::{is_accepted, status_of};
+use pg_judged::{VerdictWatcher, is_accepted, status_of};
 use pg_machine::check;
 use pg_report::{put_instructions, put_outcome};
 use pg_shown::put_summaries;
@@ -48,8 +48,8 @@ const SLICE: u64 = 7;
 /// How many turns each guest has.
 const STEPS: u64 = 1_000;
 
-/// Carries out `gen`. The watcher is told of each question.
-pub fn carry_gen<F: Shelf, S: Sink, H: Hardware, W: Watcher>(
+/// Carries out `gen`. The watcher is told of each question, and of a verdict that could not be saved.
+pub fn carry_gen<F: Shelf, S: Sink, H: Hardware, W: Watcher + VerdictWatcher>(
     alloc: Global,
     words: &GenWords,
     shelf: &mut F,
@@ -70,7 +70,10 @@ pub fn carry_gen<F: Shelf, S: Sink, H: Hardware, W: Watcher>(
     };
     match save_text(shelf, &words.cert, plan.cert.text.as_slice()) {
         Ok(()) => {}
-        Err(_) => return Status::WriteFault,
+        Err(_) => {
+            watcher.unsaved(&plan.cert.judged);
+            return Status::WriteFault;
+        }
     }
     let ran = match run_plan(alloc, &plan, hw) {
         Ok(ran) => ran,

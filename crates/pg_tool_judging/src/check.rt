@@ -19,14 +19,14 @@ use pg_classify::{Watcher, classify_watched};
 use pg_edge::{Shelf, Sink};
 use pg_hw::Hardware;
 use pg_inputs::load_machine;
-use pg_judged::JudgedMachine;
+use pg_judged::{JudgedMachine, VerdictWatcher};
 use pg_machine::Machine;
-use pg_steps::{Status, Stop, stopped};
+use pg_steps::{Status, Stop, StopWatcher, stopped};
 use std::alloc::{AllocError, Global};
 
 /// Carries out `check`, or over the kinds of Theorem 3 `hcheck`. The hardware is lent, and stays as it is. The watcher is told
-/// of each question.
-pub fn carry_check<F: Shelf, S: Sink, H: Hardware, W: Watcher>(
+/// of each question, why the command stops, and of a verdict that could not be saved.
+pub fn carry_check<F: Shelf, S: Sink, H: Hardware, W: Watcher + StopWatcher + VerdictWatcher>(
     alloc: Global,
     family: Family,
     words: &CheckWords,
@@ -41,8 +41,8 @@ pub fn carry_check<F: Shelf, S: Sink, H: Hardware, W: Watcher>(
         (around F.Shelf S.Sink H.Hardware shelf.new out.new hw.now) }
 {
     match prepare_check(alloc, family, words, shelf, watcher) {
-        Ok(found) => save_and_tell(shelf, out, hw, &words.cert, &found),
-        Err(stop) => stopped(&stop, out),
+        Ok(found) => save_and_tell(shelf, out, hw, &words.cert, &found, watcher),
+        Err(stop) => stopped(&stop, out, watcher),
     }
 }
 

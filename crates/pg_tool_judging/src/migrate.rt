@@ -22,21 +22,22 @@ use pg_cert::write;
 use pg_edge::{Shelf, Sink};
 use pg_hw::Hardware;
 use pg_inputs::load_machine;
-use pg_judged::{JudgedMachine, stop_of_text};
+use pg_judged::{JudgedMachine, VerdictWatcher, stop_of_text};
 use pg_machine::Machine;
 use pg_migrate::{Migrated, migrate};
 use pg_report::{CertificateLine, RefusalLine};
-use pg_steps::{Status, Stop, load_file, stop_of, stopped};
+use pg_steps::{Status, Stop, StopWatcher, load_file, stop_of, stopped};
 use pg_verify::CERT_BYTES;
 use std::alloc::Global;
 
 /// Carries out `migrate`. The hardware is lent, and stays as it is.
-pub fn carry_migrate<F: Shelf, S: Sink, H: Hardware>(
+pub fn carry_migrate<F: Shelf, S: Sink, H: Hardware, W: StopWatcher + VerdictWatcher>(
     alloc: Global,
     words: &MigrateWords,
     shelf: &mut F,
     out: &mut S,
     hw: &H,
+    watcher: &mut W,
 ) -> Status
     ensures carries { Carries (migrate_command words.now) (around F.Shelf S.Sink H.Hardware shelf.old out.old hw.now)
         (around F.Shelf S.Sink H.Hardware shelf.new out.new hw.now) result }
@@ -44,8 +45,8 @@ pub fn carry_migrate<F: Shelf, S: Sink, H: Hardware>(
         (around F.Shelf S.Sink H.Hardware shelf.new out.new hw.now) }
 {
     match prepare_migrate(alloc, words, shelf) {
-        Ok(made) => save_and_tell(shelf, out, hw, &words.file, &made),
-        Err(stop) => stopped(&stop, out),
+        Ok(made) => save_and_tell(shelf, out, hw, &words.file, &made, watcher),
+        Err(stop) => stopped(&stop, out, watcher),
     }
 }
 

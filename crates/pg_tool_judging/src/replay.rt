@@ -14,16 +14,17 @@ use pg_edge::{Shelf, Sink};
 use pg_hw::Hardware;
 use pg_judged::load_judged;
 use pg_report::{ReplayFault, put_replay};
-use pg_steps::{Status, stopped};
+use pg_steps::{Status, StopWatcher, stopped};
 use std::alloc::Global;
 
 /// Carries out `replay`. The hardware is lent, and stays as it is.
-pub fn carry_replay<F: Shelf, S: Sink, H: Hardware>(
+pub fn carry_replay<F: Shelf, S: Sink, H: Hardware, W: StopWatcher>(
     alloc: Global,
     words: &ReplayWords,
     shelf: &mut F,
     out: &mut S,
     hw: &H,
+    watcher: &mut W,
 ) -> Status
     ensures carries { Carries (replay_command words.now) (around F.Shelf S.Sink H.Hardware shelf.old out.old hw.now)
         (around F.Shelf S.Sink H.Hardware shelf.new out.new hw.now) result }
@@ -32,7 +33,7 @@ pub fn carry_replay<F: Shelf, S: Sink, H: Hardware>(
 {
     let judged = match load_judged(alloc, Family::Plain, &words.desc, &words.cert, shelf) {
         Ok(judged) => judged,
-        Err(stop) => return stopped(&stop, out),
+        Err(stop) => return stopped(&stop, out, watcher),
     };
     match put_replay(alloc, out, &judged.machine, &judged.report) {
         Ok(()) => Status::Done,

@@ -12,7 +12,7 @@ use crate::written::WrittenCert;
 use pg_asked::FileName;
 use pg_edge::{Failed, Shelf, Sink};
 use pg_hw::Hardware;
-use pg_judged::tell_verdict;
+use pg_judged::{VerdictWatcher, tell_verdict};
 use pg_steps::Status;
 
 /// Saves a text under a name.
@@ -32,13 +32,15 @@ pub fn save_text<F: Shelf>(shelf: &mut F, name: &FileName, text: &[u8]) -> Resul
     }
 }
 
-/// Saves the text of a certificate under a name, and then tells its verdict. The hardware is lent, and stays as it is.
-pub(crate) fn save_and_tell<F: Shelf, S: Sink, H: Hardware>(
+/// Saves the text of a certificate under a name, and then tells its verdict; the watcher alone where the save failed. The
+/// hardware is lent, and stays as it is.
+pub(crate) fn save_and_tell<F: Shelf, S: Sink, H: Hardware, W: VerdictWatcher>(
     shelf: &mut F,
     out: &mut S,
     hw: &H,
     name: &FileName,
     cert: &WrittenCert,
+    watcher: &mut W,
 ) -> Status
     ensures saved { SavedAs name.now cert.now.text.items (judged cert.now.judged)
         (around F.Shelf S.Sink H.Hardware shelf.old out.old hw.now)
@@ -48,6 +50,9 @@ pub(crate) fn save_and_tell<F: Shelf, S: Sink, H: Hardware>(
 {
     match save_text(shelf, name, cert.text.as_slice()) {
         Ok(()) => tell_verdict(out, &cert.judged),
-        Err(_) => Status::WriteFault,
+        Err(_) => {
+            watcher.unsaved(&cert.judged);
+            Status::WriteFault
+        }
     }
 }

@@ -13,16 +13,17 @@ use pg_cert::Family;
 use pg_edge::{Shelf, Sink};
 use pg_hw::Hardware;
 use pg_judged::{load_judged, tell_verdict};
-use pg_steps::{Status, stopped};
+use pg_steps::{Status, StopWatcher, stopped};
 use std::alloc::Global;
 
 /// Carries out `verify`. The hardware is lent, and stays as it is.
-pub fn carry_verify<F: Shelf, S: Sink, H: Hardware>(
+pub fn carry_verify<F: Shelf, S: Sink, H: Hardware, W: StopWatcher>(
     alloc: Global,
     words: &VerifyWords,
     shelf: &mut F,
     out: &mut S,
     hw: &H,
+    watcher: &mut W,
 ) -> Status
     ensures carries { Carries (verify_command words.now) (around F.Shelf S.Sink H.Hardware shelf.old out.old hw.now)
         (around F.Shelf S.Sink H.Hardware shelf.new out.new hw.now) result }
@@ -31,6 +32,6 @@ pub fn carry_verify<F: Shelf, S: Sink, H: Hardware>(
 {
     match load_judged(alloc, Family::Plain, &words.desc, &words.cert, shelf) {
         Ok(judged) => tell_verdict(out, &judged),
-        Err(stop) => stopped(&stop, out),
+        Err(stop) => stopped(&stop, out, watcher),
     }
 }

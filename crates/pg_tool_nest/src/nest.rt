@@ -25,17 +25,18 @@ use pg_judged::{is_accepted, tell_verdict};
 use pg_nest_guests::{Innermost, nest};
 use pg_report::put_steps;
 use pg_shown::put_one_guest;
-use pg_steps::{Status, stopped};
+use pg_steps::{Status, StopWatcher, stopped};
 use pg_type::Accepted;
 use std::alloc::Global;
 
 /// Carries out `nest`.
-pub fn carry_nest<F: Shelf, S: Sink, H: Hardware>(
+pub fn carry_nest<F: Shelf, S: Sink, H: Hardware, W: StopWatcher>(
     alloc: Global,
     words: &NestWords,
     shelf: &mut F,
     out: &mut S,
     hw: &mut H,
+    watcher: &mut W,
 ) -> Status
     requires able { IsAble H.Hardware hw.old }
     ensures carries { Carries (nest_command words.now) (around F.Shelf S.Sink H.Hardware shelf.old out.old hw.old)
@@ -46,7 +47,7 @@ pub fn carry_nest<F: Shelf, S: Sink, H: Hardware>(
 {
     let plan = match prepare_nest(alloc, words, shelf) {
         Ok(plan) => plan,
-        Err(stop) => return stopped(&stop, out),
+        Err(stop) => return stopped(&stop, out, watcher),
     };
     if !is_accepted(plan.judged.report.verdict()) {
         return tell_verdict(out, &plan.judged);

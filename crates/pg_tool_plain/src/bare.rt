@@ -22,17 +22,18 @@ use pg_edge::{Failed, Shelf, Sink};
 use pg_hw::{Hardware, bare, power_on};
 use pg_inputs::{load_image, load_machine};
 use pg_report::put_state;
-use pg_steps::{Status, Stop, no_room, stopped};
+use pg_steps::{Status, Stop, StopWatcher, no_room, stopped};
 use plan::BarePlan;
 use std::alloc::{AllocError, Global};
 
 /// Carries out `bare`.
-pub fn carry_bare<F: Shelf, S: Sink, H: Hardware>(
+pub fn carry_bare<F: Shelf, S: Sink, H: Hardware, W: StopWatcher>(
     alloc: Global,
     words: &BareWords,
     shelf: &mut F,
     out: &mut S,
     hw: &mut H,
+    watcher: &mut W,
 ) -> Status
     requires able { IsAble H.Hardware hw.old }
     ensures carries { Carries (bare_command words.now) (around F.Shelf S.Sink H.Hardware shelf.old out.old hw.old)
@@ -43,7 +44,7 @@ pub fn carry_bare<F: Shelf, S: Sink, H: Hardware>(
 {
     let plan = match prepare_bare(alloc, words, shelf) {
         Ok(plan) => plan,
-        Err(stop) => return stopped(&stop, out),
+        Err(stop) => return stopped(&stop, out, watcher),
     };
     match run_bare(&plan, hw) {
         Ok(()) => {}

@@ -17,17 +17,18 @@ use pg_hw::Hardware;
 use pg_inputs::load_machine;
 use pg_print::print;
 use pg_report::put_text;
-use pg_steps::{Status, Stop, stopped};
+use pg_steps::{Status, Stop, StopWatcher, stopped};
 use plan::PrintPlan;
 use std::alloc::Global;
 
 /// Carries out `print`. The hardware is lent, and stays as it is.
-pub fn carry_print<F: Shelf, S: Sink, H: Hardware>(
+pub fn carry_print<F: Shelf, S: Sink, H: Hardware, W: StopWatcher>(
     alloc: Global,
     words: &PrintWords,
     shelf: &mut F,
     out: &mut S,
     hw: &H,
+    watcher: &mut W,
 ) -> Status
     ensures carries { Carries (print_command words.now)
         (around F.Shelf S.Sink H.Hardware shelf.old out.old hw.now)
@@ -37,7 +38,7 @@ pub fn carry_print<F: Shelf, S: Sink, H: Hardware>(
 {
     let plan = match prepare_print(alloc, words, shelf) {
         Ok(plan) => plan,
-        Err(stop) => return stopped(&stop, out),
+        Err(stop) => return stopped(&stop, out, watcher),
     };
     match put_text(out, &plan.text) {
         Ok(()) => Status::Done,

@@ -18,16 +18,17 @@ use pg_hw::Hardware;
 use pg_hybrid_guests::run_hybrid;
 use pg_judged::{is_accepted, tell_verdict};
 use pg_shown::put_guests;
-use pg_steps::{Status, stopped};
+use pg_steps::{Status, StopWatcher, stopped};
 use std::alloc::Global;
 
 /// Carries out `hybrid`.
-pub fn carry_hybrid<F: Shelf, S: Sink, H: Hardware>(
+pub fn carry_hybrid<F: Shelf, S: Sink, H: Hardware, W: StopWatcher>(
     alloc: Global,
     words: &RunWords,
     shelf: &mut F,
     out: &mut S,
     hw: &mut H,
+    watcher: &mut W,
 ) -> Status
     requires able { IsAble H.Hardware hw.old }
     ensures carries { Carries (hybrid_command words.now) (around F.Shelf S.Sink H.Hardware shelf.old out.old hw.old)
@@ -38,7 +39,7 @@ pub fn carry_hybrid<F: Shelf, S: Sink, H: Hardware>(
 {
     let plan = match prepare_run(alloc, Family::Hybrid, words, shelf) {
         Ok(plan) => plan,
-        Err(stop) => return stopped(&stop, out),
+        Err(stop) => return stopped(&stop, out, watcher),
     };
     if !is_accepted(plan.judged.report.verdict()) {
         return tell_verdict(out, &plan.judged);

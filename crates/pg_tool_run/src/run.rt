@@ -19,16 +19,17 @@ use pg_guests::run_guests;
 use pg_hw::Hardware;
 use pg_judged::{is_accepted, tell_verdict};
 use pg_shown::put_guests;
-use pg_steps::{Status, stopped};
+use pg_steps::{Status, StopWatcher, stopped};
 use std::alloc::Global;
 
 /// Carries out `run`.
-pub fn carry_run<F: Shelf, S: Sink, H: Hardware>(
+pub fn carry_run<F: Shelf, S: Sink, H: Hardware, W: StopWatcher>(
     alloc: Global,
     words: &RunWords,
     shelf: &mut F,
     out: &mut S,
     hw: &mut H,
+    watcher: &mut W,
 ) -> Status
     requires able { IsAble H.Hardware hw.old }
     ensures carries { Carries (run_command words.now) (around F.Shelf S.Sink H.Hardware shelf.old out.old hw.old)
@@ -39,7 +40,7 @@ pub fn carry_run<F: Shelf, S: Sink, H: Hardware>(
 {
     let plan = match prepare_run(alloc, Family::Plain, words, shelf) {
         Ok(plan) => plan,
-        Err(stop) => return stopped(&stop, out),
+        Err(stop) => return stopped(&stop, out, watcher),
     };
     if !is_accepted(plan.judged.report.verdict()) {
         return tell_verdict(out, &plan.judged);

@@ -24,19 +24,20 @@ use pg_hw::Hardware;
 use pg_judged::{is_accepted, tell_verdict};
 use pg_report::put_total;
 use pg_shown::put_guests;
-use pg_steps::{Status, stopped};
+use pg_steps::{Status, StopWatcher, stopped};
 use pg_type::Accepted;
 use plan::ResumePlan;
 use preparing::prepare_resume;
 use std::alloc::Global;
 
 /// Carries out `resume`.
-pub fn carry_resume<F: Shelf, S: Sink, H: Hardware>(
+pub fn carry_resume<F: Shelf, S: Sink, H: Hardware, W: StopWatcher>(
     alloc: Global,
     words: &ResumeWords,
     shelf: &mut F,
     out: &mut S,
     hw: &mut H,
+    watcher: &mut W,
 ) -> Status
     requires able { IsAble H.Hardware hw.old }
     ensures carries { Carries (resume_command words.now) (around F.Shelf S.Sink H.Hardware shelf.old out.old hw.old)
@@ -47,7 +48,7 @@ pub fn carry_resume<F: Shelf, S: Sink, H: Hardware>(
 {
     let plan = match prepare_resume(alloc, words, shelf) {
         Ok(plan) => plan,
-        Err(stop) => return stopped(&stop, out),
+        Err(stop) => return stopped(&stop, out, watcher),
     };
     if !is_accepted(plan.judged.report.verdict()) {
         return tell_verdict(out, &plan.judged);

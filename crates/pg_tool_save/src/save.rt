@@ -26,7 +26,7 @@ use pg_hw::Hardware;
 use pg_judged::{is_accepted, tell_verdict};
 use pg_move::{put_saved, saved_room};
 use pg_shown::put_guests;
-use pg_steps::{Status, stopped};
+use pg_steps::{Status, StopWatcher, stopped};
 use pg_tool_judging::save_text;
 use pg_type::Accepted;
 use plan::SavePlan;
@@ -47,12 +47,13 @@ struct SavedRun<'m> {
 }
 
 /// Carries out `save`.
-pub fn carry_save<F: Shelf, S: Sink, H: Hardware>(
+pub fn carry_save<F: Shelf, S: Sink, H: Hardware, W: StopWatcher>(
     alloc: Global,
     words: &SaveWords,
     shelf: &mut F,
     out: &mut S,
     hw: &mut H,
+    watcher: &mut W,
 ) -> Status
     requires able { IsAble H.Hardware hw.old }
     ensures carries { Carries (save_command words.now) (around F.Shelf S.Sink H.Hardware shelf.old out.old hw.old)
@@ -63,7 +64,7 @@ pub fn carry_save<F: Shelf, S: Sink, H: Hardware>(
 {
     let plan = match prepare_save(alloc, words, shelf) {
         Ok(plan) => plan,
-        Err(stop) => return stopped(&stop, out),
+        Err(stop) => return stopped(&stop, out, watcher),
     };
     if !is_accepted(plan.judged.report.verdict()) {
         return tell_verdict(out, &plan.judged);

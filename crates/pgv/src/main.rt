@@ -4,66 +4,77 @@
 //! forms are made, of `pg_host` and `pg_rig`, and lent to `tool_watched`. Where there is no memory for the words, it is not
 //! called, and the program ends with the same status, 10, as it does where the call has none.
 //!
-//! Standard error has a line where the program ends because of a file, of standard output or of memory. While it asks
-//! questions it shows on a terminal which is next (`screen`).
+//! Standard error says why the program ends so, where it is because of the words, of a file, of standard output or of memory
+//! (`why`), and where a refused file is at fault (`watching`, over what `held` keeps of it). While it asks questions the program
+//! shows on a terminal which is next (`screen`); before the first it warns where the certificate could not be saved (`warning`).
 #![tactic(auto)]
 
+mod held;
 mod screen;
+mod warning;
+mod watching;
+mod why;
 
-use pg_host::telling::{tell, tell_refused};
-use pg_host::{DirShelf, Progress, Refused, StdSink};
+use held::{Holding, LastRead};
+use pg_command::request;
+use pg_host::streams::write_whole;
+use pg_host::{DirShelf, Progress, StdSink};
 use pg_rig::Rig;
 use pg_tool::{Status, tool_watched};
-use screen::{Asking, Beside, PROGRAM, clear};
+use screen::{Beside, clear};
 use std::alloc::AllocError;
 use std::cell::RefCell;
 use std::env;
-use std::io::{ErrorKind, IsTerminal, Write};
+use std::io::{ErrorKind, IsTerminal};
 use std::process::ExitCode;
 use std::rt::Env;
+use watching::{Seen, Watching};
+use why::{say_complaint, say_why};
 
 /// Runs the command that the words ask for on real files, standard output and a hardware in memory, and ends with the
 /// number of its status.
 fn main(rt: HostRuntime) -> ExitCode {
-    let line = RefCell::new(Progress::new(rt.stderr(), rt.stderr().is_terminal()));
-    let mut shelf = DirShelf::new(&rt);
-    let mut out = StdSink::new(Beside::new(rt.stdout(), &line));
-    let status = match words(&rt) {
-        Err(_) => Status::Memory,
-        Ok(words) => {
-            let mut hw = Rig::new(rt.alloc());
-            let mut asking = Asking::new(&line);
-            tool_watched(
-                rt.alloc(),
-                &words,
-                &mut shelf,
-                &mut out,
-                &mut hw,
-                &mut asking,
-            )
+    match words(&rt) {
+        Ok(words) => ExitCode::from(run(&rt, &words).code()),
+        Err(_) => {
+            say_why(&mut rt.stderr(), Status::Memory, None, None);
+            ExitCode::from(Status::Memory.code())
         }
-    };
-    clear(&line);
-    say_why(&mut rt.stderr(), status, out.faults(), shelf.refused());
-    ExitCode::from(status.code())
+    }
 }
 
-/// Writes on standard error why the program ends so, where it is because of a file, of standard output or of memory. That
-/// this cannot be written changes nothing.
-fn say_why<W: Write>(to: &mut W, status: Status, faults: u64, refused: Option<&Refused>) {
-    let _ = match (status, refused) {
-        (Status::Memory, _) => tell(to, PROGRAM, "out of memory"),
-        (Status::WriteFault, _) if faults > 0 => {
-            tell(to, PROGRAM, "standard output: cannot be written")
-        }
-        (Status::ReadFault | Status::WriteFault | Status::Missing, Some(refused)) => {
-            tell_refused(to, PROGRAM, refused)
-        }
-        (Status::ReadFault | Status::WriteFault | Status::Missing, None) => {
-            tell(to, PROGRAM, "input/output error")
-        }
-        _ => Ok(()),
+/// Runs the command that the words ask for, and says on standard error what is to be said.
+fn run(rt: &HostRuntime, words: &[String]) -> Status {
+    let line = RefCell::new(Progress::new(rt.stderr(), rt.stderr().is_terminal()));
+    let held = RefCell::new(LastRead::new(rt.alloc()));
+    let mut shelf = Holding::new(DirShelf::new(rt), &held);
+    let mut out = StdSink::new(Beside::new(rt.stdout(), &line));
+    let mut hw = Rig::new(rt.alloc());
+    let seen = Seen {
+        files: rt,
+        line: &line,
+        held: &held,
     };
+    let asked = request(rt.alloc(), words).ok();
+    let errors = (rt.stderr(), rt.stderr());
+    let mut watching = Watching::new(rt.alloc(), seen, errors, asked);
+    let status = tool_watched(
+        rt.alloc(),
+        words,
+        &mut shelf,
+        &mut out,
+        &mut hw,
+        &mut watching,
+    );
+    clear(&line);
+    let _ = write_whole(&mut rt.stderr(), watching.pointed());
+    if status == Status::Words {
+        say_complaint(rt.alloc(), &mut rt.stderr(), words);
+    }
+    let failed = out.writer().failed().filter(|_| out.faults() > 0);
+    let refused = shelf.shelf().refused();
+    say_why(&mut rt.stderr(), status, failed, refused);
+    status
 }
 
 /// The words of the command line, the program's name first. One that is not UTF-8 makes the line one without words, which

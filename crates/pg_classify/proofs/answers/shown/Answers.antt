@@ -1,8 +1,23 @@
-use Rattle.pg_classify.proofs.FoundLemmas.{shown_found}
+use Rattle.std.proofs.Common.{◌<◌, length, sym, subst}
+use Rattle.pg_machine.specs.declared.machine.Machine.{Machine}
+use Rattle.pg_classify.proofs.FoundLemmas.{shown_again, shown_found}
 use Rattle.pg_classify.proofs.answers.shown.Goals as goal
+
+pub small-one-requires : goal.small-one-requires
+small-one-requires c =
+    let asked = c.args.asked.now in
+    record {
+      there = subst (λ k. k < length c.machine.result.now.desc.instrs) (sym c.instr.ensures)
+          (subst (λ (m : Machine). asked.instr < length m.desc.instrs) (sym c.machine.ensures) asked.asked.in_range);
+      shown = shown_again asked.machine.now c.machine.result.now asked.instr c.instr.result asked.kind c.kind.result c.in_ok-first.first
+          c.in_ok-first.second (sym c.machine.ensures) (sym c.instr.ensures) (sym c.kind.ensures) c.in_ok-first.ensures;
+    }
 
 pub returns : goal.returns
 returns c = λ i at.
     let asked = c.args.asked.now in
-    shown_found asked.cnf.clauses c.args.budget asked.machine.now.desc i asked.kind c.in_ok-first.first c.in_ok-first.second
-    c.pair.result c.pair.ensures.finding c.pair.ensures.listed (c.in_ok-first.ensures i at)
+    let pair = c.small-one.result in
+    shown_found asked.cnf.clauses c.args.budget asked.machine.now.desc i asked.kind pair.0 pair.1 c.pair.result c.pair.ensures.finding
+    c.pair.ensures.listed
+    (shown_again c.machine.result.now asked.machine.now c.instr.result asked.instr c.kind.result asked.kind pair.0 pair.1 c.machine.ensures
+    c.instr.ensures c.kind.ensures c.small-one.ensures i at)

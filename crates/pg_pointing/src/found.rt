@@ -1,0 +1,40 @@
+//! What is wrong, and where in the bytes.
+
+use pg_spot::Sentence;
+use std::alloc::{AllocError, Global};
+
+/// Where something is wrong.
+#[derive(Clone, Copy)]
+pub enum At {
+    /// In the whole file, or no place is known.
+    Whole,
+    /// At this byte of those that are held, counted from 0.
+    Place(usize),
+    /// On the line of this number, from 1, which is not held.
+    Line(u64),
+}
+
+/// What is wrong, and where.
+#[derive(Drop)]
+pub struct Found {
+    /// Where.
+    pub at: At,
+    /// What.
+    pub what: Sentence,
+}
+
+/// These words, said of a place. The error is want of memory.
+pub fn plain(alloc: Global, at: At, words: &str) -> Result<Found, AllocError> {
+    Ok(Found {
+        at,
+        what: Sentence::new(alloc).words(words)?,
+    })
+}
+
+/// A place, if one is known.
+pub fn at_place(place: Option<usize>) -> At {
+    match place {
+        None => At::Whole,
+        Some(place) => At::Place(place),
+    }
+}

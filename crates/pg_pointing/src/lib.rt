@@ -1,0 +1,28 @@
+//! From a refusal and the bytes of the file that was refused to what its author sees: the file, line and column, what is wrong
+//! in words, the line, and a caret below the place.
+//!
+//! The refusals are those of `pg_report`, whose lines stay what a program reads. Here is what a person reads, beside them.
+//! Nothing is refused here, and no byte is believed: whatever the refusal and the bytes are, there is an answer, or want of
+//! memory. That the place is the one that the refusal means is tested; lines and columns are proved where they are counted
+//! (`pg_spot`).
+//!
+//! - `held`: the bytes that are held, and their lines. `found`: what is wrong, and where.
+//! - `description`: what is wrong with a description; `grammar` with its tokens, `limits` with its numbers, `patterns` with its
+//!   patterns, `widths` with its widths.
+//! - `image`: with an image. `lines`: with a certificate, a source or a saved guest.
+//! - `pointed`: the whole, and its text.
+#![tactic(auto)]
+
+mod description;
+mod found;
+mod grammar;
+mod held;
+mod image;
+mod limits;
+mod lines;
+mod patterns;
+mod pointed;
+mod widths;
+
+pub use held::Held;
+pub use pointed::{Place, Pointed, point_out, three_lines};

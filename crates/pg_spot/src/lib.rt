@@ -1,0 +1,29 @@
+//! Where in a text something stands, and how its line is shown.
+//!
+//! `pg_pointing` stands on it: there a refusal becomes a sentence and a place; here a place becomes a line and a column, and what
+//! a refusal of a description names is found in its tokens. Lines and columns are proved to be those of the definitions
+//! (`specs/Places.antt`); what is found in tokens is tested.
+//!
+//! - `chars`: characters of a text. `places`: lines and columns.
+//! - `shown`: a line, and the caret below it. `sentence`: a sentence that says what is wrong.
+//! - `tokens`: the tokens of a description, instruction by instruction. `names`: where names stand.
+//! - `widths`: which widths meet where a statement breaks the table of widths.
+#![tactic(auto)]
+
+mod chars;
+mod names;
+mod places;
+mod sentence;
+mod shown;
+mod tokens;
+mod widths;
+
+pub use names::{Twice, Unknown, find_twice, find_unknown};
+pub use places::{Spot, place_of_line, spot_at};
+pub use sentence::Sentence;
+pub use shown::{Shown, show};
+pub use tokens::{
+    Placed, count_statements, count_word, first_place, instruction, is_sign, is_word, nth_word,
+    number_of, pattern_of, statement, word_of,
+};
+pub use widths::{Bits, Clash, Row, Use, find_clash};

@@ -1,0 +1,22 @@
+//! A watcher that says nothing of what it is told.
+
+use pg_classify::Watcher;
+use pg_judged::{JudgedMachine, VerdictWatcher};
+use pg_steps::{Stop, StopWatcher};
+use pg_type::Kind;
+
+/// Says nothing of what it is told.
+#[derive(Clone, Copy, Debug)]
+pub struct Silent;
+
+impl Watcher for Silent {
+    fn asks(&mut self, _name: &[u8], _kind: Kind, _left: usize) {}
+}
+
+impl StopWatcher for Silent {
+    fn stops(&mut self, _stop: &Stop) {}
+}
+
+impl VerdictWatcher for Silent {
+    fn unsaved(&mut self, _judged: &JudgedMachine) {}
+}

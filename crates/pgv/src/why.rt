@@ -1,0 +1,69 @@
+//! Why the program ends so, on standard error.
+
+use crate::screen::PROGRAM;
+use pg_command::complaint;
+use pg_host::streams::write_whole;
+use pg_host::telling::{tell, tell_refused};
+use pg_host::{Cause, Deed, Refused};
+use pg_tool::Status;
+use std::alloc::{AllocError, Global};
+use std::io::{ErrorKind, Write};
+
+/// The most characters that are shown of what is wrong with the words.
+const SHOWN_CHARS: usize = 200;
+
+/// Writes why the program ends so, where it is because of a file, of memory, or of standard output, whose last error is given if
+/// there was one. That this cannot be written changes nothing. A reader of standard output who has enough of it, as `head`, closes
+/// the pipe; then nothing is written.
+pub fn say_why<W: Write>(
+    to: &mut W,
+    status: Status,
+    output: Option<ErrorKind>,
+    refused: Option<&Refused>,
+) {
+    let _ = match (status, refused) {
+        (Status::Memory, _) => tell(to, PROGRAM, "out of memory"),
+        (Status::WriteFault, _) if output == Some(ErrorKind::BrokenPipe) => Ok(()),
+        (Status::WriteFault, _) if output.is_some() => tell_refused(
+            to,
+            PROGRAM,
+            &unwritten(output),
+        ),
+        (Status::ReadFault | Status::WriteFault | Status::Missing, Some(refused)) => {
+            tell_refused(to, PROGRAM, refused)
+        }
+        (Status::ReadFault | Status::WriteFault | Status::Missing, None) => {
+            tell(to, PROGRAM, "input/output error")
+        }
+        _ => Ok(()),
+    };
+}
+
+/// Standard output, which could not be written for this error.
+fn unwritten(output: Option<ErrorKind>) -> Refused {
+    let cause = Cause::System(output.unwrap_or(ErrorKind::Other));
+    Refused::new(Deed::Save, cause, "standard output")
+}
+
+/// Writes what is wrong with words that were refused, in the words of `clap`. Where memory is refused nothing is written.
+pub fn say_complaint<W: Write>(alloc: Global, to: &mut W, words: &[String]) {
+    if let Ok(Some(line)) = complaint_line(alloc, words) {
+        let _ = write_whole(to, line.as_slice());
+    }
+}
+
+/// The line of it: `PROGRAM: WHAT`, with `?` for each control character, and cut where it is long.
+fn complaint_line(alloc: Global, words: &[String]) -> Result<Option<Vec<u8>>, AllocError> {
+    let Some(said) = complaint(alloc, words)? else {
+        return Ok(None);
+    };
+    let mut line = Vec::new(alloc);
+    line.extend_from_slice(PROGRAM.as_bytes())?;
+    line.extend_from_slice(b": ")?;
+    for one in said.chars().take(SHOWN_CHARS) {
+        let shown = if one.is_control() { '?' } else { one };
+        line.extend_from_slice(shown.encode_utf8(&mut [0; 4]).as_bytes())?;
+    }
+    line.push(b'\n')?;
+    Ok(Some(line))
+}
