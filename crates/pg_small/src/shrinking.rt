@@ -232,14 +232,15 @@ const BLOCKS: [Blocks; 6] = [
     },
 ];
 
-/// Tries to clear each of such blocks of the word of an address, and gives the word that is left. A block that has all bits of the
-/// word is not tried.
+/// Tries to clear each of such blocks of the word of an address, the highest first, so that of the bits of which one has to stay
+/// the lowest does, and gives the word that is left. A block that has all bits of the word is not tried.
 fn clears(aim: &Aim<'_>, pair: &mut Pair, at: u32, word: u64, blocks: Blocks) -> u64
     requires { IsShown aim.now pair.old }
     ensures { IsShown aim.now pair.new }
 {
     let mut left = word;
-    for shift in 0..64 {
+    for place in 0..64 {
+        let shift = 63 - place;
         let kept = left & !(blocks.lowest << shift);
         if blocks.starts(shift) && kept != 0 && kept != left {
             let change = pair.with_words(Words::With(at, kept));
