@@ -1,0 +1,81 @@
+//! Runs an image on a bare machine, and shows each step.
+//!
+//!     pg_trace DESC IMAGE --grant G --steps N [--only-traps] [--counts]
+//!
+//! A line for each step: its number, the mode and P before it, the word that was fetched, the instruction with its fields, and
+//! what it changed. That is each cell that it stored into, with its new word; P where it is not the address behind; mode and R
+//! where they are others than before. A step that traps tells its cause, the word that it stored in cell 0, and the mode and P
+//! at which the machine goes on. A fetch outside the window has no word, and a dash stands there.
+//!
+//! Behind the steps stand the counts: of the steps by instruction, of the traps by cause, and of all steps. At the end is the
+//! state, as `pgv bare` writes it.
+//!
+//! - `--grant G`: how many cells the machine is given, 2 to 1,048,575. `--steps N`: how many steps are done, 0 to 1,000,000.
+//! - `--only-traps`: only the steps that trap have a line.
+//! - `--counts`: no step has a line, and there is no state: the counts are all that is written.
+//!
+//! Refusals have the lines and statuses of `pgv`, in the order of `pgv bare`: the words (3), the description (4), the room (7),
+//! the image (5); 8 where a file cannot be read, 9 where the output cannot be written, 10 where memory is refused, and 11 where a
+//! file is not there. What was put before a fault stays. Where the status is 0 the state is the one that `pgv bare` reaches
+//! (`carry`). Nothing that `pgv` does stands on this program.
+//!
+//! - `request`: the words. `prepare`: the files, to a `plan`. `carry`: the run and its text.
+#![tactic(auto)]
+
+mod carry;
+mod plan;
+mod prepare;
+mod request;
+
+use crate::carry::carry;
+use crate::request::asked_by;
+use pg_edge::Sink;
+use pg_host::{DirShelf, StdSink};
+use pg_report::put_text;
+use pg_rig::Rig;
+use pg_steps::Status;
+use std::alloc::AllocError;
+use std::env;
+use std::io::ErrorKind;
+use std::process::ExitCode;
+use std::rt::Env;
+
+/// Runs what the words ask for on real files, standard output and a hardware in memory, and ends with the number of its status.
+fn main(rt: HostRuntime) -> ExitCode {
+    let mut shelf = DirShelf::new(&rt);
+    let mut out = StdSink::new(rt.stdout());
+    let asked = match words(&rt) {
+        Err(_) => Err(AllocError),
+        Ok(words) => asked_by(rt.alloc(), words.as_slice()),
+    };
+    let status = match asked {
+        Err(_) => Status::Memory,
+        Ok(None) => put_usage(&mut out),
+        Ok(Some(words)) => {
+            let mut hw = Rig::new(rt.alloc());
+            carry(rt.alloc(), &words, &mut shelf, &mut out, &mut hw)
+        }
+    };
+    ExitCode::from(status.code())
+}
+
+/// Puts how the program is called.
+fn put_usage<S: Sink>(out: &mut S) -> Status {
+    match put_text(
+        out,
+        b"usage: pg_trace DESC IMAGE --grant G --steps N [--only-traps] [--counts]\n",
+    ) {
+        Ok(()) => Status::Words,
+        Err(_) => Status::WriteFault,
+    }
+}
+
+/// The words of the command line, the program's name first. One that is not UTF-8 makes the line one without words, which is
+/// refused.
+fn words<R: Env + AllocGlobal>(rt: &R) -> Result<Vec<String>, AllocError> {
+    match env::args(rt) {
+        Ok(args) => args.collect(rt.alloc()),
+        Err(error) if error.kind() == ErrorKind::OutOfMemory => Err(AllocError),
+        Err(_) => Ok(Vec::new(rt.alloc())),
+    }
+}

@@ -1,0 +1,5 @@
+pub mod Tells
+pub mod Counting
+pub mod Fitting
+pub mod Lines
+pub mod Traces

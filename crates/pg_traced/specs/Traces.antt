@@ -1,0 +1,38 @@
+-- The lines of a run.
+use Rattle.std.specs.Prelude.{◌≡◌, ℕ, zero, suc, Bool, true, false, if◌then◌else◌, List, [], ◌++◌, Option, None, Some}
+use Rattle.pg_word.specs.declared.cause.Cause.{Cause}
+use Rattle.pg_ast.specs.declared.tree.Desc.{Desc}
+use Rattle.pg_meaning.specs.States.{State}
+use Rattle.pg_meaning.specs.Steps.{steps}
+use Rattle.pg_edge.specs.Told.{BothTold}
+use Rattle.pg_edge.specs.Sink.{Adds}
+use Rattle.pg_interp.specs.declared.effect.Write.{Write}
+use Rattle.pg_traced.specs.declared.shows.Shows.{Shows}
+use Rattle.pg_traced.specs.declared.shows.Shows.TheVariants.{Steps, Traps, Counts}
+use Rattle.pg_traced.specs.declared.stepped.Stepped.{Stepped}
+use Rattle.pg_traced.specs.Tells.{Tells}
+use Rattle.pg_traced.specs.Lines.{step_line}
+
+-- whether a step has a line that trapped for such a cause, if for any
+abbrev pub is_shown : Shows → Option Cause → Bool
+is_shown Steps cause = true
+is_shown Traps None = false
+is_shown Traps (Some cause) = true
+is_shown Counts cause = false
+
+-- the line of a step, where it has one
+abbrev pub shown_step : Shows → Desc → ℕ → List Write → Stepped → List ℕ
+shown_step shows d number stores r = if is_shown shows r.cause then step_line d number stores r else []
+
+-- a text is made of a record of each of the first n steps from a state, in order, as they are shown
+unfoldable pub IsTrace : Shows → Desc → ℕ → State → List ℕ → Type 0
+IsTrace shows d zero s text = text ≡ []
+IsTrace shows d (suc n) s text =
+    (before : List ℕ) × (stores : List Write) × (r : Stepped) × IsTrace shows d n s before × Tells d (steps d n s) stores r
+    × (text ≡ before ++ shown_step shows d (suc n) stores r)
+
+-- the lines of these steps were put
+pub record PutsTrace (shows : Shows) (d : Desc) (n : ℕ) (s : State) (was now : Option (List ℕ)) : Type 0 where
+  pub lines : List ℕ
+  pub trace : IsTrace shows d n s lines
+  pub written : BothTold was now (Adds lines)
