@@ -1,0 +1,3 @@
+pub mod GuardLemmas
+pub mod BrokenLemmas
+pub mod AskingLemmas

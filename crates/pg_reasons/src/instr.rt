@@ -1,0 +1,96 @@
+//! One instruction of a report. Each error is want of memory.
+
+ghost use Rattle.std.specs.Prelude.{◌≡◌, ◌*◌, ◌<◌, length};
+ghost use Rattle.pg_cert.specs.Verdicts.{kind_count};
+
+use crate::pair::{Pair, push_pair};
+use crate::part::Part;
+use crate::push::{Text, push, push_name, push_word};
+use pg_cert::{Mark, Report};
+use pg_explained::{Explained, explain, words_part};
+use pg_guarded::marks_at;
+use pg_machine::Machine;
+use pg_type::Kind;
+use std::alloc::{AllocError, Global};
+
+/// Pushes the pairs that show kinds of an instruction, those of the part. Where the first mark is told, which shows that it is not
+/// privileged, the next that is told is compared with it: whether some words of the pattern trap in user mode and others do not.
+pub(crate) fn push_instr(
+    alloc: Global,
+    text: &mut Text,
+    m: &Machine,
+    report: &Report,
+    part: Part,
+    instr: usize,
+) -> Result<(), AllocError>
+    requires whole { length report.now.marks ≡ length m.now.desc.instrs * kind_count report.now.family }
+    requires there { instr < length m.now.desc.instrs }
+{
+    let mut last = None;
+    for (mark, kind) in marks_at(m, report, instr).iter().zip(report.family.kinds()) {
+        if part.takes_kind(*kind) {
+            if let Some(now) = push_mark(alloc, text, m, instr, *kind, mark)? {
+                push_words(text, m, last.as_ref(), &now)?;
+                last = Some(now);
+            }
+        }
+    }
+    match last {
+        Some(_) => Ok(()),
+        None => push_nothing(text, m, instr),
+    }
+}
+
+/// Pushes that no states were told.
+fn push_nothing(text: &mut Text, m: &Machine, instr: usize) -> Result<(), AllocError> {
+    push_name(text, m, instr)?;
+    push(text, b": the certificate has no states that show it.\n")
+}
+
+/// Pushes a mark that two states show: what they come to, where they do show the kind.
+fn push_mark(
+    alloc: Global,
+    text: &mut Text,
+    m: &Machine,
+    instr: usize,
+    kind: Kind,
+    mark: &Mark,
+) -> Result<Option<Explained>, AllocError>
+    requires { instr < length m.now.desc.instrs }
+{
+    let Mark::Shown(first, second) = mark else {
+        return Ok(None);
+    };
+    let Some(told) = explain(alloc, m, instr, kind, first, second)? else {
+        return Ok(None);
+    };
+    let pair = Pair {
+        instr,
+        kind,
+        first,
+        second,
+        told: &told,
+    };
+    push_pair(alloc, text, m, &pair)?;
+    Ok(Some(told))
+}
+
+/// Pushes that some words of a pattern trap in user mode and others do not, where the pair before and this one tell it.
+fn push_words(
+    text: &mut Text,
+    m: &Machine,
+    before: Option<&Explained>,
+    now: &Explained,
+) -> Result<(), AllocError> {
+    let Some(broken) = before else {
+        return Ok(());
+    };
+    if !words_part(broken, now) {
+        return Ok(());
+    }
+    push(text, b"  The word ")?;
+    push_word(text, m, broken.second.word)?;
+    push(text, b" is done in user mode, and the word ")?;
+    push_word(text, m, now.user.word)?;
+    push(text, b" traps there: split the pattern.\n")
+}
