@@ -17,9 +17,16 @@ use pg_edge::{Shelf, Sink};
 use pg_hw::Hardware;
 use pg_machine::Machine;
 use pg_report::{put_state, put_text};
-use pg_steps::{Status, stopped};
+use pg_steps::{Status, Stop, StopWatcher, stopped};
 use pg_traced::{Shows, Tally, TraceFault, push_counts, trace_bare};
 use std::alloc::Global;
+
+/// Nobody is told why the program goes no further, but by its text.
+struct Unwatched;
+
+impl StopWatcher for Unwatched {
+    fn stops(&mut self, _stop: &Stop) {}
+}
 
 /// Runs what the words ask for, and puts its text.
 pub fn carry<F: Shelf, S: Sink, H: Hardware>(
@@ -34,7 +41,7 @@ pub fn carry<F: Shelf, S: Sink, H: Hardware>(
 {
     let plan = match prepare(alloc, &words.bare, shelf) {
         Ok(plan) => plan,
-        Err(stop) => return stopped(&stop, out),
+        Err(stop) => return stopped(&stop, out, &mut Unwatched),
     };
     ended(put_run(alloc, &plan, hw, out, words.shows))
 }
