@@ -2,7 +2,7 @@
 
 use pg_edge::Sink;
 use pg_report::put_text;
-use pg_steps::stopped;
+use pg_steps::{StopWatcher, stopped};
 use std::alloc::AllocError;
 
 /// Why nothing is told, or not all of it.
@@ -24,6 +24,13 @@ impl From<AllocError> for Stop {
     }
 }
 
+/// Nobody is told why nothing is told, but by its text.
+struct Unwatched;
+
+impl StopWatcher for Unwatched {
+    fn stops(&mut self, _stop: &pg_steps::Stop) {}
+}
+
 /// How the program is called.
 const USAGE: &[u8] = b"usage: pg_explain DESC CERT [INSTR [KIND]] [--budget K] [--mend FILE]\n";
 
@@ -36,7 +43,7 @@ impl Stop {
                 Ok(()) => 3,
                 Err(_) => 9,
             },
-            Stop::Told(stop) => stopped(stop, out).code(),
+            Stop::Told(stop) => stopped(stop, out, &mut Unwatched).code(),
             Stop::Memory => 10,
             Stop::Output => 9,
         }
