@@ -13,7 +13,7 @@ MOST_NAMED = 4096
 
 
 class ErrorLine(NamedTuple):
-    """A line without its line feed; behind some a reason stands, and before some a warning and a verdict."""
+    """A line without its line feed. Behind some a reason stands; before some a warning, a verdict, or where a file is at fault."""
 
     text: str
     has_reason: bool = False
@@ -45,7 +45,7 @@ def _named(name: str) -> str:
     return _CONTROL.sub(b"?", cut).decode(errors="surrogateescape")
 
 
-NO_OUTPUT = ErrorLine("pgv: standard output: cannot be written: ", has_reason=True)
+NO_OUTPUT = ErrorLine("pgv: standard output: cannot be written: ", has_reason=True, is_last=True)
 
 _COMPLAINT = re.compile(rb"pgv: [^\x00-\x1f\x7f]+\n")
 """What is wrong with words."""
