@@ -25,6 +25,7 @@ impl From<AllocError> for Stop {
 }
 
 /// Nobody is told why nothing is told, but by its text.
+#[derive(Clone, Copy, Debug)]
 struct Unwatched;
 
 impl StopWatcher for Unwatched {

@@ -22,6 +22,7 @@ use pg_traced::{Shows, Tally, TraceFault, push_counts, trace_bare};
 use std::alloc::Global;
 
 /// Nobody is told why the program goes no further, but by its text.
+#[derive(Clone, Copy, Debug)]
 struct Unwatched;
 
 impl StopWatcher for Unwatched {
