@@ -1,4 +1,5 @@
-# Completion of pgv for bash: source it, or install it as share/bash-completion/completions/pgv. It needs bash 4.
+# Completion of pgv and its side programs for bash: source it, or install it as share/bash-completion/completions/pgv, with a link to it
+# of each side program's name. It needs bash 4.
 
 # The files of one ending that begin with a word, and folders; any file where there is none of that ending.
 _pgv_files() {
@@ -78,4 +79,65 @@ _pgv() {
   fi
 }
 
+# The instructions of a description that begin with a word.
+_pgv_instrs() {
+  local word="$1" names
+  names="$(sed -n 's/^[[:space:]]*instr[[:space:]]\{1,\}\([A-Za-z_][A-Za-z0-9_]*\).*/\1/p' "${2/#\~\//$HOME/}" 2>/dev/null)"
+  mapfile -t COMPREPLY < <(compgen -W "$names" -- "$word")
+}
+
+_pgv_side() {
+  local kinds="privileged control mode location bound ucontrol ulocation ubound"
+  local word="${COMP_WORDS[COMP_CWORD]}" files="" options="" least=0 order=yes used=" " value="" desc="" at=0 i name
+  COMPREPLY=()
+  # Its files, its options, how many files stand before an option at least, and whether none stands behind one.
+  case ${1##*/} in
+    pg_explain) files=".isa .cert instr kind" options="--budget --mend" least=2 ;;
+    pg_trace) files=".isa .img" options="--grant --steps --only-traps --counts" order=no ;;
+    pg_dimacs) files=".isa instr kind" ;;
+    pg_solve) files=".cnf -" options="--check" least=1 ;;
+    *) return ;;
+  esac
+
+  for ((i = 1; i < COMP_CWORD; i++)); do
+    name="${COMP_WORDS[i]}"
+    case $name in
+      --only-traps | --counts | --check) used+="$name " ;;
+      --*)
+        used+="$name "
+        ((i++))
+        [ "$i" -ge "$COMP_CWORD" ] && value="$name"
+        ;;
+      *)
+        [ "$at" = 0 ] && desc="$name"
+        ((at++))
+        ;;
+    esac
+  done
+  case $value in
+    --mend) _pgv_files "$word" .isa; return ;;
+    --*) return ;;
+  esac
+
+  set -f
+  # shellcheck disable=SC2086
+  set -- $files
+  set +f
+  shift "$((at < $# ? at : $#))"
+  [ $order = yes ] && [ "$used" != " " ] && set --
+  if [[ $word != -* ]] && [ $# -gt 0 ] && [ "$1" != - ]; then
+    case $1 in
+      instr) _pgv_instrs "$word" "$desc" ;;
+      kind) mapfile -t COMPREPLY < <(compgen -W "$kinds" -- "$word") ;;
+      *) _pgv_files "$word" "$1" ;;
+    esac
+  elif [ "$at" -ge "$least" ] && [[ $used != *" --check "* ]]; then
+    for name in $options; do
+      [[ $used == *" $name "* ]] || COMPREPLY+=("$name")
+    done
+    mapfile -t COMPREPLY < <(compgen -W "${COMPREPLY[*]}" -- "$word")
+  fi
+}
+
 complete -F _pgv pgv
+complete -F _pgv_side pg_explain pg_trace pg_dimacs pg_solve
