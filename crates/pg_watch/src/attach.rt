@@ -23,8 +23,8 @@ use crate::index::{Index, Pair};
 use crate::lists::Watch;
 use crate::look::{has_true, open_literal};
 
-/// Lets each of the fresh clauses that can watch two literals, and takes it from them. It takes time in their literals, and
-/// in the length of the trail from the last assigned literal on.
+/// Attaches each fresh clause that has two literals to watch, and takes it from the fresh ones. The time is that of looking at
+/// their literals, and at the trail from the last assigned literal on.
 fn attach_each(clauses: &Arena, trail: &Assignment, index: &mut Index, fresh: &mut Vec<u32>)
     requires index { IsIndex clauses.now trail.now index.old.lists index.old.pairs.items }
     requires places { ArePlaces (length clauses.now) fresh.old.items }

@@ -29,8 +29,8 @@ pub enum Visit {
     Falsified,
 }
 
-/// Visits a clause in whose list of a literal it stands, which is false: where it watches that literal and has no literal that
-/// is known to be true, it watches another in its place, or it is unit or falsified. The error is want of memory.
+/// Visits a clause that stands in the list of a literal, `gone`, which has become false. Where the clause watches it, and has no
+/// literal that is known to be true, it watches another one instead, or it is unit, or falsified. The error is out of memory.
 pub fn visit_clause(
     clauses: &Arena,
     trail: &mut Assignment,
@@ -71,7 +71,7 @@ fn other_of(pair: Pair, gone: i32) -> Option<i32>
     }
 }
 
-/// Visits a clause that watches a literal which is false, and another.
+/// Visits a clause that watches `gone`, which is false, and one other literal.
 fn visit_beside(
     clauses: &Arena,
     trail: &mut Assignment,
