@@ -103,7 +103,7 @@ impl<R: Files, E: Write + Drop> VerdictWatcher for Watching<'_, R, E> {
 fn word_of(alloc: Global, read: &LastRead) -> Option<u64> {
     let bytes = read.first.as_ref()?;
     match read_desc(alloc, bytes.as_slice()) {
-        Ok(desc) => Some(u64::from(desc.word)),
+        Ok(desc) => Some(desc.word),
         Err(_) => None,
     }
 }
