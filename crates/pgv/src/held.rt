@@ -24,6 +24,8 @@ pub struct LastRead {
     pub bytes: Vec<u8>,
     /// Whether that is so: false where there was too much to hold, or no memory.
     pub is_held: bool,
+    /// The file that was read first, where it could be held: the description, of every command that reads one.
+    pub first: Option<Vec<u8>>,
     /// Where the file goes on behind it.
     end: u64,
 }
@@ -36,6 +38,7 @@ impl LastRead {
             feeds: 0,
             bytes: Vec::new(alloc),
             is_held: false,
+            first: None,
             end: 0,
         }
     }
@@ -58,6 +61,15 @@ impl LastRead {
         if !fits || self.bytes.extend_from_slice(bytes).is_err() {
             self.bytes.clear();
             self.is_held = false;
+        }
+    }
+
+    /// Holds the whole file of this name, and keeps it where it is the first.
+    fn whole(&mut self, alloc: Global, name: &str, bytes: &[u8]) {
+        self.begin(name);
+        self.push(bytes);
+        if self.first.is_none() && self.is_held {
+            self.first = Vec::from_slice(alloc, bytes).ok();
         }
     }
 
@@ -90,14 +102,15 @@ impl LastRead {
 /// A shelf of which is held what was read last.
 #[derive(Drop)]
 pub struct Holding<'a, F: Shelf + Drop> {
+    alloc: Global,
     shelf: F,
     held: &'a RefCell<LastRead>,
 }
 
 impl<'a, F: Shelf + Drop> Holding<'a, F> {
     /// This shelf, of which is held here what is read.
-    pub fn new(shelf: F, held: &'a RefCell<LastRead>) -> Holding<'a, F> {
-        Holding { shelf, held }
+    pub fn new(alloc: Global, shelf: F, held: &'a RefCell<LastRead>) -> Holding<'a, F> {
+        Holding { alloc, shelf, held }
     }
 
     /// The shelf.
@@ -116,8 +129,7 @@ impl<F: Shelf + Drop> Shelf for Holding<'_, F> {
     fn load(&mut self, name: &str, limit: u64, into: &mut Vec<u8>) -> Result<(), LoadFault> {
         let answer = self.shelf.load(name, limit, into);
         if let Ok(mut held) = self.held.try_borrow_mut() {
-            held.begin(name);
-            held.push(into.as_slice());
+            held.whole(self.alloc, name, into.as_slice());
         }
         answer
     }

@@ -47,7 +47,7 @@ fn main(rt: HostRuntime) -> ExitCode {
 fn run(rt: &HostRuntime, words: &[String]) -> Status {
     let line = RefCell::new(Progress::new(rt.stderr(), rt.stderr().is_terminal()));
     let held = RefCell::new(LastRead::new(rt.alloc()));
-    let mut shelf = Holding::new(DirShelf::new(rt), &held);
+    let mut shelf = Holding::new(rt.alloc(), DirShelf::new(rt), &held);
     let mut out = StdSink::new(Beside::new(rt.stdout(), &line));
     let mut hw = Rig::new(rt.alloc());
     let seen = Seen {

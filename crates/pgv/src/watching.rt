@@ -8,6 +8,7 @@ use pg_cert::put::kind_name;
 use pg_host::{Progress, StdSink};
 use pg_judged::tell_verdict;
 use pg_pointing::{Held, point_out, three_lines};
+use pg_read::read_desc;
 use pg_report::RefusalLine;
 use pg_tool::{JudgedMachine, Kind, Refusal, Stop, StopWatcher, VerdictWatcher, Watcher};
 use std::alloc::{AllocError, Global};
@@ -98,6 +99,15 @@ impl<R: Files, E: Write + Drop> VerdictWatcher for Watching<'_, R, E> {
     }
 }
 
+/// How many bits a word of the machine has, by the file that was read first, where that is a description.
+fn word_of(alloc: Global, read: &LastRead) -> Option<u64> {
+    let bytes = read.first.as_ref()?;
+    match read_desc(alloc, bytes.as_slice()) {
+        Ok(desc) => Some(desc.word),
+        Err(_) => None,
+    }
+}
+
 /// Where a refusal points in the file that was read last, in lines; nothing where it is of no file, or nothing is held of it.
 fn pointed(
     alloc: Global,
@@ -110,7 +120,7 @@ fn pointed(
     let held = Held {
         bytes: read.bytes.as_slice(),
         feeds: read.feeds,
-        word: None,
+        word: word_of(alloc, read),
     };
     match point_out(alloc, refusal, &held)? {
         None => Ok(None),
