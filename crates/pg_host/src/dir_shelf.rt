@@ -1,7 +1,8 @@
 //! The shelf over files of the system.
 //!
 //! A program lends one to what it calls. A name is a path, from the working directory on. Nobody knows what other programs do to a
-//! file between two calls, so the shelf tells no content. Each call opens its file anew and closes it. A file to be read
+//! file between two calls, so the shelf tells no content. Each call opens its file anew and closes it, but that the file of the
+//! last part stays open until another call (`opened`). A file is saved whole (`saving`). A file to be read
 //! that is not found is `Missing`. Whatever else keeps one from being opened, measured, read or written, as a directory in
 //! its place, is `Failed` and counted, reads apart from saves, up to 2^64 - 1. `Long`, and `Memory` where there is none for
 //! the bytes, are not counted. Of the last call that was `Missing` or `Failed` the shelf keeps the name, the deed and the
@@ -13,11 +14,13 @@ ghost use Rattle.pg_edge.specs.Shelf.{Loads, LoadsPart, Saves, Sizes, CountsRead
 ghost use Rattle.pg_host.specs.Refusals.{load_fault_of, KeepsRead, KeepsSave};
 
 use crate::fault::{Fault, fault_of};
+use crate::opened::{Opened, load_part};
 use crate::refused::{Cause, Deed, Refused};
-use crate::streams::{read_up_to, read_within, write_whole};
+use crate::saving::save_file;
+use crate::streams::read_within;
 use pg_edge::{Failed, LoadFault, Shelf};
 use std::fs;
-use std::io::{ErrorKind, Seek, SeekFrom};
+use std::io::ErrorKind;
 use std::rt::Files;
 
 /// A shelf whose files are the system's, with a count of the reads and one of the saves that failed, and the last refusal.
@@ -27,6 +30,8 @@ pub struct DirShelf<'a, R: Files> {
     reads: u64,
     saves: u64,
     refused: Option<Refused>,
+    /// The file of the last part, where no other call came since.
+    opened: Option<Opened<R::File>>,
 }
 
 impl<'a, R: Files> DirShelf<'a, R> {
@@ -41,6 +46,7 @@ impl<'a, R: Files> DirShelf<'a, R> {
             reads: 0,
             saves: 0,
             refused: None,
+            opened: None,
         }
     }
 
@@ -127,6 +133,7 @@ impl<R: Files> Shelf for DirShelf<'_, R> {
         ensures saves { self.new.saves ≡ self.old.saves }
         ensures kept { KeepsRead Deed.Read name.now self.old.refused self.new.refused result }
     {
+        self.opened = None;
         let answer = load_file(self.system, name, limit, into);
         self.answer_read(Deed::Read, name, answer)
     }
@@ -138,11 +145,13 @@ impl<R: Files> Shelf for DirShelf<'_, R> {
         ensures saves { self.new.saves ≡ self.old.saves }
         ensures kept { KeepsRead Deed.Size name.now self.old.refused self.new.refused result }
     {
+        self.opened = None;
         let answer = size_of_file(self.system, name);
         self.answer_read(Deed::Size, name, answer)
     }
 
-    /// Reads the file `name` from the place `at` on: `most` bytes, or fewer where it ends before.
+    /// Reads the file `name` from the place `at` on: `most` bytes, or fewer where it ends before. Parts that follow one another are
+    /// read without a seek, so that they may come through a pipe.
     fn part(&mut self, name: &str, at: u64, most: u64, into: &mut Vec<u8>) -> Result<(), LoadFault>
         requires most { 1 ≤ most }
         requires empty { into.old.items ≡ [] }
@@ -151,11 +160,11 @@ impl<R: Files> Shelf for DirShelf<'_, R> {
         ensures saves { self.new.saves ≡ self.old.saves }
         ensures kept { KeepsRead Deed.Read name.now self.old.refused self.new.refused result }
     {
-        let answer = load_part(self.system, name, at, most, into);
+        let answer = load_part(self.system, &mut self.opened, name, at, most, into);
         self.answer_read(Deed::Read, name, answer)
     }
 
-    /// Writes `bytes` to the file `name`, which is made, or emptied first.
+    /// Writes `bytes` to the file `name`, which is made or replaced.
     fn save(&mut self, name: &str, bytes: &[u8]) -> Result<(), Failed>
         ensures answer { Saves None None name.now bytes.now result }
         ensures counted { CountsSave self.old.saves self.new.saves result }
@@ -164,6 +173,7 @@ impl<R: Files> Shelf for DirShelf<'_, R> {
         ensures no_fault { OnOk result (self.new.saves ≡ self.old.saves) }
         ensures kept { KeepsSave name.now self.old.refused self.new.refused result }
     {
+        self.opened = None;
         match save_file(self.system, name, bytes) {
             Ok(()) => Ok(()),
             Err(kind) => {
@@ -196,36 +206,5 @@ fn size_of_file<R: Files>(system: &R, name: &str) -> Result<u64, Fault>
         Ok(data) if data.is_dir() => Err(Fault::System(ErrorKind::IsADirectory)),
         Ok(data) => Ok(data.len()),
         Err(error) => Err(fault_of(&error)),
-    }
-}
-
-/// Reads at most `most` bytes of the file from the place `at` on into the empty buffer `into`: fewer only at its end.
-fn load_part<R: Files>(
-    system: &R,
-    name: &str,
-    at: u64,
-    most: u64,
-    into: &mut Vec<u8>,
-) -> Result<(), Fault>
-    requires empty { into.old.items ≡ [] }
-    ensures within { OnOk result (length into.new.items ≤ most) }
-    ensures empty { OnErr result (into.new.items ≡ []) }
-    ensures never_long { ¬ IsErrOf result Fault.Long }
-{
-    let mut file = match fs::open(system, name) {
-        Ok(file) => file,
-        Err(error) => return Err(fault_of(&error)),
-    };
-    match file.seek(SeekFrom::Start(at)) {
-        Ok(_) => read_up_to(&mut file, most, into),
-        Err(error) => Err(Fault::System(error.kind())),
-    }
-}
-
-/// Makes `bytes` the content of the file, which is made or cut off first.
-fn save_file<R: Files>(system: &R, name: &str, bytes: &[u8]) -> Result<(), ErrorKind> {
-    match fs::create(system, name) {
-        Ok(mut file) => write_whole(&mut file, bytes),
-        Err(error) => Err(error.kind()),
     }
 }

@@ -12,7 +12,7 @@
 //!
 //! # Modules
 //!
-//! - `dir_shelf`: the shelf. `std_sink`: the sink. `streams`: whole reads and writes, of which both are made.
+//! - `dir_shelf`: the shelf; `opened`, the file of the last part; `saving`, a file that is saved whole. `std_sink`: the sink. `streams`: whole reads and writes, of which both are made.
 //! - `fault`: why the system did not give or take what it was to. `refused`: what the shelf keeps of the call that it refused last.
 //! - `telling`: the line on standard error of a program that ends without a text. `progress`: the line that says how far it has
 //!   come. `push`: what is pushed at the end of either.
@@ -20,9 +20,11 @@
 
 mod dir_shelf;
 mod fault;
+mod opened;
 mod progress;
 mod push;
 mod refused;
+mod saving;
 mod std_sink;
 pub mod streams;
 pub mod telling;

@@ -3,6 +3,9 @@
 //! `point_out` finds the place of a refusal and says what is wrong in words; `three_lines` lays it out. Both take memory, and each
 //! error is want of it.
 
+ghost use Rattle.std.specs.Prelude.{◌≡◌, is_some, IfOk};
+ghost use Rattle.pg_pointing.specs.Refusals.{is_of_file};
+
 use crate::description::description;
 use crate::found::{At, Found};
 use crate::held::Held;
@@ -33,12 +36,15 @@ pub struct Pointed {
     pub shown: Option<Shown>,
 }
 
-/// What is wrong with a refused file, and where, found from the bytes of it that are held. Nothing where no file is refused.
+/// What is wrong with a refused file, and where, found from the bytes of it that are held. Nothing where no file is refused,
+/// which is so of room alone.
 pub fn point_out(
     alloc: Global,
     refusal: &RefusalLine,
     held: &Held<'_>,
-) -> Result<Option<Pointed>, AllocError> {
+) -> Result<Option<Pointed>, AllocError>
+    ensures told { IfOk result (λ pointed. is_some pointed ≡ is_of_file refusal.now) }
+{
     let found = match refusal {
         RefusalLine::Description(why) => description(alloc, why, held.bytes)?,
         RefusalLine::Image(_, why) => image(alloc, why, held)?,

@@ -13,8 +13,8 @@ use pg_machine::Machine;
 use pg_type::Kind;
 use std::alloc::{AllocError, Global};
 
-/// Pushes the pairs that show kinds of an instruction, those of the part. Where the first mark is told, which shows that it is not
-/// privileged, the next that is told is compared with it: whether some words of the pattern trap in user mode and others do not.
+/// Pushes the pairs that show kinds of an instruction, those of the part. Where a pair is told that shows it unprivileged, each
+/// other is compared with it: whether some words of the pattern trap in user mode and others do not.
 pub(crate) fn push_instr(
     alloc: Global,
     text: &mut Text,
@@ -26,18 +26,23 @@ pub(crate) fn push_instr(
     requires whole { length report.now.marks ≡ length m.now.desc.instrs * kind_count report.now.family }
     requires there { instr < length m.now.desc.instrs }
 {
-    let mut last = None;
+    let mut unprivileged = None;
+    let mut is_told = false;
     for (mark, kind) in marks_at(m, report, instr).iter().zip(report.family.kinds()) {
         if part.takes_kind(*kind) {
             if let Some(now) = push_mark(alloc, text, m, instr, *kind, mark)? {
-                push_words(text, m, last.as_ref(), &now)?;
-                last = Some(now);
+                is_told = true;
+                match kind {
+                    Kind::Privileged => unprivileged = Some(now),
+                    _ => push_words(text, m, unprivileged.as_ref(), &now)?,
+                }
             }
         }
     }
-    match last {
-        Some(_) => Ok(()),
-        None => push_nothing(text, m, instr),
+    if is_told {
+        Ok(())
+    } else {
+        push_nothing(text, m, instr)
     }
 }
 
@@ -75,21 +80,22 @@ fn push_mark(
     Ok(Some(told))
 }
 
-/// Pushes that some words of a pattern trap in user mode and others do not, where the pair before and this one tell it.
+/// Pushes that some words of a pattern trap in user mode and others do not, where this pair and one that shows the instruction
+/// unprivileged tell it.
 fn push_words(
     text: &mut Text,
     m: &Machine,
-    before: Option<&Explained>,
+    unprivileged: Option<&Explained>,
     now: &Explained,
 ) -> Result<(), AllocError> {
-    let Some(broken) = before else {
+    let Some(done) = unprivileged else {
         return Ok(());
     };
-    if !words_part(broken, now) {
+    if !words_part(done, now) {
         return Ok(());
     }
     push(text, b"  The word ")?;
-    push_word(text, m, broken.second.word)?;
+    push_word(text, m, done.second.word)?;
     push(text, b" is done in user mode, and the word ")?;
     push_word(text, m, now.user.word)?;
     push(text, b" traps there: split the pattern.\n")

@@ -70,7 +70,7 @@ fn answers_all<S: Shelf>(rt: &impl Abort, alloc: Global, shelf: &mut S, rows: &[
 }
 
 /// Whatever keeps files answers these so, one after another, where it has none of the names `c` and `d`.
-const KEPT: [(&str, Call); 14] = [
+const KEPT: [(&str, Call); 17] = [
     ("a", Call::Save("longer", Ok(()))),
     ("a", Call::Save("hello", Ok(()))),
     ("a", Call::Size(Ok(5))),
@@ -80,6 +80,9 @@ const KEPT: [(&str, Call); 14] = [
     ("a", Call::Part(1, 3, Ok("ell"))),
     ("a", Call::Part(3, 9, Ok("lo"))),
     ("a", Call::Part(5, 9, Ok(""))),
+    ("a", Call::Part(0, 2, Ok("he"))),
+    ("a", Call::Save("world", Ok(()))),
+    ("a", Call::Part(2, 9, Ok("rld"))),
     ("b", Call::Save("", Ok(()))),
     ("b", Call::Load(0, Ok(""))),
     ("c", Call::Load(9, Err(LoadFault::Missing))),
