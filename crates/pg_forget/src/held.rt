@@ -30,6 +30,7 @@ impl Held {
 }
 
 /// The numbers from 1 to a last one. The error is want of memory.
+#[tactic(auto, using(crate::proofs::HeldLemmas::first_more))]
 fn first_numbers(alloc: Global, last: u32) -> Result<Vec<u32>, AllocError>
     requires { last < 2 ^ 31 }
     ensures { IfOk result (λ numbers. numbers.items ≡ first_numbers last) }

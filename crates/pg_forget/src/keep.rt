@@ -36,12 +36,11 @@ fn is_sure(worth: &Worth, len: usize, since: u64) -> bool {
     len <= 2 || worth.glue <= FEW || (worth.glue <= MIDDLE && worth.used >= since)
 }
 
-/// The literals of the clause at a place, none where there is none.
+/// How many literals the clause at a place has, none where there is none.
 fn len_at(watches: &Watches, place: usize) -> usize {
-    if place < watches.len() {
-        watches.clause(place as u32 + 1).len()
-    } else {
-        0
+    match u32::try_from(place.saturating_add(1)) {
+        Ok(number) if number as usize <= watches.len() => watches.clause(number).len(),
+        _ => 0,
     }
 }
 

@@ -1,7 +1,7 @@
 //! A search that forgets learned clauses it does not need.
 //!
 //! `pg_sat` keeps all that it learns, since the log of a question that stays open has to be new step by step. A refutation needs
-//! less: its steps are valid. So `search` looks for an answer with few clauses at hand: from time to time it lets go of learned
+//! less: its steps are valid. So `find` looks for an answer with few clauses at hand: from time to time it lets go of learned
 //! clauses, and all that it learned stays in the log alone. `solve` answers as `pg_sat` does: it searches so first, and asks
 //! `pg_sat` only where that spent the budget. `specs/Findings.antt` says what is found.
 //!
@@ -32,5 +32,5 @@ mod solver;
 mod turn;
 
 pub use found::Found;
-pub use search::{search, search_counted};
+pub use search::{find, find_counted};
 pub use solver::{solve, solve_counted};

@@ -31,18 +31,18 @@ pub enum Ended {
 /// closed, and before its last step there are at most `budget`. `Open` has `budget` steps, each valid. The error is want of memory.
 ///
 /// Each conflict costs what it costs `pg_sat::solve`, but for propagation, which goes over the clauses that are held alone.
-pub fn search(alloc: Global, cnf: &Cnf, budget: u32) -> Result<Found, AllocError>
+pub fn find(alloc: Global, cnf: &Cnf, budget: u32) -> Result<Found, AllocError>
     requires { budget < 2 ^ 31 }
     ensures { IfOk result (IsFinding cnf.now.clauses cnf.now.variables budget) }
 {
-    match search_counted(alloc, cnf, budget) {
+    match find_counted(alloc, cnf, budget) {
         Ok((found, _)) => Ok(found),
         Err(error) => Err(error),
     }
 }
 
-/// The same as `search`, and what it took. The counts are for measurements: nothing is said of them, and nothing rests on them.
-pub fn search_counted(alloc: Global, cnf: &Cnf, budget: u32) -> Result<(Found, Counts), AllocError>
+/// The same as `find`, and what it took. The counts are for measurements: nothing is said of them, and nothing rests on them.
+pub fn find_counted(alloc: Global, cnf: &Cnf, budget: u32) -> Result<(Found, Counts), AllocError>
     requires { budget < 2 ^ 31 }
     ensures { IfOk result (λ told. IsFinding cnf.now.clauses cnf.now.variables budget told.0) }
 {

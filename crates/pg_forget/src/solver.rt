@@ -4,7 +4,7 @@ ghost use Rattle.std.specs.Prelude.{◌<◌, ◌^◌, IfOk};
 ghost use Rattle.pg_sat.specs.Answers.{IsAnswer};
 
 use crate::found::Found;
-use crate::search::search_counted;
+use crate::search::find_counted;
 use pg_cnf::Cnf;
 use pg_sat::{Answer, Counts};
 use std::alloc::{AllocError, Global};
@@ -28,11 +28,11 @@ pub fn solve_counted(alloc: Global, cnf: &Cnf, budget: u32) -> Result<(Answer, C
     requires { budget < 2 ^ 31 }
     ensures { IfOk result (λ told. IsAnswer cnf.now.clauses cnf.now.variables budget told.0) }
 {
-    match search_counted(alloc, cnf, budget) {
-        Ok((Found::Model(assignment), counts)) => Ok((Answer::Sat(assignment), counts)),
-        Ok((Found::Refuted(steps), counts)) => Ok((Answer::Unsat(steps), counts)),
-        Ok((Found::Open(_), counts)) => solve_all(alloc, cnf, budget, counts),
-        Err(error) => Err(error),
+    let (found, counts) = find_counted(alloc, cnf, budget)?;
+    match found {
+        Found::Model(assignment) => Ok((Answer::Sat(assignment), counts)),
+        Found::Refuted(steps) => Ok((Answer::Unsat(steps), counts)),
+        Found::Open(_) => solve_all(alloc, cnf, budget, counts),
     }
 }
 
