@@ -1,8 +1,11 @@
 -- What is kept while a search forgets, from one call to the next.
-use Rattle.std.proofs.Common.{◌≡◌, ℕ, ◌+◌, ◌-◌, ◌^◌, ◌<◌, ◌≤◌, List, [], ◌∷◌, ◌++◌, length, map, Option, Some, None, sym, ap, subst, ◌∙◌, arith, ℤ}
-use Rattle.std.proofs.lemmas.List.{map-append, length-append}
+use Rattle.std.proofs.Common.{◌≡◌, ℕ, ◌+◌, ◌-◌, ◌^◌, ◌<◌, List, [], ◌∷◌, ◌++◌, length, map, Option, Some, None, sym, ap, subst, ◌∙◌, arith, ℤ}
+use Rattle.std.specs.Prelude.{Result, Ok, Err, OnOk}
+use Rattle.std.specs.declared.alloc.AllocError.{AllocError}
+use Rattle.std.proofs.lemmas.List.{map-append}
 use Rattle.std.proofs.lemmas.Option.{slice_get_within}
 use Rattle.pg_cnf.specs.Literals.{IsLiteral, AreClauses}
+use Rattle.pg_watch.specs.declared.fix.Fix.{Fix}
 use Rattle.pg_watch.specs.State.{State}
 use Rattle.pg_watch.specs.Trail.{Trail, IsTrail, IsQuiet, Extends, pushed, cut}
 use Rattle.pg_watch.proofs.Steps.{IsTrail-push}
@@ -103,7 +106,12 @@ taught question variables old new ns ms before steps clause jump number h right 
       levels = subst (λ x. x) (λ i. AreQuietBefore (sym clauses i) (sym te i)) (quiet_cut old.clauses old.trail step.lits jump right h.levels l.cut);
     }
 
+-- what holds anyhow
+pub on_ok : (r : Result Fix AllocError) (P : Type 0) → P → OnOk r P
+on_ok (Ok x) P p = p
+on_ok (Err x) P p = tt
+
 -- there is room for a clause more
 pub room : (question : List (List ℤ)) (variables : ℕ) (state : State) (ns : List ℕ) (steps : List Step) → IsForgetting question variables state ns steps →
-    length question < 2 ^ 31 → length steps < 2 ^ 31 → length state.clauses + 1 < 2 ^ 32 - 1
+    length question < 2 ^ 31 → length steps + 1 < 2 ^ 31 → length state.clauses + 1 < 2 ^ 32 - 1
 room question variables state ns steps h few short = omega (arith, h.held.few, few, short)

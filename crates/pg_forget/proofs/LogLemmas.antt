@@ -1,17 +1,18 @@
 -- Logs whose steps are valid, and steps under other numbers.
-use Rattle.std.proofs.Common.{◌≡◌, ℕ, Bool, ◌||◌, true, false, cond, List, [], ◌∷◌, ◌++◌, map, Option, Some, None, is_none, refl, sym, ap, subst, ◌∙◌, ℤ, append_assoc}
+use Rattle.std.proofs.Common.{◌≡◌, ℕ, cond, List, [], ◌∷◌, ◌++◌, map, Option, Some, None, is_none, refl, sym, ap, subst, ◌∙◌, ℤ, append_assoc}
 use Rattle.std.specs.Prelude.{IsTrue, IsSomeAnd}
 use Rattle.std.specs.Option.{option_and_then}
 use Rattle.std.proofs.lemmas.List.{append-nil, map-append}
 use Rattle.pg_proof.specs.declared.step.Step.{Step}
 use Rattle.pg_proof.specs.declared.step.Act.{Act}
 use Rattle.pg_proof.specs.declared.step.Act.TheVariants.{Add}
-use Rattle.pg_proof.specs.State.{State, clause_at, begun, is_empty, with_clause, variables_of}
+use Rattle.pg_proof.specs.State.{State, begun, is_empty, with_clause, variables_of}
 use Rattle.pg_proof.specs.Refutation.{fault_of}
 use Rattle.pg_proof.specs.Numbering.{AreValid}
 use Rattle.pg_proof.specs.Log.{after_act, after_acts_from, after_acts, IsClosedLog}
 use Rattle.pg_proof.proofs.GivenLemmas.{AreMapped, fault_of-mapped}
 use Rattle.pg_sat.specs.Solving.{clauses_of}
+use Rattle.pg_sat.proofs.ReadingLemmas.{second_of_two}
 use Rattle.pg_forget.specs.Held.{number_in, renumbered, AreNumbered}
 
 -- a valid step more
@@ -50,10 +51,6 @@ after-steps state (s ∷ ss) rest h =
     ap (λ (o : Option State). option_and_then (λ next. after_acts_from next (map Add ss ++ rest)) o) (taken state s h.0)
     ∙ after-steps (with_clause state s.lits) ss rest h.1
 
-second_true : (b c : Bool) → c ≡ true → IsTrue (b || c)
-second_true true c e = tt
-second_true false c e = subst IsTrue (sym e) tt
-
 -- the empty clause closes the log
 pub closed_by : (question : List (List ℤ)) (ss : List Step) (step : Step) → AreValid (variables_of question) (map Some question) (map Add ss) →
     fault_of (variables_of question) (map Some (question ++ clauses_of ss)) step ≡ None → step.lits ≡ [] → IsClosedLog question (map Add (ss ++ step ∷ []))
@@ -69,7 +66,7 @@ closed_by question ss step h e empty =
     ∙ after-steps (begun question) ss (Add step ∷ []) h
     ∙ ap (λ (o : Option State). option_and_then (λ next. after_acts_from next []) o) (taken last step valid) in
     subst (λ (o : Option State). IsSomeAnd o (λ next. IsTrue next.closed)) (sym whole)
-    (second_true last.closed (is_empty step.lits) (ap is_empty empty))
+    (second_of_two last.closed (is_empty step.lits) (ap is_empty empty))
 
 -- a step over the clauses that are held is one over the log
 all_mapped : (log clauses : List (List ℤ)) (numbers hs : List ℕ) → AreNumbered log clauses numbers →

@@ -72,8 +72,19 @@ impl Course {
 
     /// For each of the learned clauses, which stand behind so many others, whether it is kept; what it is worth is forgotten with it.
     /// The error is want of memory.
-    pub fn forget(&mut self, alloc: Global, watches: &Watches, first: usize) -> Result<Vec<bool>, AllocError> {
-        let kept = kept_of(alloc, watches, first, self.worths.as_slice(), self.pace.last())?;
+    pub fn forget(
+        &mut self,
+        alloc: Global,
+        watches: &Watches,
+        first: usize,
+    ) -> Result<Vec<bool>, AllocError> {
+        let kept = kept_of(
+            alloc,
+            watches,
+            first,
+            self.worths.as_slice(),
+            self.pace.last(),
+        )?;
         let mut worths = Vec::new(alloc);
         for (worth, kept) in self.worths.iter().zip(kept.as_slice()) {
             if *kept {

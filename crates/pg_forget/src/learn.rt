@@ -43,7 +43,14 @@ fn log_step(
 {
     // The trail is called for what the prover learns of it.
     let _trail = held.watches.trail();
-    let learned = learn_at(alloc, &held.watches, cnf.variables, conflict, last, &mut course.guide)?;
+    let learned = learn_at(
+        alloc,
+        &held.watches,
+        cnf.variables,
+        conflict,
+        last,
+        &mut course.guide,
+    )?;
     let anew = course.end_conflict(alloc, cnf, &held.watches, &learned.step)?;
     let jump = cut_place(alloc, &held.watches, cnf.variables, &learned, last, anew)?;
     let clause = clause_of(alloc, learned.step.lits.as_slice())?;

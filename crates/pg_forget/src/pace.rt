@@ -18,6 +18,7 @@ const MARGIN: u64 = 120;
 
 /// After how many conflicts the search forgets the second time, and how many are added each time.
 const STEP: u64 = 500;
+
 const MORE: u64 = 50;
 
 /// Conflicts, counted.
@@ -88,7 +89,8 @@ impl Pace {
         let anew = if self.conflicts <= CALM {
             self.is_luby()
         } else {
-            self.since >= LEAST && self.late > (self.sum / self.conflicts / 100).saturating_mul(MARGIN)
+            self.since >= LEAST
+                && self.late > (self.sum / self.conflicts / 100).saturating_mul(MARGIN)
         };
         if anew {
             self.since = 0;

@@ -3,8 +3,7 @@
 //! A step that was learned names the clauses that are held, by their numbers there. In the log it names them by the numbers that
 //! they have in the log.
 
-ghost use Rattle.std.specs.Prelude.{◌≡◌, ℕ, List, IfOk};
-ghost use Rattle.pg_proof.specs.declared.step.Step.{Step};
+ghost use Rattle.std.specs.Prelude.{◌≡◌, map, IfOk};
 ghost use Rattle.pg_forget.specs.Held.{number_in, renumbered};
 
 use pg_proof::{HintList, Step};
@@ -20,17 +19,24 @@ fn number_of(numbers: &[u32], held: u32) -> u32
     }
 }
 
+/// The numbers in the log of clauses that are held. The error is want of memory.
+fn named(alloc: Global, hints: &[u32], numbers: &[u32]) -> Result<HintList, AllocError>
+    ensures { IfOk result (λ named. named ≡ map (number_in numbers.now) hints.now) }
+{
+    let mut named = Vec::new(alloc);
+    for hint in hints {
+        named.push(number_of(numbers, *hint))?;
+    }
+    Ok(HintList::from_vec(named))
+}
+
 /// A step under the numbers of the log. The error is want of memory.
 pub fn renumbered(alloc: Global, step: Step, numbers: &[u32]) -> Result<Step, AllocError>
     ensures { IfOk result (λ made. made ≡ renumbered numbers.now step) }
 {
-    let Step { lits, hints } = step;
-    let mut named = Vec::new(alloc);
-    for hint in hints.as_slice() {
-        named.push(number_of(numbers, *hint))?;
-    }
+    let hints = named(alloc, step.hints.as_slice(), numbers)?;
     Ok(Step {
-        lits,
-        hints: HintList::from_vec(named),
+        lits: step.lits,
+        hints,
     })
 }

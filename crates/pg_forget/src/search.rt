@@ -94,6 +94,9 @@ fn found_of(ended: Ended, steps: Vec<Step>) -> Found
 fn counts_of(held: &Held, course: &Course, steps: usize) -> Counts {
     Counts {
         conflicts: steps as u64,
-        set: course.guide.freed().saturating_add(held.watches.trail().len() as u64),
+        set: course
+            .guide
+            .freed()
+            .saturating_add(held.watches.trail().len() as u64),
     }
 }

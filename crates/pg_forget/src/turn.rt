@@ -93,7 +93,13 @@ fn close(
     requires propagated { AreDerived held.now.watches.trail.reasons }
     ensures { OnOk result (IsRefuted cnf.now.clauses (length steps.old.items) steps.new.items) }
 {
-    let found = refute(alloc, &held.watches, cnf.variables, conflict, &mut course.guide)?;
+    let found = refute(
+        alloc,
+        &held.watches,
+        cnf.variables,
+        conflict,
+        &mut course.guide,
+    )?;
     let step = renumbered(alloc, found, held.numbers.as_slice())?;
     steps.push(step)?;
     Ok(())

@@ -1,4 +1,4 @@
-use Rattle.std.proofs.Common.{◌≡◌, ◌∙◌, ◌+◌, ◌-◌, ◌<◌, ℕ, ℤ, List, [], Some, arith, length, sym, ap, subst, get_or}
+use Rattle.std.proofs.Common.{◌≡◌, ◌∙◌, ◌+◌, ◌-◌, ◌<◌, ℕ, [], Some, arith, length, sym, ap, subst, get_or}
 use Rattle.std.proofs.lemmas.Option.{slice_get-get_or, get_or_from_slice_get}
 use Rattle.pg_cnf.specs.Literals.{IsClause}
 use Rattle.pg_cnf.proofs.LiteralLemmas.{IsClause-more}
@@ -37,7 +37,7 @@ returns-clause-made c =
     c.in_ok-clause.ensures ∙ c.clause.ensures ∙ ap (λ (k : ℕ). get_or held.watches.clauses k []) at in
     let lt : c.args.place < length held.numbers.items = omega (arith, c.requires.place, c.requires.held.as_many) in
     let there : number ≡ get_or held.numbers.items c.args.place 0 =
-    sym (get_or_from_slice_get held.numbers.items c.args.place 0 number
+    sym (get_or_from_slice_get held.numbers.items c.args.place number 0
     (slice_get-get_or held.numbers.items c.args.place number lt ∙ ap Some (sym c.index-number.ensures))) in
     carried cnf.clauses cnf.variables c.args.steps.now held.watches.clauses made.watches.clauses c.add.new.self.clauses
     held.numbers.items made.numbers.items c.push.new.self.items c.in_ok-clause.clause number c.args.place
