@@ -28,7 +28,7 @@ absent-above n a z (y ∷ ys) h le =
     let more : a < nat_abs y = less a (nat_abs y) p.0 in
     ((λ e. (let same : nat_abs z ≡ nat_abs y = ap nat_abs e in omega arith)), absent-above n (nat_abs y) z ys q.1 (omega arith))
 
-distinct-ascending : (n a : ℕ) (zs : List ℤ) → are_ascending n a zs ≡ true → AreDistinct zs
+pub distinct-ascending : (n a : ℕ) (zs : List ℤ) → are_ascending n a zs ≡ true → AreDistinct zs
 distinct-ascending n a [] h = tt
 distinct-ascending n a (y ∷ ys) h =
     let p = both (ltb a (nat_abs y)) (leb (nat_abs y) n && are_ascending n (nat_abs y) ys) h in
@@ -39,19 +39,19 @@ true_if : (b : Bool) (o : Option ProofFault) → cond b o (Some UnknownLit) ≡ 
 true_if true o e = refl
 true_if false o e = cc
 
-ascending_of : (n : ℕ) (held : List (Option (List ℤ))) (step : Step) → fault_of n held step ≡ None → are_ascending n 0 step.lits ≡ true
+pub ascending_of : (n : ℕ) (held : List (Option (List ℤ))) (step : Step) → fault_of n held step ≡ None → are_ascending n 0 step.lits ≡ true
 unfolding fault_of
 ascending_of n held step e = true_if (are_ascending n 0 step.lits) (walk held (negations step.lits) step.hints) e
 
-literals_of : (n m : ℕ) (zs : List ℤ) → n ≤ m → AreWithin (2 * n + 2) zs → AreLiterals m zs
+pub literals_of : (n m : ℕ) (zs : List ℤ) → n ≤ m → AreWithin (2 * n + 2) zs → AreLiterals m zs
 literals_of n m [] le w = tt
 literals_of n m (z ∷ zs) le w = ((w.0.nonzero, omega (arith, w.0.within)), literals_of n m zs le w.1)
 
-within-more : (n m : ℕ) (zs : List ℤ) → n ≤ m → AreWithin (2 * n + 2) zs → AreWithin (2 * m + 2) zs
+pub within-more : (n m : ℕ) (zs : List ℤ) → n ≤ m → AreWithin (2 * n + 2) zs → AreWithin (2 * m + 2) zs
 within-more n m [] le w = tt
 within-more n m (z ∷ zs) le w = (record { nonzero = w.0.nonzero; within = omega (arith, w.0.within) }, within-more n m zs le w.1)
 
-clauses-push : (n : ℕ) (cs : List (List ℤ)) (c : List ℤ) → AreClauses n cs → IsClause n c → AreClauses n (cs ++ c ∷ [])
+pub clauses-push : (n : ℕ) (cs : List (List ℤ)) (c : List ℤ) → AreClauses n cs → IsClause n c → AreClauses n (cs ++ c ∷ [])
 clauses-push n [] c h k = (k, tt)
 clauses-push n (d ∷ cs) c h k = (h.0, clauses-push n cs c h.1 k)
 

@@ -16,16 +16,16 @@ use Rattle.pg_sat.proofs.ReadingLemmas.{second_of_two}
 use Rattle.pg_sat.specs.Solving.{clauses_of, AreNew, IsLog}
 
 -- the state after steps
-logged : State → List Step → State
+pub logged : State → List Step → State
 logged state [] = state
 logged state (s ∷ ss) = logged (with_clause state s.lits) ss
 
-logged-variables : (state : State) (ss : List Step) → (logged state ss).variables ≡ state.variables
+pub logged-variables : (state : State) (ss : List Step) → (logged state ss).variables ≡ state.variables
 unfolding logged
 logged-variables state [] = refl
 logged-variables state (s ∷ ss) = logged-variables (with_clause state s.lits) ss
 
-logged-held : (state : State) (ss : List Step) → (logged state ss).held ≡ state.held ++ map Some (clauses_of ss)
+pub logged-held : (state : State) (ss : List Step) → (logged state ss).held ≡ state.held ++ map Some (clauses_of ss)
 unfolding logged
 logged-held state [] = sym (append-nil state.held)
 logged-held state (s ∷ ss) = logged-held (with_clause state s.lits) ss ∙ append_assoc state.held (Some s.lits ∷ []) (map Some (clauses_of ss))
@@ -36,7 +36,7 @@ unfolding logged
 spent-more state [] step h w = (w, tt)
 spent-more state (s ∷ ss) step h w = (h.0, spent-more (with_clause state s.lits) ss step h.1 w)
 
-accepted : (state : State) (s : Step) → fault_of state.variables state.held s ≡ None → after_act state (Add s) ≡ Some (with_clause state s.lits)
+pub accepted : (state : State) (s : Step) → fault_of state.variables state.held s ≡ None → after_act state (Add s) ≡ Some (with_clause state s.lits)
 accepted state s e = ap (λ (o : Option _). cond (is_none o) (Some (with_clause state s.lits)) None) e
 
 after-steps : (state : State) (ss : List Step) (rest : List Act) → IsSpentFrom state (length ss) (map Add ss) →

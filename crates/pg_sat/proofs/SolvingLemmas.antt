@@ -86,7 +86,7 @@ greatest-in : (n : ℕ) (c : List ℤ) → AreLiterals n c → variables_of_clau
 greatest-in n [] h = omega arith
 greatest-in n (z ∷ zs) h = omega (arith, h.0.1, greatest-in n zs h.1)
 
-greatest-variable : (n : ℕ) (cs : List (List ℤ)) → AreClauses n cs → variables_of cs ≤ n
+pub greatest-variable : (n : ℕ) (cs : List (List ℤ)) → AreClauses n cs → variables_of cs ≤ n
 greatest-variable n [] h = omega arith
 greatest-variable n (c ∷ cs) h = omega (arith, greatest-in n c h.0.within, greatest-variable n cs h.1)
 

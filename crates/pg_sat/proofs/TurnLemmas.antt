@@ -67,7 +67,7 @@ learned_on question variables budget old new ss tt fix h end still e lt =
     }
 
 -- there are few clauses
-count-clauses : (ss : List Step) → length (clauses_of ss) ≡ length ss
+pub count-clauses : (ss : List Step) → length (clauses_of ss) ≡ length ss
 count-clauses [] = refl
 count-clauses (s ∷ ss) = ap suc (count-clauses ss)
 
@@ -77,7 +77,7 @@ room_left question variables budget state ss h few lt small =
     omega (arith, ap length h.same, length-append question (clauses_of ss), count-clauses ss, few, lt, small)
 
 -- the answers
-front-true : (assignment : List Bool) (cs ds : List (List ℤ)) → clauses_true assignment (cs ++ ds) ≡ true → clauses_true assignment cs ≡ true
+pub front-true : (assignment : List Bool) (cs ds : List (List ℤ)) → clauses_true assignment (cs ++ ds) ≡ true → clauses_true assignment cs ≡ true
 front-true assignment [] ds h = refl
 front-true assignment (c ∷ cs) ds h =
     let p = both (clause_true assignment c) (clauses_true assignment (cs ++ ds)) h in
@@ -101,7 +101,6 @@ refuted_by question variables state ss step h all empty =
       last = step;
       whole = refl;
       empty = empty;
-      log = h.log;
       few = omega arith;
       closed = log_closed question ss state.clauses h.same h.log step known.valid empty;
     }
@@ -112,7 +111,6 @@ refuted_within question few budget ss h le = record {
   last = h.last;
   whole = h.whole;
   empty = h.empty;
-  log = h.log;
   few = omega (arith, h.few, le);
   closed = h.closed;
 }

@@ -17,13 +17,12 @@ pub record IsModel (question : List (List ℤ)) (variables : ℕ) (assignment : 
   pub long : length assignment ≡ variables
   pub holds : clauses_true assignment question ≡ true
 
--- a closed log, whose last step is the empty clause, after at most so many steps, each worth its place
+-- a closed log, whose last step is the empty clause, after at most so many steps
 pub record IsRefuted (question : List (List ℤ)) (budget : ℕ) (steps : List Step) : Type 0 where
   pub before : List Step
   pub last : Step
   pub whole : steps ≡ before ++ last ∷ []
   pub empty : last.lits ≡ []
-  pub log : IsLog question before
   pub few : length before ≤ budget
   pub closed : IsClosedLog question (map Add steps)
 

@@ -18,7 +18,7 @@ use smallvec::SmallVec;
 use std::alloc::{AllocError, Global};
 
 /// The clause of some literals. The error is want of memory.
-fn clause_of(alloc: Global, lits: &[i32]) -> Result<Clause, AllocError>
+pub fn clause_of(alloc: Global, lits: &[i32]) -> Result<Clause, AllocError>
     requires { IsClause 2147483647 lits.now }
     ensures { IfOk result (λ clause. clause ≡ lits.now) }
 {

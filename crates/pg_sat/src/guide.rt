@@ -50,9 +50,9 @@ impl Guide {
         self.heap.raise(literal.unsigned_abs());
     }
 
-    /// A conflict of the search for an assignment of a formula was traced: says whether the search is to begin anew, which it
-    /// is while there is a plan. The error is want of memory.
-    pub fn end_conflict(&mut self, alloc: Global, cnf: &Cnf) -> Result<bool, AllocError> {
+    /// A conflict of the search for an assignment of a formula was traced: says whether a plan wants the search to begin anew, as
+    /// one that is not done does. The error is want of memory.
+    pub fn end_trace(&mut self, alloc: Global, cnf: &Cnf) -> Result<bool, AllocError> {
         self.heap.age();
         self.conflicts = self.conflicts.saturating_add(1);
         if self.conflicts == PLANNED {
@@ -60,9 +60,16 @@ impl Guide {
         }
         if let Some(plan) = &mut self.plan {
             plan.begin_anew();
-            if !plan.is_done() {
-                return Ok(true);
-            }
+            return Ok(!plan.is_done());
+        }
+        Ok(false)
+    }
+
+    /// The same, and it counts the conflict: says whether the search is to begin anew, which it is while there is a plan, and
+    /// else after the numbers of conflicts that `pace` has. The error is want of memory.
+    pub fn end_conflict(&mut self, alloc: Global, cnf: &Cnf) -> Result<bool, AllocError> {
+        if self.end_trace(alloc, cnf)? {
+            return Ok(true);
         }
         Ok(self.pace.count())
     }

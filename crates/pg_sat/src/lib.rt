@@ -42,4 +42,9 @@ mod trace;
 mod turn;
 
 pub use answer::{Answer, Assignment, StepList};
+pub use conflict::clause_of;
+pub use decide::{assignment_of, choose};
+pub use guide::Guide;
+pub use jump::{cut_place, last_assigned};
+pub use learn::{Learned, learn_at, refute};
 pub use solver::{Counts, solve, solve_counted};

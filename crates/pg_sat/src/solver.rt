@@ -35,8 +35,8 @@ pub enum Ended {
 /// Looks for an assignment that makes all clauses of a formula true, and learns at most `budget` clauses, fewer than 2^31.
 ///
 /// `Sat` has such an assignment, with a place for each variable. `Unsat` has steps that end with the empty clause: the log is
-/// closed, and before its last step there are at most `budget`, each worth its place and new to unit propagation. `Spent` has
-/// `budget` such steps. The error is want of memory.
+/// closed, and before its last step there are at most `budget`. `Spent` has `budget` steps, each worth its place and new to unit
+/// propagation. The error is want of memory.
 ///
 /// Each conflict costs the trail that it is traced along, the reasons that it is traced over and the number of variables, and
 /// each decision the logarithm of that number, beside what propagation costs.

@@ -1,0 +1,4 @@
+pub mod LogLemmas
+pub mod HeldLemmas
+pub mod ForgettingLemmas
+pub mod TurnLemmas

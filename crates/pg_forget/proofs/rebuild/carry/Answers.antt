@@ -1,0 +1,44 @@
+use Rattle.std.proofs.Common.{◌≡◌, ◌∙◌, ◌+◌, ◌-◌, ◌<◌, ℕ, [], Some, arith, length, sym, ap, subst, get_or}
+use Rattle.std.proofs.lemmas.Option.{slice_get-get_or, get_or_from_slice_get}
+use Rattle.pg_cnf.specs.Literals.{IsClause}
+use Rattle.pg_cnf.proofs.LiteralLemmas.{IsClause-more}
+use Rattle.pg_forget.proofs.HeldLemmas.{held_clause, carried}
+use Rattle.pg_forget.proofs.rebuild.carry.Goals as goal
+
+pub clause_of-requires : goal.clause_of-requires
+clause_of-requires c =
+    let held = c.args.held.now in
+    let cnf = c.args.cnf.now in
+    let few = cnf.few_variables in
+    let at : c.args.place + 1 - 1 ≡ c.args.place = omega arith in
+    subst (IsClause 2147483647) (sym (c.clause.ensures ∙ ap (λ (k : ℕ). get_or held.watches.clauses k []) at))
+    (IsClause-more cnf.variables 2147483647 (get_or held.watches.clauses c.args.place []) (omega (arith, few))
+    (held_clause cnf.clauses cnf.variables c.args.steps.now held.watches.clauses held.numbers.items c.args.place c.requires.held c.requires.place))
+
+pub add-requires-clause-clause : goal.add-requires-clause-clause
+add-requires-clause-clause c =
+    let held = c.args.held.now in
+    let cnf = c.args.cnf.now in
+    let at : c.args.place + 1 - 1 ≡ c.args.place = omega arith in
+    let same : c.in_ok-clause.clause ≡ get_or held.watches.clauses c.args.place [] =
+    c.in_ok-clause.ensures ∙ c.clause.ensures ∙ ap (λ (k : ℕ). get_or held.watches.clauses k []) at in
+    subst (λ (n : ℕ). IsClause n c.in_ok-clause.clause) (sym c.requires.variables)
+    (subst (IsClause cnf.variables) (sym same)
+    (held_clause cnf.clauses cnf.variables c.args.steps.now held.watches.clauses held.numbers.items c.args.place c.requires.held c.requires.place))
+
+pub returns-clause-made : goal.returns-clause-made
+returns-clause-made c =
+    let held = c.args.held.now in
+    let made = c.args.made.now in
+    let cnf = c.args.cnf.now in
+    let at : c.args.place + 1 - 1 ≡ c.args.place = omega arith in
+    let number = c.index-number.result.now in
+    let same : c.in_ok-clause.clause ≡ get_or held.watches.clauses c.args.place [] =
+    c.in_ok-clause.ensures ∙ c.clause.ensures ∙ ap (λ (k : ℕ). get_or held.watches.clauses k []) at in
+    let lt : c.args.place < length held.numbers.items = omega (arith, c.requires.place, c.requires.held.as_many) in
+    let there : number ≡ get_or held.numbers.items c.args.place 0 =
+    sym (get_or_from_slice_get held.numbers.items c.args.place number 0
+    (slice_get-get_or held.numbers.items c.args.place number lt ∙ ap Some (sym c.index-number.ensures))) in
+    carried cnf.clauses cnf.variables c.args.steps.now held.watches.clauses made.watches.clauses c.add.new.self.clauses
+    held.numbers.items made.numbers.items c.push.new.self.items c.in_ok-clause.clause number c.args.place
+    c.requires.held c.requires.made c.requires.place c.requires.room same there c.in_ok-add.ensures.clauses c.in_ok-push.ensures.items

@@ -1,0 +1,4 @@
+pub mod Held
+pub mod Lesson
+pub mod Findings
+pub mod Turns

@@ -1,0 +1,59 @@
+//! The solver: a search that forgets, and where that is open one that keeps all.
+
+ghost use Rattle.std.specs.Prelude.{◌<◌, ◌^◌, IfOk};
+ghost use Rattle.pg_sat.specs.Answers.{IsAnswer};
+
+use crate::found::Found;
+use crate::search::find_counted;
+use pg_cnf::Cnf;
+use pg_sat::{Answer, Counts};
+use std::alloc::{AllocError, Global};
+
+/// The same answers as `pg_sat::solve`, with the same evidence: an assignment, a closed log of at most `budget` steps before its
+/// last, or `budget` steps each worth its place and new. It searches with few clauses first, and only where that spends the budget
+/// with all of them, so it takes the time of both at most. The error is want of memory.
+pub fn solve(alloc: Global, cnf: &Cnf, budget: u32) -> Result<Answer, AllocError>
+    requires { budget < 2 ^ 31 }
+    ensures { IfOk result (IsAnswer cnf.now.clauses cnf.now.variables budget) }
+{
+    match solve_counted(alloc, cnf, budget) {
+        Ok((answer, _)) => Ok(answer),
+        Err(error) => Err(error),
+    }
+}
+
+/// The same as `solve`, and what the searches took. The counts are for measurements: nothing is said of them, and nothing rests on
+/// them.
+pub fn solve_counted(alloc: Global, cnf: &Cnf, budget: u32) -> Result<(Answer, Counts), AllocError>
+    requires { budget < 2 ^ 31 }
+    ensures { IfOk result (λ told. IsAnswer cnf.now.clauses cnf.now.variables budget told.0) }
+{
+    let (found, counts) = find_counted(alloc, cnf, budget)?;
+    match found {
+        Found::Model(assignment) => Ok((Answer::Sat(assignment), counts)),
+        Found::Refuted(steps) => Ok((Answer::Unsat(steps), counts)),
+        Found::Open(_) => solve_all(alloc, cnf, budget, counts),
+    }
+}
+
+/// What `pg_sat` answers, with what was taken before. The error is want of memory.
+fn solve_all(
+    alloc: Global,
+    cnf: &Cnf,
+    budget: u32,
+    before: Counts,
+) -> Result<(Answer, Counts), AllocError>
+    requires { budget < 2 ^ 31 }
+    ensures { IfOk result (λ told. IsAnswer cnf.now.clauses cnf.now.variables budget told.0) }
+{
+    match pg_sat::solve_counted(alloc, cnf, budget) {
+        Ok((answer, counts)) => {
+            let both = Counts {
+                conflicts: counts.conflicts.saturating_add(before.conflicts),
+                set: counts.set.saturating_add(before.set),
+            };
+            Ok((answer, both))
+        }
+        Err(error) => Err(error),
+    }
+}
