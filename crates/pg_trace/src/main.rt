@@ -1,6 +1,6 @@
 //! Runs an image on a bare machine, and shows each step.
 //!
-//!     pg_trace DESC IMAGE --grant G --steps N [--only-traps] [--counts]
+//!     pg_trace DESC IMAGE --grant G --steps N [--cert CERT] [--only-traps] [--counts]
 //!
 //! A line for each step: its number, the mode and P before it, the word that was fetched, the instruction with its fields, and
 //! what it changed. That is each cell that it stored into, with its new word; P where it is not the address behind; mode and R
@@ -23,6 +23,7 @@
 #![tactic(auto)]
 
 mod carry;
+mod certificate;
 mod plan;
 mod prepare;
 mod request;
@@ -63,7 +64,7 @@ fn main(rt: HostRuntime) -> ExitCode {
 fn put_usage<S: Sink>(out: &mut S) -> Status {
     match put_text(
         out,
-        b"usage: pg_trace DESC IMAGE --grant G --steps N [--only-traps] [--counts]\n",
+        b"usage: pg_trace DESC IMAGE --grant G --steps N [--cert CERT] [--only-traps] [--counts]\n",
     ) {
         Ok(()) => Status::Words,
         Err(_) => Status::WriteFault,
