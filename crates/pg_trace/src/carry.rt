@@ -1,7 +1,10 @@
 //! The run, and its text.
 
-ghost use Rattle.std.specs.Prelude.{◌≡◌, ◌+◌, ◌++◌, ◌≤◌, OnOk, length};
+ghost use Rattle.std.specs.Prelude.{◌≡◌, ◌+◌, ◌*◌, ◌++◌, ◌≤◌, All, OnOk, length};
 ghost use Rattle.pg_alloc.specs.Fit.{kept_cells};
+ghost use Rattle.pg_cert.specs.Verdicts.{kind_count};
+ghost use Rattle.pg_judged.specs.Views.{judged};
+ghost use Rattle.pg_report.specs.Verdicts.{DoMarkWordsFit};
 ghost use Rattle.pg_edge.specs.Told.{BothTold};
 ghost use Rattle.pg_edge.specs.Sink.{Adds};
 ghost use Rattle.pg_steps.specs.Able.{IsAble};
@@ -15,6 +18,7 @@ use crate::plan::Plan;
 use crate::prepare::prepare;
 use crate::request::TraceWords;
 use pg_asked::FileName;
+use pg_cert::Report;
 use pg_control::KEPT_CELLS;
 use pg_edge::{Shelf, Sink};
 use pg_hw::Hardware;
@@ -93,11 +97,19 @@ fn carry_judged<F: Shelf, S: Sink, H: Hardware>(
         Err(stop) => return stopped(&stop, out, &mut Unwatched),
     };
     if !is_accepted(report.verdict()) {
-        let machine = plan.machine;
-        return tell_verdict(out, &JudgedMachine { machine, report });
+        return tell_verdict(out, &judged(plan.machine, report));
     }
     let telling = told_of(shows, Some(monitor_of(report.family)));
     ended(put_run(alloc, &plan, hw, out, telling))
+}
+
+/// A machine, and what is kept of a certificate of it.
+fn judged(machine: Machine, report: Report) -> JudgedMachine
+    requires whole { length report.marks ≡ length machine.desc.instrs * kind_count report.family }
+    requires fit { All (DoMarkWordsFit machine.desc.word) report.marks }
+    ensures { judged result ≡ record { desc = machine.desc; report = report } }
+{
+    JudgedMachine { machine, report }
 }
 
 /// How the program ends, by how the text was put.

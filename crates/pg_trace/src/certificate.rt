@@ -1,11 +1,12 @@
 //! The certificate of a machine, of either family.
 
-ghost use Rattle.std.specs.Prelude.{◌≡◌, ◌×◌, IfOk};
-ghost use Rattle.pg_cert.specs.Verdicts.{verdict_of};
+ghost use Rattle.std.specs.Prelude.{◌≡◌, ◌*◌, All, IfOk, length};
+ghost use Rattle.pg_cert.specs.Verdicts.{kind_count, verdict_of};
 ghost use Rattle.pg_cert.specs.declared.cert.Family.{Family};
 ghost use Rattle.pg_cert.specs.declared.report.Verdict.TheVariants.{Accepted};
 ghost use Rattle.pg_judged.specs.Certificates.{CertDue};
 ghost use Rattle.pg_judged.specs.Meaning.{IsAcceptedBy};
+ghost use Rattle.pg_report.specs.Verdicts.{DoMarkWordsFit};
 ghost use Rattle.pg_steps.specs.Answering.{Comes, OnlyReads};
 ghost use Rattle.pg_steps.specs.Steps.{Came};
 ghost use Rattle.pg_trace.specs.Judging.{monitor_of};
@@ -33,6 +34,8 @@ pub fn load_either<F: Shelf>(
         (F.reads shelf.old) (F.reads shelf.new) result }
     ensures came { IfOk result (λ report. CertDue machine.now.desc report.family (F.files shelf.old) name.now (Came report)) }
     ensures accepts { IfOk result (λ report. verdict_of report.family report.marks ≡ Accepted → IsAcceptedBy report.family machine.now.desc) }
+    ensures whole { IfOk result (λ report. length report.marks ≡ length machine.now.desc.instrs * kind_count report.family) }
+    ensures fit { IfOk result (λ report. All (DoMarkWordsFit machine.now.desc.word) report.marks) }
     ensures reads { OnlyReads F.Shelf shelf.old shelf.new }
 {
     match family_of(alloc, name, shelf) {
