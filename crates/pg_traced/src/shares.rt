@@ -1,10 +1,9 @@
 //! Counts of steps by how a monitor would handle them.
 
-ghost use Rattle.std.specs.Prelude.{◌≡◌, ◌+◌, ◌++◌, ◌^◌, ◌<◌, OnOk};
+ghost use Rattle.std.specs.Prelude.{◌≡◌, ◌+◌, ◌++◌, ◌^◌, ◌<◌, OnOk, Option};
 ghost use Rattle.pg_ast.specs.declared.tree.Desc.{Desc};
-ghost use Rattle.pg_hw.specs.Bursts.{one_if};
 ghost use Rattle.pg_meaning.specs.States.{State};
-ghost use Rattle.pg_traced.specs.Handling.{AreShares, SharesCounted, is_direct_told, is_emulated_told};
+ghost use Rattle.pg_traced.specs.Handling.{AreNoShares, AreShares, SharesCounted};
 ghost use Rattle.pg_traced.specs.Lines.{shares_text};
 ghost use Rattle.pg_traced.specs.declared.handling.Monitor.{Monitor};
 
@@ -24,7 +23,8 @@ pub struct Shares {
 impl Shares {
     /// Those of no steps.
     pub fn new() -> Shares
-        ensures { (monitor : Option Monitor) (d : Desc) (s : State) → AreShares monitor d 0 s result }
+        ensures none { AreNoShares result }
+        ensures shares { (monitor : Option Monitor) (d : Desc) (s : State) → AreShares monitor d 0 s result }
     {
         Shares {
             direct: 0,

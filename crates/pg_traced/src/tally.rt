@@ -1,6 +1,6 @@
 //! Counts of steps: by instruction, and by why they trapped.
 
-ghost use Rattle.std.specs.Prelude.{◌≡◌, ℕ, ◌+◌, ◌^◌, ◌<◌, length, slice_index, IfOk, IfSome};
+ghost use Rattle.std.specs.Prelude.{◌≡◌, ℕ, ◌+◌, ◌^◌, ◌<◌, length, slice_index, IfOk, IfSome, Option};
 ghost use Rattle.std.specs.List.{sum_by};
 ghost use Rattle.pg_hw.specs.Bursts.{one_if};
 ghost use Rattle.pg_meaning.specs.States.{State};

@@ -8,8 +8,8 @@ pub step_in-ended-requires-clause-fields : goal.step_in-ended-requires-clause-fi
 step_in-ended-requires-clause-fields g c =
     let d = c.args.m.now.desc in
     let s = (g.H.Hardware.machinery c.args.hw.now).state in
-    let within : 0 + length s.cells ≤ d.size = omega (arith, c.requires.size_most) in
-    subst (IsPsw d.address) (sym c.guest_psw-psw.ensures) (composed-fits d s.psw 0 (length s.cells) c.args.m.now.valid within c.requires.fields)
+    let within : 0 + length s.cells ≤ d.size = omega (arith, c.requires.state.size_most) in
+    subst (IsPsw d.address) (sym c.guest_psw-psw.ensures) (composed-fits d s.psw 0 (length s.cells) c.args.m.now.valid within c.requires.state.fields)
 
 pub returns : goal.returns
 returns g c =
