@@ -93,7 +93,7 @@ _pgv_side() {
   # Its files, its options, how many files stand before an option at least, and whether none stands behind one.
   case ${1##*/} in
     pg_explain) files=".isa .cert instr kind" options="--budget --mend" least=2 ;;
-    pg_trace) files=".isa .img" options="--grant --steps --only-traps --counts" order=no ;;
+    pg_trace) files=".isa .img" options="--grant --steps --cert --only-traps --counts" order=no ;;
     pg_dimacs) files=".isa instr kind" ;;
     pg_solve) files=".cnf -" options="--check" least=1 ;;
     *) return ;;
@@ -116,6 +116,7 @@ _pgv_side() {
   done
   case $value in
     --mend) _pgv_files "$word" .isa; return ;;
+    --cert) _pgv_files "$word" .cert; return ;;
     --*) return ;;
   esac
 

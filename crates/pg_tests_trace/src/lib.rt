@@ -4,4 +4,6 @@
 #![tactic(auto)]
 
 #[cfg(test)]
+mod monitors;
+#[cfg(test)]
 mod runs;

@@ -1,2 +1,4 @@
 pub mod Undone
 pub mod Texts
+pub mod RunLemmas
+pub mod CertLemmas

@@ -1,2 +1,3 @@
 pub mod Plans
+pub mod Judging
 pub mod Done

@@ -1,6 +1,6 @@
 //! Runs an image on a bare machine, and shows each step.
 //!
-//!     pg_trace DESC IMAGE --grant G --steps N [--only-traps] [--counts]
+//!     pg_trace DESC IMAGE --grant G --steps N [--cert CERT] [--only-traps] [--counts]
 //!
 //! A line for each step: its number, the mode and P before it, the word that was fetched, the instruction with its fields, and
 //! what it changed. That is each cell that it stored into, with its new word; P where it is not the address behind; mode and R
@@ -11,18 +11,24 @@
 //! state, as `pgv bare` writes it.
 //!
 //! - `--grant G`: how many cells the machine is given, 2 to 1,048,575. `--steps N`: how many steps are done, 0 to 1,000,000.
+//! - `--cert CERT`: a certificate of the machine, of either family. A line begins with `direct` or `emulated`: whether the hardware
+//!   would do the step, or the monitor that may run the machine. Behind the counts stand `direct N` and `emulated N`.
 //! - `--only-traps`: only the steps that trap have a line.
 //! - `--counts`: no step has a line, and there is no state: the counts are all that is written.
 //!
 //! Refusals have the lines and statuses of `pgv`, in the order of `pgv bare`: the words (3), the description (4), the room (7),
-//! the image (5); 8 where a file cannot be read, 9 where the output cannot be written, 10 where memory is refused, and 11 where a
-//! file is not there. What was put before a fault stays. Where the status is 0 the state is the one that `pgv bare` reaches
-//! (`carry`). Nothing that `pgv` does stands on this program.
+//! the image (5). With `--cert` they are those of `pgv run`: the room is beside the cells that a monitor keeps, and behind the
+//! image come the certificate (6) and a verdict that does not accept the machine, which is written (1, 2). The status is 8 where
+//! a file cannot be read, 9 where the output cannot be written, 10 where memory is refused, and 11 where a file is not there.
+//! What was put before a fault stays. Where the status is 0 the state is the one that `pgv bare` reaches (`carry`). Nothing that
+//! `pgv` does stands on this program.
 //!
-//! - `request`: the words. `prepare`: the files, to a `plan`. `carry`: the run and its text.
+//! - `request`: the words. `prepare`: the files, to a `plan`. `certificate`: a certificate of either family. `carry`: the run and
+//!   its text.
 #![tactic(auto)]
 
 mod carry;
+mod certificate;
 mod plan;
 mod prepare;
 mod request;
@@ -63,7 +69,7 @@ fn main(rt: HostRuntime) -> ExitCode {
 fn put_usage<S: Sink>(out: &mut S) -> Status {
     match put_text(
         out,
-        b"usage: pg_trace DESC IMAGE --grant G --steps N [--only-traps] [--counts]\n",
+        b"usage: pg_trace DESC IMAGE --grant G --steps N [--cert CERT] [--only-traps] [--counts]\n",
     ) {
         Ok(()) => Status::Words,
         Err(_) => Status::WriteFault,

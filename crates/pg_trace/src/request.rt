@@ -13,6 +13,8 @@ pub struct TraceWords {
     pub bare: BareWords,
     /// Which steps have a line.
     pub shows: Shows,
+    /// The name of the file with the certificate of the machine, where the words name one.
+    pub cert: Option<FileName>,
 }
 
 /// What words have said so far.
@@ -22,6 +24,7 @@ struct Draft<'a> {
     image: Option<&'a str>,
     grant: Option<Grant>,
     steps: Option<Steps>,
+    cert: Option<&'a str>,
     only_traps: bool,
     counts: bool,
 }
@@ -50,6 +53,10 @@ fn whole(alloc: Global, draft: Draft<'_>) -> Result<Option<TraceWords>, AllocErr
                 steps,
             },
             shows,
+            cert: match draft.cert {
+                Some(cert) => Some(file_name(alloc, cert)?),
+                None => None,
+            },
         })),
         _ => Ok(None),
     }
@@ -70,6 +77,7 @@ fn draft_of(words: &[String]) -> Option<Draft<'_>> {
         image: None,
         grant: None,
         steps: None,
+        cert: None,
         only_traps: false,
         counts: false,
     };
@@ -98,6 +106,13 @@ impl<'a> Draft<'a> {
                     return None;
                 };
                 self.steps = Some(steps_of(number.as_str())?);
+                Some(behind)
+            }
+            "--cert" if self.cert.is_none() => {
+                let [name, behind @ ..] = behind else {
+                    return None;
+                };
+                self.cert = Some(name.as_str());
                 Some(behind)
             }
             "--only-traps" if !self.only_traps => {

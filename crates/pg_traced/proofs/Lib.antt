@@ -1,3 +1,5 @@
 pub mod StepLemmas
+pub mod HandlingLemmas
+pub mod AnywhereLemmas
 pub mod TallyLemmas
 pub mod TraceLemmas

@@ -12,28 +12,30 @@ use Rattle.pg_hw.specs.Machinery.{Machinery}
 use Rattle.pg_hw.specs.Running.{Ran}
 use Rattle.pg_hw.specs.Serving.{blank}
 use Rattle.pg_interp.specs.declared.effect.Write.{Write}
+use Rattle.pg_traced.specs.Handling.{handling_under}
 use Rattle.pg_traced.specs.Tells.{Tells}
 use Rattle.pg_traced.specs.Traces.{IsTrace, PutsTrace, shown_step}
-use Rattle.pg_traced.specs.declared.shows.Shows.{Shows}
+use Rattle.pg_traced.specs.declared.shows.Telling.{Telling}
 use Rattle.pg_traced.specs.declared.stepped.Stepped.{Stepped}
 
-pub traced-none : (shows : Shows) (d : Desc) (s : State) (was : Option (List ℕ)) → PutsTrace shows d 0 s was was
+pub traced-none : (t : Telling) (d : Desc) (s : State) (was : Option (List ℕ)) → PutsTrace t d 0 s was was
 unfolding IsTrace
-traced-none shows d s was = record { lines = []; trace = refl; written = Adds-nil was }
+traced-none t d s was = record { lines = []; trace = refl; written = Adds-nil was }
 
-trace-next : (shows : Shows) (d : Desc) (n : ℕ) (s : State) (before : List ℕ) (stores : List Write) (r : Stepped) → IsTrace shows d n s before → Tells d (steps d n s) stores r →
-    IsTrace shows d (suc n) s (before ++ shown_step shows d (suc n) stores r)
+trace-next : (t : Telling) (d : Desc) (n : ℕ) (s : State) (before : List ℕ) (stores : List Write) (r : Stepped) → IsTrace t d n s before → Tells d (steps d n s) stores r →
+    r.handling ≡ handling_under t.monitor d (steps d n s) → IsTrace t d (suc n) s (before ++ shown_step t.shows d (suc n) stores r)
 unfolding IsTrace
-trace-next shows d n s before stores r h t = (before, stores, r, h, t, refl)
+trace-next t d n s before stores r h tells handling = (before, stores, r, h, tells, handling, refl)
 
-pub traced-next : (shows : Shows) (d : Desc) (n : ℕ) (s : State) (was mid now : Option (List ℕ)) (stores : List Write) (r : Stepped) → PutsTrace shows d n s was mid →
-    Tells d (steps d n s) stores r → BothTold mid now (Adds (shown_step shows d (n + 1) stores r)) → PutsTrace shows d (n + 1) s was now
-traced-next shows d n s was mid now stores r h t put =
+pub traced-next : (t : Telling) (d : Desc) (n : ℕ) (s : State) (was mid now : Option (List ℕ)) (stores : List Write) (r : Stepped) → PutsTrace t d n s was mid →
+    Tells d (steps d n s) stores r → r.handling ≡ handling_under t.monitor d (steps d n s) → BothTold mid now (Adds (shown_step t.shows d (n + 1) stores r)) →
+    PutsTrace t d (n + 1) s was now
+traced-next t d n s was mid now stores r h tells handling put =
     let e : suc n ≡ n + 1 = omega arith in
     record {
-      lines = h.lines ++ shown_step shows d (n + 1) stores r;
-      trace = subst (λ m. IsTrace shows d m s (h.lines ++ shown_step shows d m stores r)) e (trace-next shows d n s h.lines stores r h.trace t);
-      written = Adds-append was mid now h.lines (shown_step shows d (n + 1) stores r) h.written put;
+      lines = h.lines ++ shown_step t.shows d (n + 1) stores r;
+      trace = subst (λ m. IsTrace t d m s (h.lines ++ shown_step t.shows d m stores r)) e (trace-next t d n s h.lines stores r h.trace tells handling);
+      written = Adds-append was mid now h.lines (shown_step t.shows d (n + 1) stores r) h.written put;
     }
 
 pub blank-length : (n : ℕ) → length (blank n).cells ≡ n

@@ -9,6 +9,7 @@ use Rattle.pg_meaning.specs.States.{State, window}
 use Rattle.pg_meaning.specs.Steps.{ending, steps}
 use Rattle.pg_hw.specs.Bursts.{one_if}
 use Rattle.pg_interp.specs.Outcomes.{number_at}
+use Rattle.pg_traced.specs.Handling.{SharesCounted}
 use Rattle.pg_traced.specs.declared.stepped.Stepped.{Stepped}
 use Rattle.pg_traced.specs.declared.tally.Tally.{Tally}
 use Rattle.pg_traced.specs.Tells.{cause_of}
@@ -55,10 +56,11 @@ pub record IsTally (d : Desc) (n : ℕ) (s : State) (t : Tally) : Type 0 where
   pub trap : t.trap ≡ among (traps_by d Trap) d n s
   pub no_pattern : t.no_pattern ≡ among (traps_by d NoPattern) d n s
 
--- each step fetched one instruction or none, and trapped by one cause at most
+-- each step fetched one instruction or none, trapped by one cause at most, and is in one share at most
 pub record IsBalanced (t : Tally) : Type 0 where
   pub sum : sum_by (λ count. count) t.instrs.items + t.others ≡ t.steps
   pub traps : t.memory + t.trap + t.no_pattern ≤ t.steps
+  pub shares : t.shares.direct + t.shares.emulated ≤ t.steps
 
 -- counts with a step more, by its record
 pub record Counted (old : Tally) (r : Stepped) (new : Tally) : Type 0 where
@@ -69,3 +71,4 @@ pub record Counted (old : Tally) (r : Stepped) (new : Tally) : Type 0 where
   pub memory : new.memory ≡ old.memory + one_if (is_cause Memory r.cause)
   pub trap : new.trap ≡ old.trap + one_if (is_cause Trap r.cause)
   pub no_pattern : new.no_pattern ≡ old.no_pattern + one_if (is_cause NoPattern r.cause)
+  pub shares : SharesCounted old.shares r.handling new.shares

@@ -1,4 +1,5 @@
 pub mod Tells
+pub mod Handling
 pub mod Counting
 pub mod Fitting
 pub mod Lines

@@ -12,6 +12,9 @@ use Rattle.pg_ast.specs.declared.tree.Instr.{Instr}
 use Rattle.pg_interp.specs.declared.effect.Write.{Write}
 use Rattle.pg_asm.specs.Texts.{fields_text}
 use Rattle.pg_asm.specs.Words.{fields_of}
+use Rattle.pg_traced.specs.declared.handling.Handling.{Handling}
+use Rattle.pg_traced.specs.declared.handling.Handling.TheVariants.{Direct, Emulated}
+use Rattle.pg_traced.specs.declared.shares.Shares.{Shares}
 use Rattle.pg_traced.specs.declared.stepped.Stepped.{Stepped}
 use Rattle.pg_traced.specs.declared.tally.Tally.{Tally}
 
@@ -34,6 +37,12 @@ number_text width n = filling width (length (decimal n)) ++ decimal n
 abbrev pub mode_letter : Mode → ℕ
 mode_letter S = 115
 mode_letter U = 117
+
+-- how a monitor would handle the step, where one was named
+abbrev pub handling_text : Option Handling → List ℕ
+handling_text None = []
+handling_text (Some Direct) = codes "direct   "
+handling_text (Some Emulated) = codes "emulated "
 
 -- the word that was fetched; a dash where there is none
 abbrev pub fetched_text : ℕ → Option ℕ → List ℕ
@@ -98,11 +107,11 @@ abbrev pub changes_text : ℕ → List Write → Stepped → Option Cause → Li
 changes_text w stores r None = stores_text w r.psw.l stores ++ moved_text r.psw r.next
 changes_text w stores r (Some cause) = cause_text cause ++ cell_text w 0 r.kept ++ onward_text r.next ++ r_text r.psw r.next
 
--- ---- the line of a step: its number, the mode and P at its begin, the word, the instruction, and what it changed
+-- ---- the line of a step: how a monitor would handle it, its number, the mode and P at its begin, the word, the instruction, and what it changed
 unfoldable pub step_line : Desc → ℕ → List Write → Stepped → List ℕ
 step_line d number stores r =
-    number_text 7 number ++ (32 ∷ mode_letter r.psw.mode ∷ 32 ∷ (number_text 5 r.psw.p ++ (32 ∷ (fetched_text d.word r.word
-    ++ (32 ∷ (said_column (said_text d r.word r.instr) ++ (changes_text d.word stores r r.cause ++ (10 ∷ []))))))))
+    handling_text r.handling ++ (number_text 7 number ++ (32 ∷ mode_letter r.psw.mode ∷ 32 ∷ (number_text 5 r.psw.p ++ (32 ∷ (fetched_text d.word r.word
+    ++ (32 ∷ (said_column (said_text d r.word r.instr) ++ (changes_text d.word stores r r.cause ++ (10 ∷ [])))))))))
 
 -- ---- counts
 
@@ -129,3 +138,7 @@ counts_text d t =
     instr_lines d t.instrs.items (length d.instrs) ++ (met_line (codes "no instr") t.others
     ++ (count_line (codes "trap (memory)") t.memory ++ (count_line (codes "trap (trap)") t.trap
     ++ (count_line (codes "trap (no pattern)") t.no_pattern ++ count_line (codes "steps") t.steps))))
+
+-- the lines of shares
+abbrev pub shares_text : Shares → List ℕ
+shares_text t = count_line (codes "direct") t.direct ++ count_line (codes "emulated") t.emulated

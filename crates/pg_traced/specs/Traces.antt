@@ -9,7 +9,9 @@ use Rattle.pg_edge.specs.Sink.{Adds}
 use Rattle.pg_interp.specs.declared.effect.Write.{Write}
 use Rattle.pg_traced.specs.declared.shows.Shows.{Shows}
 use Rattle.pg_traced.specs.declared.shows.Shows.TheVariants.{Steps, Traps, Counts}
+use Rattle.pg_traced.specs.declared.shows.Telling.{Telling}
 use Rattle.pg_traced.specs.declared.stepped.Stepped.{Stepped}
+use Rattle.pg_traced.specs.Handling.{handling_under}
 use Rattle.pg_traced.specs.Tells.{Tells}
 use Rattle.pg_traced.specs.Lines.{step_line}
 
@@ -24,15 +26,15 @@ is_shown Counts cause = false
 abbrev pub shown_step : Shows → Desc → ℕ → List Write → Stepped → List ℕ
 shown_step shows d number stores r = if is_shown shows r.cause then step_line d number stores r else []
 
--- a text is made of a record of each of the first n steps from a state, in order, as they are shown
-unfoldable pub IsTrace : Shows → Desc → ℕ → State → List ℕ → Type 0
-IsTrace shows d zero s text = text ≡ []
-IsTrace shows d (suc n) s text =
-    (before : List ℕ) × (stores : List Write) × (r : Stepped) × IsTrace shows d n s before × Tells d (steps d n s) stores r
-    × (text ≡ before ++ shown_step shows d (suc n) stores r)
+-- a text is made of a record of each of the first n steps from a state, in order, as they are shown; of a monitor where one is named
+unfoldable pub IsTrace : Telling → Desc → ℕ → State → List ℕ → Type 0
+IsTrace t d zero s text = text ≡ []
+IsTrace t d (suc n) s text =
+    (before : List ℕ) × (stores : List Write) × (r : Stepped) × IsTrace t d n s before × Tells d (steps d n s) stores r
+    × (r.handling ≡ handling_under t.monitor d (steps d n s)) × (text ≡ before ++ shown_step t.shows d (suc n) stores r)
 
 -- the lines of these steps were put
-pub record PutsTrace (shows : Shows) (d : Desc) (n : ℕ) (s : State) (was now : Option (List ℕ)) : Type 0 where
+pub record PutsTrace (t : Telling) (d : Desc) (n : ℕ) (s : State) (was now : Option (List ℕ)) : Type 0 where
   pub lines : List ℕ
-  pub trace : IsTrace shows d n s lines
+  pub trace : IsTrace t d n s lines
   pub written : BothTold was now (Adds lines)

@@ -60,7 +60,7 @@ fn push_met(text: &mut Vec<u8>, word: &[u8], count: u64) -> Result<(), AllocErro
 }
 
 /// Pushes the line of a count.
-fn push_count(text: &mut Vec<u8>, word: &[u8], count: u64) -> Result<(), AllocError>
+pub(crate) fn push_count(text: &mut Vec<u8>, word: &[u8], count: u64) -> Result<(), AllocError>
     ensures { OnOk result (text.new.items ≡ text.old.items ++ count_line word.now count) }
 {
     text.extend_from_slice(word)?;

@@ -6,8 +6,9 @@ ghost use Rattle.std.specs.Prelude.{◌≡◌, ◌+◌, ◌%◌, ◌^◌, ◌<�
 ghost use Rattle.pg_asm.specs.Texts.{field_text, fields_text};
 ghost use Rattle.pg_asm.specs.Words.{value_in};
 ghost use Rattle.pg_traced.specs.Fitting.{Fits};
-ghost use Rattle.pg_traced.specs.Lines.{filling, number_text, mode_letter, fetched_text, instr_text, said_text, said_column, cell_text, stores_text, same_mode, p_text, mode_text, r_text, moved_text, cause_text, onward_text, changes_text, step_line};
+ghost use Rattle.pg_traced.specs.Lines.{filling, handling_text, number_text, mode_letter, fetched_text, instr_text, said_text, said_column, cell_text, stores_text, same_mode, p_text, mode_text, r_text, moved_text, cause_text, onward_text, changes_text, step_line};
 
+use crate::handling::Handling;
 use crate::stepped::Stepped;
 use pg_asm::{LetterField, fields_of};
 use pg_ast::Instr;
@@ -32,6 +33,7 @@ pub fn push_step(
     requires { Fits m.now.desc stores.now stepped.now }
     ensures { OnOk result (text.new.items ≡ text.old.items ++ step_line m.now.desc number stores.now stepped.now) }
 {
+    push_handling(text, stepped.handling)?;
     push_number(text, 7, number)?;
     text.push(b' ')?;
     text.push(mode_letter(stepped.psw.mode))?;
@@ -44,6 +46,17 @@ pub fn push_step(
     push_changes(text, m, stores, stepped)?;
     text.push(b'\n')?;
     Ok(())
+}
+
+/// Pushes the column that says how a monitor would handle a step, where one was named.
+fn push_handling(text: &mut Vec<u8>, handling: Option<Handling>) -> Result<(), AllocError>
+    ensures { OnOk result (text.new.items ≡ text.old.items ++ handling_text handling) }
+{
+    match handling {
+        None => Ok(()),
+        Some(Handling::Direct) => text.extend_from_slice(b"direct   "),
+        Some(Handling::Emulated) => text.extend_from_slice(b"emulated "),
+    }
 }
 
 /// Pushes the spaces that fill a column of at most 24 bytes behind a text of so many.

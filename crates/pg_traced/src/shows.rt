@@ -1,5 +1,16 @@
 //! What is shown of a run.
 
+use crate::handling::Monitor;
+
+/// What is told of a run.
+#[derive(Clone, Copy, Debug, PartialEq, Eq)]
+pub struct Telling {
+    /// Which steps have a line.
+    pub shows: Shows,
+    /// What kind of monitor steps are told of, where they are.
+    pub monitor: Option<Monitor>,
+}
+
 /// Which steps have a line.
 #[derive(Clone, Copy, Debug, PartialEq, Eq)]
 pub enum Shows {

@@ -1,5 +1,6 @@
 //! What one step did.
 
+use crate::handling::Handling;
 use pg_word::{Cause, Psw};
 
 /// What one step of a machine did. Its stores, where it was done, are kept by the `Tracer` until the next step.
@@ -17,4 +18,6 @@ pub struct Stepped {
     pub next: Psw,
     /// The word of cell 0 behind it: after a trap what the trap stored.
     pub kept: u64,
+    /// How a monitor would handle it; none where no monitor was named.
+    pub handling: Option<Handling>,
 }

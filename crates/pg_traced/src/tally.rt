@@ -1,11 +1,14 @@
 //! Counts of steps: by instruction, and by why they trapped.
 
-ghost use Rattle.std.specs.Prelude.{◌≡◌, ℕ, ◌+◌, ◌^◌, ◌<◌, length, slice_index, IfOk, IfSome};
+ghost use Rattle.std.specs.Prelude.{◌≡◌, ℕ, ◌+◌, ◌^◌, ◌<◌, length, slice_index, IfOk, IfSome, Option};
 ghost use Rattle.std.specs.List.{sum_by};
 ghost use Rattle.pg_hw.specs.Bursts.{one_if};
 ghost use Rattle.pg_meaning.specs.States.{State};
+ghost use Rattle.pg_traced.specs.Handling.{AreShares};
+ghost use Rattle.pg_traced.specs.declared.handling.Monitor.{Monitor};
 ghost use Rattle.pg_traced.specs.Counting.{is_number, is_none, is_cause, IsBalanced, Counted, IsTally};
 
+use crate::shares::Shares;
 use crate::stepped::Stepped;
 use pg_machine::Machine;
 use pg_word::Cause;
@@ -26,6 +29,8 @@ pub struct Tally {
     pub trap: u64,
     /// How many trapped because no pattern matched.
     pub no_pattern: u64,
+    /// How a monitor would handle them, where one was named.
+    pub shares: Shares,
 }
 
 impl Tally {
@@ -33,6 +38,7 @@ impl Tally {
     pub fn new(alloc: Global, m: &Machine) -> Result<Tally, AllocError>
         ensures balanced { IfOk result IsBalanced }
         ensures none { IfOk result (λ t. (s : State) → IsTally m.now.desc 0 s t) }
+        ensures shares { IfOk result (λ t. (monitor : Option Monitor) (s : State) → AreShares monitor m.now.desc 0 s t.shares) }
     {
         Ok(Tally {
             steps: 0,
@@ -41,6 +47,7 @@ impl Tally {
             memory: 0,
             trap: 0,
             no_pattern: 0,
+            shares: Shares::new(),
         })
     }
 
@@ -57,6 +64,7 @@ impl Tally {
         self.memory += one_if_cause(Cause::Memory, stepped.cause);
         self.trap += one_if_cause(Cause::Trap, stepped.cause);
         self.no_pattern += one_if_cause(Cause::NoPattern, stepped.cause);
+        self.shares.count(stepped.handling);
     }
 }
 

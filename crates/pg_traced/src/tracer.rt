@@ -10,8 +10,10 @@ ghost use Rattle.pg_hw.specs.Serving.{IsServed};
 ghost use Rattle.pg_hw.specs.Running.{Ran};
 ghost use Rattle.pg_interp.specs.Outcomes.{IsOutcome, outcome_in, number_at, number_of_fetched};
 ghost use Rattle.pg_traced.specs.Fitting.{Fits};
+ghost use Rattle.pg_traced.specs.Handling.{handling_under};
 ghost use Rattle.pg_traced.specs.Tells.{Tells, cause_as};
 
+use crate::handling::{Monitor, next_handling};
 use crate::stepped::Stepped;
 use crate::window::Window;
 use pg_hw::Hardware;
@@ -22,13 +24,17 @@ use pg_word::{Cause, OLD_PSW_CELL, Psw};
 /// Who makes steps and tells of them.
 #[derive(Drop)]
 pub struct Tracer {
+    monitor: Option<Monitor>,
     frame: Frame,
 }
 
 impl Tracer {
-    /// One that made no step yet.
-    pub fn new() -> Tracer {
+    /// One that made no step yet, and tells how a monitor of this kind would handle them, where there is one.
+    pub fn new(monitor: Option<Monitor>) -> Tracer
+        ensures { result.monitor ≡ monitor }
+    {
         Tracer {
+            monitor,
             frame: Frame::new(),
         }
     }
@@ -45,12 +51,15 @@ impl Tracer {
         requires served { IsServed (H.serves (H.fixed hw.old)) m.now.desc }
         requires state { IsState m.now.desc (H.machinery hw.old).state }
         ensures tells { Tells m.now.desc (H.machinery hw.old).state self.new.frame.writes result }
+        ensures handling { result.handling ≡ handling_under self.old.monitor m.now.desc (H.machinery hw.old).state }
+        ensures same_monitor { self.new.monitor ≡ self.old.monitor }
         ensures fits { Fits m.now.desc self.new.frame.writes result }
         ensures ran { Ran m.now.desc 1 (H.machinery hw.old) (H.machinery hw.new) }
         ensures fixed { H.fixed hw.new ≡ H.fixed hw.old }
     {
         let psw = hw.psw();
         let word = fetched(hw);
+        let handling = next_handling(m, hw, self.monitor, &mut self.frame);
         let ended = executed(m, hw, psw, &mut self.frame);
         hw.step(m);
         Stepped {
@@ -60,6 +69,7 @@ impl Tracer {
             cause: cause_of(ended),
             next: hw.psw(),
             kept: hw.peek(OLD_PSW_CELL),
+            handling,
         }
     }
 }

@@ -1,6 +1,6 @@
 //! Many steps, each with its line.
 
-ghost use Rattle.std.specs.Prelude.{◌≡◌, ◌^◌, ◌<◌, ◌≤◌, length, All, IfOk, OnOk};
+ghost use Rattle.std.specs.Prelude.{◌≡◌, ◌^◌, ◌<◌, ◌≤◌, length, All, IfOk, OnOk, None};
 ghost use Rattle.pg_ast.specs.declared.tree.Desc.{Desc};
 ghost use Rattle.pg_meaning.specs.Steps.{bare, power_on};
 ghost use Rattle.pg_valid.specs.Valid.{IsValid};
@@ -11,10 +11,11 @@ ghost use Rattle.pg_hw.specs.Serving.{IsServed};
 ghost use Rattle.pg_hw.specs.Running.{Ran};
 ghost use Rattle.pg_traced.specs.Counting.{IsBalanced, IsTally};
 ghost use Rattle.pg_traced.specs.Fitting.{Fits};
+ghost use Rattle.pg_traced.specs.Handling.{AreShares};
 ghost use Rattle.pg_traced.specs.Traces.{PutsTrace, is_shown, shown_step};
 
 use crate::line::push_step;
-use crate::shows::Shows;
+use crate::shows::{Shows, Telling};
 use crate::stepped::Stepped;
 use crate::tally::Tally;
 use crate::tracer::Tracer;
@@ -46,38 +47,68 @@ impl From<Failed> for TraceFault {
     }
 }
 
-/// Runs a machine on a hardware for `n` steps, less than 2^32, puts the lines of those that are shown, and counts all.
+/// Runs a machine on a hardware for `n` steps, less than 2^32, puts the lines of those that are shown, and counts all. Where a monitor
+/// is named it is told of each how the monitor would handle it.
 pub fn trace<H: Hardware, S: Sink>(
     alloc: Global,
     m: &Machine,
     hw: &mut H,
     out: &mut S,
     n: u64,
-    shows: Shows,
+    telling: Telling,
 ) -> Result<Tally, TraceFault>
     requires served { IsServed (H.serves (H.fixed hw.old)) m.now.desc }
     requires state { IsState m.now.desc (H.machinery hw.old).state }
     requires few { n < 2 ^ 32 }
     ensures tally { IfOk result (λ t. IsTally m.now.desc n (H.machinery hw.old).state t) }
+    ensures shares { IfOk result (λ t. AreShares telling.monitor m.now.desc n (H.machinery hw.old).state t.shares) }
     ensures balanced { IfOk result IsBalanced }
     ensures ran { OnOk result (Ran m.now.desc n (H.machinery hw.old) (H.machinery hw.new)) }
-    ensures puts { OnOk result (PutsTrace shows m.now.desc n (H.machinery hw.old).state (S.written out.old) (S.written out.new)) }
+    ensures puts { OnOk result (PutsTrace telling m.now.desc n (H.machinery hw.old).state (S.written out.old) (S.written out.new)) }
     ensures fixed { H.fixed hw.new ≡ H.fixed hw.old }
 {
-    let mut tracer = Tracer::new();
+    let mut tracer = Tracer::new(telling.monitor);
     let mut tally = Tally::new(alloc, m)?;
     let mut line = Vec::new(alloc);
     for done in 0..n {
         let stepped = tracer.step(m, hw);
         tally.count(&stepped);
         let stores = tracer.stores();
-        put_shown(out, &mut line, m, done + 1, stores, &stepped, shows)?;
+        put_shown(out, &mut line, m, done + 1, stores, &stepped, telling.shows)?;
     }
     Ok(tally)
 }
 
 /// Switches a hardware on with an image, all of whose cells are a word of the machine, and traces `n` steps, less than 2^32. The
 /// state that is reached is that of a bare machine.
+pub fn trace_told<H: Hardware, S: Sink>(
+    alloc: Global,
+    m: &Machine,
+    image: &[u64],
+    hw: &mut H,
+    out: &mut S,
+    n: u64,
+    telling: Telling,
+) -> Result<Tally, TraceFault>
+    requires serves { (d : Desc) → IsValid d → H.serves (H.fixed hw.old) d }
+    requires room { length image.now ≤ H.room (H.fixed hw.old) }
+    requires least { 2 ≤ length image.now }
+    requires small { length image.now ≤ 1048575 }
+    requires most { length image.now ≤ m.now.desc.size }
+    requires words { All (λ word. word < 2 ^ m.now.desc.word) image.now }
+    requires few { n < 2 ^ 32 }
+    ensures tally { IfOk result (λ t. IsTally m.now.desc n (power_on image.now (length image.now)) t) }
+    ensures shares { IfOk result (λ t. AreShares telling.monitor m.now.desc n (power_on image.now (length image.now)) t.shares) }
+    ensures balanced { IfOk result IsBalanced }
+    ensures state { OnOk result ((H.machinery hw.new).state ≡ bare m.now.desc image.now (length image.now) n) }
+    ensures puts { OnOk result (PutsTrace telling m.now.desc n (power_on image.now (length image.now)) (S.written out.old) (S.written out.new)) }
+{
+    hw.install(image.len() as u32)?;
+    power_on(hw, image);
+    trace(alloc, m, hw, out, n, telling)
+}
+
+/// The same, where no monitor is named.
 pub fn trace_bare<H: Hardware, S: Sink>(
     alloc: Global,
     m: &Machine,
@@ -97,11 +128,14 @@ pub fn trace_bare<H: Hardware, S: Sink>(
     ensures tally { IfOk result (λ t. IsTally m.now.desc n (power_on image.now (length image.now)) t) }
     ensures balanced { IfOk result IsBalanced }
     ensures state { OnOk result ((H.machinery hw.new).state ≡ bare m.now.desc image.now (length image.now) n) }
-    ensures puts { OnOk result (PutsTrace shows m.now.desc n (power_on image.now (length image.now)) (S.written out.old) (S.written out.new)) }
+    ensures puts { OnOk result (PutsTrace (record { shows = shows; monitor = None }) m.now.desc n (power_on image.now (length image.now))
+        (S.written out.old) (S.written out.new)) }
 {
-    hw.install(image.len() as u32)?;
-    power_on(hw, image);
-    trace(alloc, m, hw, out, n, shows)
+    let telling = Telling {
+        shows,
+        monitor: None,
+    };
+    trace_told(alloc, m, image, hw, out, n, telling)
 }
 
 /// Puts the line of a step, where it is shown. The buffer is for the line; what it holds means nothing.

@@ -1,5 +1,5 @@
 use Rattle.std.proofs.Common.{ℕ, [], ◌∷◌, ◌++◌, ap, ◌∙◌}
-use Rattle.pg_traced.specs.Lines.{number_text, mode_letter, fetched_text, said_text, said_column, changes_text, step_line}
+use Rattle.pg_traced.specs.Lines.{handling_text, number_text, mode_letter, fetched_text, said_text, said_column, changes_text, step_line}
 use Rattle.pg_traced.proofs.TraceLemmas.{pushed}
 use Rattle.pg_traced.proofs.line.push_step.Goals as goal
 
@@ -9,6 +9,7 @@ returns c =
     let d = c.args.m.now.desc in
     let r = c.args.stepped.now in
     let before = c.args.text.now.items in
+    let told = c.push_handling.new.text.items in
     let numbered = c.push_number.new.text.items in
     let t1 = c.push.new.self.items in
     let t2 = c.push-2.new.self.items in
@@ -29,7 +30,9 @@ returns c =
     let y6 = column ++ y7 in
     let y5 = word ++ (32 ∷ y6) in
     let y4 = place ++ (32 ∷ y5) in
-    pushed before numbered all (number_text 7 c.args.number) (32 ∷ mode ∷ 32 ∷ y4) c.in_ok-push_number.ensures
+    let number = number_text 7 c.args.number in
+    pushed before told all (handling_text r.handling) (number ++ (32 ∷ mode ∷ 32 ∷ y4)) c.in_ok-push_handling.ensures
+    (pushed told numbered all number (32 ∷ mode ∷ 32 ∷ y4) c.in_ok-push_number.ensures
     (pushed numbered t1 all (32 ∷ []) (mode ∷ 32 ∷ y4) c.in_ok-push.ensures.items
     (pushed t1 t2 all (mode ∷ []) (32 ∷ y4) (c.in_ok-push-2.ensures.items ∙ ap (λ (x : ℕ). t1 ++ x ∷ []) c.mode_letter.ensures)
     (pushed t2 t3 all (32 ∷ []) y4 c.in_ok-push-3.ensures.items
@@ -38,4 +41,4 @@ returns c =
     (pushed t4 fetched all word (32 ∷ y6) c.in_ok-push_fetched.ensures
     (pushed fetched t5 all (32 ∷ []) y6 c.in_ok-push-5.ensures.items
     (pushed t5 said all column y7 c.in_ok-push_said_column.ensures
-    (pushed said changed all changes (10 ∷ []) c.in_ok-push_changes.ensures c.in_ok-push-6.ensures.items)))))))))
+    (pushed said changed all changes (10 ∷ []) c.in_ok-push_changes.ensures c.in_ok-push-6.ensures.items))))))))))

@@ -7,8 +7,10 @@ use Rattle.pg_hw.specs.Running.{Ran}
 use Rattle.pg_hw.proofs.RunLemmas.{Ran-none, Ran-then}
 use Rattle.pg_traced.specs.Counting.{IsTally}
 use Rattle.pg_traced.specs.Fitting.{Fits}
+use Rattle.pg_traced.specs.Handling.{AreShares, handling_under}
 use Rattle.pg_traced.specs.Tells.{Tells}
 use Rattle.pg_traced.specs.Traces.{PutsTrace}
+use Rattle.pg_traced.proofs.HandlingLemmas.{shares-next}
 use Rattle.pg_traced.proofs.TallyLemmas.{tally-next}
 use Rattle.pg_traced.proofs.TraceLemmas.{traced-none, traced-next}
 use Rattle.pg_traced.proofs.tracing.trace.Goals as goal
@@ -16,9 +18,11 @@ use Rattle.pg_traced.proofs.tracing.trace.Goals as goal
 pub loop-done-init : goal.loop-done-init
 loop-done-init g c = record {
   tally = c.in_ok-tally.ensures.none (g.H.Hardware.machinery c.args.hw.now).state;
+  shares = c.in_ok-tally.ensures.shares c.args.telling.monitor (g.H.Hardware.machinery c.args.hw.now).state;
+  monitor = c.new-tracer.ensures;
   balanced = c.in_ok-tally.ensures.balanced;
   ran = Ran-none c.args.m.now.desc _;
-  puts = traced-none c.args.shows c.args.m.now.desc _ _;
+  puts = traced-none c.args.telling c.args.m.now.desc _ _;
   fixed = refl;
 }
 
@@ -46,11 +50,15 @@ loop-done-preserved g c =
     let r = c.step-stepped.result in
     let tells : Tells d (steps d n s) c.stores-stores.result.now r =
     subst (λ made. Tells d (steps d n s) made r) (sym c.stores-stores.ensures) (subst (λ t. Tells d t c.step-stepped.new.self.frame.writes r) before.ran.state c.step-stepped.ensures.tells) in
+    let handling : r.handling ≡ handling_under c.args.telling.monitor d (steps d n s) =
+    c.step-stepped.ensures.handling ∙ ap (λ monitor. handling_under monitor d (g.H.Hardware.machinery c.loop-done.hw).state) before.monitor ∙ ap (handling_under c.args.telling.monitor d) before.ran.state in
     record {
       tally = tally-next d n s _ _ c.stores-stores.result.now r before.tally tells c.count.ensures.counted;
+      shares = shares-next c.args.telling.monitor d n s _ _ r.handling before.shares handling c.count.ensures.counted.shares;
+      monitor = c.step-stepped.ensures.same_monitor ∙ before.monitor;
       balanced = c.count.ensures.balanced;
       ran = Ran-then d n 1 _ _ _ before.ran c.step-stepped.ensures.ran;
-      puts = traced-next c.args.shows d n s _ _ _ c.stores-stores.result.now r before.puts tells c.in_ok-put_shown.ensures;
+      puts = traced-next c.args.telling d n s _ _ _ c.stores-stores.result.now r before.puts tells handling c.in_ok-put_shown.ensures;
       fixed = c.step-stepped.ensures.fixed ∙ before.fixed;
     }
 
@@ -58,6 +66,11 @@ pub returns-clause-tally : goal.returns-clause-tally
 returns-clause-tally g c =
     let end : c.loop-done.done ≡ c.args.n = omega (arith, c.loop-done-test.false, c.loop-done.auto.done-end) in
     subst (λ n. IsTally c.args.m.now.desc n (g.H.Hardware.machinery c.args.hw.now).state c.loop-done.tally) end c.loop-done.invariant.tally
+
+pub returns-clause-shares : goal.returns-clause-shares
+returns-clause-shares g c =
+    let end : c.loop-done.done ≡ c.args.n = omega (arith, c.loop-done-test.false, c.loop-done.auto.done-end) in
+    subst (λ n. AreShares c.args.telling.monitor c.args.m.now.desc n (g.H.Hardware.machinery c.args.hw.now).state c.loop-done.tally.shares) end c.loop-done.invariant.shares
 
 pub returns-clause-ran : goal.returns-clause-ran
 returns-clause-ran g c =
@@ -67,5 +80,5 @@ returns-clause-ran g c =
 pub returns-clause-puts : goal.returns-clause-puts
 returns-clause-puts g c =
     let end : c.loop-done.done ≡ c.args.n = omega (arith, c.loop-done-test.false, c.loop-done.auto.done-end) in
-    subst (λ n. PutsTrace c.args.shows c.args.m.now.desc n (g.H.Hardware.machinery c.args.hw.now).state (g.S.Sink.written c.args.out.now) (g.S.Sink.written c.loop-done.out)) end
+    subst (λ n. PutsTrace c.args.telling c.args.m.now.desc n (g.H.Hardware.machinery c.args.hw.now).state (g.S.Sink.written c.args.out.now) (g.S.Sink.written c.loop-done.out)) end
     c.loop-done.invariant.puts

@@ -4,6 +4,9 @@ use Rattle.std.specs.Prelude.{ℕ, ◌<◌, ◌≡◌}
 use Rattle.pg_traced.specs.Counting.{among}
 use Rattle.pg_traced.proofs.tally.Tally.new.Goals as goal
 
+pub returns-clause-shares : goal.returns-clause-shares
+returns-clause-shares c = λ monitor s. c.new.ensures.shares monitor c.args.m.now.desc s
+
 pub returns-clause-none : goal.returns-clause-none
 unfolding among
 returns-clause-none c = λ s.

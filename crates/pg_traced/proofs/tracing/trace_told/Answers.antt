@@ -6,9 +6,10 @@ use Rattle.pg_meaning.specs.States.{IsState}
 use Rattle.pg_meaning.specs.Steps.{power_on}
 use Rattle.pg_valid.proofs.StepSound.{power_on-state}
 use Rattle.pg_traced.specs.Counting.{IsTally}
+use Rattle.pg_traced.specs.Handling.{AreShares}
 use Rattle.pg_traced.specs.Traces.{PutsTrace}
 use Rattle.pg_traced.proofs.TraceLemmas.{blank-length, reached}
-use Rattle.pg_traced.proofs.tracing.trace_bare.Goals as goal
+use Rattle.pg_traced.proofs.tracing.trace_told.Goals as goal
 
 pub power_on-requires-clause-size : goal.power_on-requires-clause-size
 power_on-requires-clause-size g c =
@@ -23,9 +24,14 @@ pub returns-clause-tally : goal.returns-clause-tally
 returns-clause-tally g c =
     subst (λ s. IfOk c.trace.result (λ t. IsTally c.args.m.now.desc c.args.n s t)) (ap (λ (m : Machinery). m.state) c.power_on.ensures.switched_on) c.trace.ensures.tally
 
+pub returns-clause-shares : goal.returns-clause-shares
+returns-clause-shares g c =
+    subst (λ s. IfOk c.trace.result (λ t. AreShares c.args.telling.monitor c.args.m.now.desc c.args.n s t.shares)) (ap (λ (m : Machinery). m.state) c.power_on.ensures.switched_on)
+    c.trace.ensures.shares
+
 pub returns-clause-puts : goal.returns-clause-puts
 returns-clause-puts g c =
-    subst (λ s. OnOk c.trace.result (PutsTrace c.args.shows c.args.m.now.desc c.args.n s (g.S.Sink.written c.args.out.now) (g.S.Sink.written c.trace.new.out)))
+    subst (λ s. OnOk c.trace.result (PutsTrace c.args.telling c.args.m.now.desc c.args.n s (g.S.Sink.written c.args.out.now) (g.S.Sink.written c.trace.new.out)))
     (ap (λ (m : Machinery). m.state) c.power_on.ensures.switched_on) c.trace.ensures.puts
 
 pub returns-clause-state : goal.returns-clause-state
