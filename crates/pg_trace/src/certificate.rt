@@ -46,11 +46,7 @@ pub fn load_either<F: Shelf>(
 
 /// The family that a certificate's first bytes say. What is no certificate, or is not there, is taken for one of the plain family,
 /// so that it is refused in its turn.
-fn family_of<F: Shelf>(
-    alloc: Global,
-    name: &FileName,
-    shelf: &mut F,
-) -> Result<Family, AllocError>
+fn family_of<F: Shelf>(alloc: Global, name: &FileName, shelf: &mut F) -> Result<Family, AllocError>
     ensures { OnlyReads F.Shelf shelf.old shelf.new }
 {
     let mut bytes = Vec::new(alloc);
