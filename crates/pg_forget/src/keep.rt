@@ -10,7 +10,7 @@ const FEW: u32 = 2;
 const MIDDLE: u32 = 6;
 
 /// How many of the others are kept, in hundredths.
-const SHARE: usize = 40;
+const SHARE: usize = 50;
 
 /// What a clause that was learned is worth.
 #[derive(Clone, Copy)]

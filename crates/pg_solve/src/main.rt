@@ -2,7 +2,7 @@
 //!
 //!     pg_solve FILE [BUDGET] [--check]
 //!
-//! `request` reads the words and `dimacs` the file; `pg_sat` solves, and learns at most BUDGET clauses; `log` hands the log to the
+//! `request` reads the words and `dimacs` the file; `pg_forget` solves, and learns at most BUDGET clauses; `log` hands the log to the
 //! checker of `pg_proof`. What is written is what solvers write, so that this one can be run beside others. Nothing that `pgv`
 //! does stands on this program.
 #![tactic(auto)]
@@ -16,7 +16,8 @@ use crate::log::is_taken;
 use crate::request::{Request, asked_by};
 use pg_cnf::Cnf;
 use pg_proof::Step;
-use pg_sat::{Answer, Counts, solve_counted};
+use pg_forget::solve_counted;
+use pg_sat::{Answer, Counts};
 use std::alloc::{AllocError, Global};
 use std::fmt::Write;
 use std::io::ErrorKind;
