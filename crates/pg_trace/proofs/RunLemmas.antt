@@ -1,5 +1,5 @@
 -- Runs that are due, beside the cells that a monitor keeps.
-use Rattle.std.proofs.Common.{◌≡◌, ℕ, ◌+◌, ◌-◌, ◌≤◌, List, length, replicate, Option, Result, Ok, Err, refl, sym, ◌∙◌, ap, subst, arith}
+use Rattle.std.proofs.Common.{◌≡◌, ℕ, ◌-◌, ◌≤◌, List, length, replicate, Option, arith}
 use Rattle.std.proofs.lemmas.List.{length-append, length-replicate}
 use Rattle.pg_ast.specs.declared.tree.Desc.{Desc}
 use Rattle.pg_asked.specs.declared.bare.BareWords.{BareWords}

@@ -33,7 +33,8 @@ pub fn load_either<F: Shelf>(
     ensures comes { (family : Family) × Comes (λ report. report) (CertDue machine.now.desc family (F.files shelf.old) name.now)
         (F.reads shelf.old) (F.reads shelf.new) result }
     ensures came { IfOk result (λ report. CertDue machine.now.desc report.family (F.files shelf.old) name.now (Came report)) }
-    ensures accepts { IfOk result (λ report. verdict_of report.family report.marks ≡ Accepted → IsAcceptedBy report.family machine.now.desc) }
+    ensures accepts { IfOk result (λ report.
+        verdict_of report.family report.marks ≡ Accepted → IsAcceptedBy report.family machine.now.desc) }
     ensures whole { IfOk result (λ report. length report.marks ≡ length machine.now.desc.instrs * kind_count report.family) }
     ensures fit { IfOk result (λ report. All (DoMarkWordsFit machine.now.desc.word) report.marks) }
     ensures reads { OnlyReads F.Shelf shelf.old shelf.new }
@@ -46,11 +47,7 @@ pub fn load_either<F: Shelf>(
 
 /// The family that a certificate's first bytes say. What is no certificate, or is not there, is taken for one of the plain family,
 /// so that it is refused in its turn.
-fn family_of<F: Shelf>(
-    alloc: Global,
-    name: &FileName,
-    shelf: &mut F,
-) -> Result<Family, AllocError>
+fn family_of<F: Shelf>(alloc: Global, name: &FileName, shelf: &mut F) -> Result<Family, AllocError>
     ensures { OnlyReads F.Shelf shelf.old shelf.new }
 {
     let mut bytes = Vec::new(alloc);

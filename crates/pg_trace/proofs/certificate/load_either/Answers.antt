@@ -1,4 +1,4 @@
-use Rattle.std.proofs.Common.{◌≡◌, Option, sym, subst}
+use Rattle.std.proofs.Common.{Option, subst}
 use Rattle.pg_cert.specs.declared.cert.Family.TheVariants.{Plain}
 use Rattle.pg_edge.specs.Shelf.{Files}
 use Rattle.pg_judged.specs.Certificates.{CertDue}
@@ -16,11 +16,12 @@ returns-in-Ok-clause-comes g c =
     let before = g.F.Shelf.reads c.args.shelf.now in
     let mid = g.F.Shelf.reads c.family_of.new.shelf in
     let after = g.F.Shelf.reads c.load_certificate.new.shelf in
-    let family = c.in-Ok.family in
-    (family,
+    let family = c.in-Ok.family in (
+      family,
       comes-later (λ report. report) (CertDue d family (g.F.Shelf.files c.args.shelf.now) name) before mid after c.load_certificate.result c.family_of.ensures.later
-      (subst (λ (files : Option Files). Comes (λ report. report) (CertDue d family files name) mid after c.load_certificate.result) c.family_of.ensures.same_files
-      c.load_certificate.ensures.comes))
+          (subst (λ (files : Option Files). Comes (λ report. report) (CertDue d family files name) mid after c.load_certificate.result) c.family_of.ensures.same_files
+          c.load_certificate.ensures.comes),
+    )
 
 pub returns-in-Ok-clause-came : goal.returns-in-Ok-clause-came
 returns-in-Ok-clause-came g c =

@@ -1,4 +1,4 @@
-use Rattle.std.proofs.Common.{◌≡◌, ℕ, List, Err, refl, sym, ◌∙◌, ap, subst, arith}
+use Rattle.std.proofs.Common.{ℕ, List, Err, refl, ◌∙◌, ap, arith}
 use Rattle.pg_inputs.specs.Images.{ImageDue}
 use Rattle.pg_steps.specs.Answering.{Comes}
 use Rattle.pg_steps.specs.Steps.{Came, Gives}
@@ -28,8 +28,9 @@ returns-in-Ok-clause-comes g c =
     let b = c.args.words.now in
     let d = c.args.machine.desc in
     let image = c.in-Ok.image in
-    let run : ℕ → ℕ → BareRun = λ grant steps. record { desc = d; image = image; grant = grant; steps = steps } in
-    (image,
+    let run : ℕ → ℕ → BareRun = λ grant steps. record { desc = d; image = image; grant = grant; steps = steps } in (
+      image,
       same_three (λ files w grant. ImageDue files 0 b.image w grant (Came image)) _ _ _ _ _ _ (refl {a = told}) (ap (λ s. s.w) c.shape.ensures.numbers) c.cells-grant.ensures.cells
-      c.in-Ok.ensures.comes,
-      ap (λ n. run n c.count.result) c.cells-grant.ensures.cells ∙ ap (run b.grant) c.count.ensures.count)
+          c.in-Ok.ensures.comes,
+      ap (λ n. run n c.count.result) c.cells-grant.ensures.cells ∙ ap (run b.grant) c.count.ensures.count,
+    )
