@@ -53,12 +53,7 @@ pub(crate) fn next_handling<H: Hardware>(
 }
 
 /// How a monitor of this kind would handle the next step.
-fn handling_by<H: Hardware>(
-    m: &Machine,
-    hw: &H,
-    monitor: Monitor,
-    frame: &mut Frame,
-) -> Handling
+fn handling_by<H: Hardware>(m: &Machine, hw: &H, monitor: Monitor, frame: &mut Frame) -> Handling
     requires state { IsState m.now.desc (H.machinery hw.now).state }
     ensures { result ≡ handled (goes_direct monitor m.now.desc 0 (H.machinery hw.now).state) }
 {
