@@ -1,11 +1,12 @@
 -- Runs that are due, beside the cells that a monitor keeps.
-use Rattle.std.proofs.Common.{◌≡◌, ℕ, ◌+◌, ◌-◌, ◌≤◌, List, length, replicate, Option, Result, Ok, Err, refl, sym, ◌∙◌, ap, subst, arith}
+use Rattle.std.proofs.Common.{◌≡◌, ℕ, ◌-◌, ◌≤◌, List, length, replicate, Option, arith}
 use Rattle.std.proofs.lemmas.List.{length-append, length-replicate}
 use Rattle.pg_ast.specs.declared.tree.Desc.{Desc}
 use Rattle.pg_asked.specs.declared.bare.BareWords.{BareWords}
 use Rattle.pg_cert.specs.declared.cert.Family.{Family}
 use Rattle.pg_cert.specs.declared.cert.Family.TheVariants.{Plain, Hybrid}
 use Rattle.pg_edge.specs.Shelf.{Files}
+use Rattle.pg_inputs.specs.Descriptions.{DescDue}
 use Rattle.pg_judged.specs.Meaning.{IsAcceptedBy}
 use Rattle.pg_meaning.specs.Steps.{power_on}
 use Rattle.pg_steps.specs.declared.refusal.Refusal.{Refusal}
@@ -27,10 +28,13 @@ use Rattle.pg_trace.specs.Plans.{RunDue, behind_room}
 abbrev pub behind_desc : ℕ → BareWords → Option Files → Desc → Step Refusal BareRun
 behind_desc kept b told d = Then (RoomDue b.grant (d.size - kept)) (behind_room b told d)
 
+free : (n : ℕ) → n - 0 ≡ n
+free n = omega arith
+
 -- beside no cells it is that of a bare machine
 pub run-bare : (b : BareWords) (told : Option Files) → RunDue 0 b told ≡ BareDue b told
 unfolding RunDue BareDue
-run-bare b told = refl
+run-bare b told = λ i. Then (DescDue told b.desc) (λ d. Then (RoomDue b.grant (free d.size i)) (behind_room b told d))
 
 -- beside others it is one of a bare machine too
 pub run-due : (kept : ℕ) (b : BareWords) (told : Option Files) (r : BareRun) → RunDue kept b told (Came r) → BareDue b told (Came r)

@@ -3,7 +3,6 @@ use Rattle.std.proofs.Common.{◌≡◌, ℕ, List, ◌++◌, length, Option, re
 use Rattle.pg_edge.specs.Told.{BothTold}
 use Rattle.pg_edge.specs.Sink.{Adds}
 use Rattle.pg_edge.proofs.PutsLaws.{Adds-append}
-use Rattle.pg_ast.specs.declared.tree.Desc.{Desc}
 use Rattle.pg_meaning.specs.Steps.{power_on, bare}
 use Rattle.pg_meaning.specs.States.{State}
 use Rattle.pg_traced.specs.Counting.{IsTally}

@@ -90,7 +90,8 @@ fn carry_judged<F: Shelf, S: Sink, H: Hardware>(
     requires able { IsAble H.Hardware hw.old }
     requires room { kept_cells + plan.grant ≤ plan.machine.desc.size }
     ensures reached { result ≡ status.Done → (H.machinery hw.new).state ≡ reached (planned_run plan) }
-    ensures put { result ≡ status.Done → PutsJudged shows cert.now (F.files shelf.old) (planned_run plan) (S.written out.old) (S.written out.new) }
+    ensures put { result ≡ status.Done →
+        PutsJudged shows cert.now (F.files shelf.old) (planned_run plan) (S.written out.old) (S.written out.new) }
 {
     let report = match load_either(alloc, &plan.machine, cert, shelf) {
         Ok(report) => report,

@@ -33,7 +33,8 @@ pub fn load_either<F: Shelf>(
     ensures comes { (family : Family) × Comes (λ report. report) (CertDue machine.now.desc family (F.files shelf.old) name.now)
         (F.reads shelf.old) (F.reads shelf.new) result }
     ensures came { IfOk result (λ report. CertDue machine.now.desc report.family (F.files shelf.old) name.now (Came report)) }
-    ensures accepts { IfOk result (λ report. verdict_of report.family report.marks ≡ Accepted → IsAcceptedBy report.family machine.now.desc) }
+    ensures accepts { IfOk result (λ report.
+        verdict_of report.family report.marks ≡ Accepted → IsAcceptedBy report.family machine.now.desc) }
     ensures whole { IfOk result (λ report. length report.marks ≡ length machine.now.desc.instrs * kind_count report.family) }
     ensures fit { IfOk result (λ report. All (DoMarkWordsFit machine.now.desc.word) report.marks) }
     ensures reads { OnlyReads F.Shelf shelf.old shelf.new }

@@ -1,4 +1,4 @@
-use Rattle.std.proofs.Common.{◌≡◌, Option, sym, subst}
+use Rattle.std.proofs.Common.{Option, subst}
 use Rattle.pg_cert.specs.declared.cert.Family.TheVariants.{Plain}
 use Rattle.pg_edge.specs.Shelf.{Files}
 use Rattle.pg_judged.specs.Certificates.{CertDue}

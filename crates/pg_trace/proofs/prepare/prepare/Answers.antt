@@ -1,4 +1,4 @@
-use Rattle.std.proofs.Common.{◌≡◌, ◌+◌, ◌-◌, ◌≤◌, Option, Err, sym, ◌∙◌, ap, subst, arith}
+use Rattle.std.proofs.Common.{◌≡◌, ◌-◌, Option, Err, ap, subst, arith}
 use Rattle.pg_edge.specs.Shelf.{Files}
 use Rattle.pg_inputs.specs.Descriptions.{DescDue}
 use Rattle.pg_machine.specs.declared.machine.Machine.{Machine}
