@@ -23,7 +23,7 @@ use Rattle.pg_cert.specs.Validity.{may_remove, IsValidFinding, IsValidCert}
 use Rattle.pg_cert.specs.InRange.{IsFindingNumbered}
 
 -- a log that refutes within a budget: the trimmed form of steps that end with the empty clause, behind at most as many others as
--- the budget, each new
+-- the budget
 pub record IsRefutedWithin (clauses : List (List ℤ)) (budget : ℕ) (acts : List Act) : Type 0 where
   pub steps : List Step
   pub refuted : IsRefuted clauses budget steps

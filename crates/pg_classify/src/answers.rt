@@ -13,8 +13,8 @@ ghost use Rattle.pg_classify.specs.Classified.{IsFound};
 
 use pg_ask::{Asked, states_of};
 use pg_cert::Finding;
-use pg_proof::{Act, ActList, trim};
 use pg_forget::solve;
+use pg_proof::{Act, ActList, trim};
 use pg_sat::{Answer, StepList};
 use pg_small::small;
 use pg_word::Sparse;
