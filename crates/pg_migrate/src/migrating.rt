@@ -50,7 +50,7 @@ fn findings(
 }
 
 /// The certificate of a text of a family that was taken, with this report, made anew. The error is want of memory.
-fn made_anew(
+pub fn made_anew(
     alloc: Global,
     machine: &Machine,
     family: Family,
