@@ -1,5 +1,5 @@
 -- How a monitor handles steps, and the counts of them, step by step.
-use Rattle.std.proofs.Common.{◌≡◌, ℕ, zero, suc, ◌+◌, ◌≤◌, ◌&&◌, not, Bool, true, false, List, length, Option, None, Some, refl, sym, ◌∙◌, ap, subst, arith}
+use Rattle.std.proofs.Common.{◌≡◌, ℕ, suc, ◌+◌, ◌≤◌, ◌&&◌, not, Bool, true, false, List, length, Option, None, Some, refl, sym, ◌∙◌, ap, arith}
 use Rattle.pg_word.specs.declared.psw.Psw.{Psw}
 use Rattle.pg_ast.specs.declared.tree.Desc.{Desc}
 use Rattle.pg_meaning.specs.States.{State, window}
@@ -12,7 +12,7 @@ use Rattle.pg_interp.specs.Outcomes.{IsOutcome, ending_as, outcome_in}
 use Rattle.pg_routine.specs.Composing.{composed}
 use Rattle.pg_control.specs.Direct.{is_direct, direct_among}
 use Rattle.pg_hybrid.specs.UserTurns.{hybrid_among}
-use Rattle.pg_traced.specs.Handling.{asks, goes_direct, direct_steps, handled, handled_as, handling_under, is_direct_told, is_emulated_told, AreSharesOf, AreShares, SharesCounted}
+use Rattle.pg_traced.specs.Handling.{asks, goes_direct, direct_steps, handled, handled_as, handling_under, is_direct_told, is_emulated_told, AreShares, SharesCounted}
 use Rattle.pg_traced.specs.declared.handling.Monitor.{Monitor}
 use Rattle.pg_traced.specs.declared.handling.Monitor.TheVariants.{Plain, Hybrid}
 use Rattle.pg_traced.specs.declared.handling.Handling.{Handling}

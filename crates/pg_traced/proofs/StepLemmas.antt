@@ -1,14 +1,13 @@
 -- A step, by how its instruction ended in a frame.
-use Rattle.std.proofs.Common.{◌≡◌, ℕ, ◌<◌, ◌≤◌, ◌^◌, List, length, slice_get, get_or, All, Option, None, Some, refl, sym, ◌∙◌, ap, subst, arith}
+use Rattle.std.proofs.Common.{◌≡◌, ℕ, ◌<◌, ◌^◌, List, length, slice_get, get_or, All, Option, None, Some, refl, sym, ◌∙◌, ap, subst}
 use Rattle.std.specs.Prelude.{IfSome}
 use Rattle.std.proofs.lemmas.List.Elements.{All-get_or, All-weaker}
 use Rattle.std.proofs.lemmas.Option.{slice_get_within, unwrap_or-slice_get}
 use Rattle.std.specs.Option.{unwrap_or}
 use Rattle.pg_word.specs.Psw.{cause_number}
 use Rattle.pg_ast.specs.declared.tree.Desc.{Desc}
-use Rattle.pg_meaning.specs.States.{State, IsState, window, put_back}
+use Rattle.pg_meaning.specs.States.{State, window, put_back}
 use Rattle.pg_meaning.specs.Steps.{Ending, ending, left_by, step, trapped}
-use Rattle.pg_valid.specs.Valid.{IsValid}
 use Rattle.pg_hw.specs.Machinery.{Machinery}
 use Rattle.pg_hw.specs.Tallies.{after_steps}
 use Rattle.pg_hw.specs.Bursts.{untrapped_at, BottomRises}

@@ -1,18 +1,17 @@
 -- Counts, step by step.
-use Rattle.std.proofs.Common.{inl, inr, ◌⊎◌, eqb, get_or-set_same, get_or-set_other, ◌≡◌, ◌≢◌, ℕ, zero, suc, ◌+◌, ◌<◌, ◌≤◌, ◌==◌, Bool, true, false, List, [], ◌∷◌, length, get_or, set, Option, None, Some, refl, sym, ◌∙◌, ap, subst, arith}
+use Rattle.std.proofs.Common.{inl, inr, ◌⊎◌, eqb, get_or-set_same, get_or-set_other, ◌≡◌, ◌≢◌, ℕ, suc, ◌+◌, ◌<◌, ◌≤◌, ◌==◌, Bool, true, false, List, length, get_or, set, Option, None, Some, sym, ◌∙◌, ap, subst, arith}
 use Rattle.std.specs.List.{sum_by}
 use Rattle.std.proofs.lemmas.Bool.Decides.{eqb_tells}
 use Rattle.std.proofs.lemmas.List.Sums.{sum_by-set, get_or-le-sum_by}
 use Rattle.pg_word.specs.declared.cause.Cause.{Cause}
 use Rattle.pg_word.specs.declared.cause.Cause.TheVariants.{Memory, Trap, NoPattern}
 use Rattle.pg_ast.specs.declared.tree.Desc.{Desc}
-use Rattle.pg_meaning.specs.States.{State, window}
-use Rattle.pg_meaning.specs.Steps.{ending, steps}
+use Rattle.pg_meaning.specs.States.{State}
+use Rattle.pg_meaning.specs.Steps.{steps}
 use Rattle.pg_hw.specs.Bursts.{one_if}
 use Rattle.pg_interp.specs.declared.effect.Write.{Write}
-use Rattle.pg_interp.specs.Outcomes.{number_at}
 use Rattle.pg_traced.specs.Counting.{among, is_number, is_none, is_cause, fetches, fetches_none, traps_by, IsTally, Counted}
-use Rattle.pg_traced.specs.Tells.{Tells, cause_of}
+use Rattle.pg_traced.specs.Tells.{Tells}
 use Rattle.pg_traced.specs.declared.stepped.Stepped.{Stepped}
 use Rattle.pg_traced.specs.declared.tally.Tally.{Tally}
 

@@ -1,9 +1,7 @@
-use Rattle.std.proofs.Common.{◌≡◌, length, refl, sym, ◌∙◌, ap, subst, arith}
+use Rattle.std.proofs.Common.{length, sym, ◌∙◌, ap, subst, arith}
 use Rattle.std.specs.Prelude.{IfOk, OnOk}
-use Rattle.std.proofs.lemmas.Result.{on_ok_weaker}
 use Rattle.pg_hw.specs.Machinery.{Machinery}
 use Rattle.pg_meaning.specs.States.{IsState}
-use Rattle.pg_meaning.specs.Steps.{power_on}
 use Rattle.pg_valid.proofs.StepSound.{power_on-state}
 use Rattle.pg_traced.specs.Counting.{IsTally}
 use Rattle.pg_traced.specs.Handling.{AreShares}

@@ -1,6 +1,6 @@
 use Rattle.std.proofs.Common.{length, get_or, subst, ap, sym, ◌∙◌, refl}
 use Rattle.std.proofs.lemmas.List.{get_or-replicate, length-replicate}
-use Rattle.std.specs.Prelude.{ℕ, ◌<◌, ◌≡◌}
+use Rattle.std.specs.Prelude.{ℕ, ◌<◌}
 use Rattle.pg_traced.specs.Counting.{among}
 use Rattle.pg_traced.proofs.tally.Tally.new.Goals as goal
 
