@@ -5,7 +5,7 @@
 
 ghost use Rattle.std.specs.Prelude.{◌≡◌, ◌++◌, OnOk};
 ghost use Rattle.std.specs.Fmt.{decimal, signed_decimal};
-ghost use Rattle.pg_dimacs.specs.Dimacs.{literals_text, clauses_text, greatest_in, greatest_variable, head_text, dimacs_text};
+ghost use Rattle.pg_formula.specs.Dimacs.{literals_text, clauses_text, greatest_in, greatest_variable, head_text, dimacs_text};
 
 use pg_cnf::{Clause, Cnf};
 use pg_text::dec;
@@ -56,7 +56,7 @@ fn push_clauses(text: &mut Vec<u8>, clauses: &[Clause]) -> Result<(), AllocError
 
 /// Pushes literals, with a space behind each. The error is want of memory.
 #[tactic(auto, unfolding(crate::specs::Dimacs::literals_text))]
-fn push_literals(text: &mut Vec<u8>, literals: &[i32]) -> Result<(), AllocError>
+pub fn push_literals(text: &mut Vec<u8>, literals: &[i32]) -> Result<(), AllocError>
     ensures { OnOk result (text.new.items ≡ text.old.items ++ literals_text literals.now) }
 {
     for literal in literals {

@@ -3,7 +3,7 @@ use Rattle.std.proofs.Common.{◌≡◌, ℕ, ◌+◌, ◌<◌, List, [], ◌∷
 use Rattle.std.specs.Prelude.{max, ℤ, pos, nat_abs, Result, Ok, Err, IfOk}
 use Rattle.std.specs.Fmt.{signed_decimal}
 use Rattle.std.proofs.lemmas.List.{drop_more}
-use Rattle.pg_dimacs.specs.Dimacs.{literals_text, clauses_text, greatest_in, greatest_variable}
+use Rattle.pg_formula.specs.Dimacs.{literals_text, clauses_text, greatest_in, greatest_variable}
 
 nested : (x a b c : List ℕ) → ((x ++ a) ++ b) ++ c ≡ x ++ (a ++ (b ++ c))
 nested x a b c = simp append_assoc

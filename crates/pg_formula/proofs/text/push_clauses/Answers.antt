@@ -1,7 +1,7 @@
 use Rattle.std.proofs.Common.{◌++◌}
-use Rattle.pg_dimacs.specs.Dimacs.{clauses_text}
-use Rattle.pg_dimacs.proofs.Texts.{clauses_next}
-use Rattle.pg_dimacs.proofs.text.push_clauses.Goals as goal
+use Rattle.pg_formula.specs.Dimacs.{clauses_text}
+use Rattle.pg_formula.proofs.Texts.{clauses_next}
+use Rattle.pg_formula.proofs.text.push_clauses.Goals as goal
 
 pub loop-clause-preserved : goal.loop-clause-preserved
 loop-clause-preserved c =

@@ -1,6 +1,6 @@
-use Rattle.pg_dimacs.specs.Dimacs.{greatest_variable}
-use Rattle.pg_dimacs.proofs.Texts.{greatest_variable_next}
-use Rattle.pg_dimacs.proofs.text.greatest_variable.Goals as goal
+use Rattle.pg_formula.specs.Dimacs.{greatest_variable}
+use Rattle.pg_formula.proofs.Texts.{greatest_variable_next}
+use Rattle.pg_formula.proofs.text.greatest_variable.Goals as goal
 
 pub loop-clause-preserved : goal.loop-clause-preserved
 loop-clause-preserved c =

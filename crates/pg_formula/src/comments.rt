@@ -3,7 +3,7 @@
 //! Each line of gates has the literals of their variables from bit 0 up: `0` and `1` are constants, and `-` stands before
 //! the variable of a gate that is negated.
 
-use crate::request::Request;
+use crate::question::Names;
 use crate::text::push_number;
 use pg_ask::{Asked, Unknowns};
 use pg_cells::Cell;
@@ -14,12 +14,12 @@ use std::alloc::AllocError;
 /// Pushes all lines of comment. The error is want of memory.
 pub fn push_comments(
     text: &mut Vec<u8>,
-    request: &Request<'_>,
+    names: &Names<'_>,
     asked: &Asked<'_>,
 ) -> Result<(), AllocError> {
-    push_name(text, "description", request.file)?;
-    push_name(text, "instruction", request.instr)?;
-    push_name(text, "kind", request.word)?;
+    push_name(text, "description", names.file)?;
+    push_name(text, "instruction", names.instr)?;
+    push_name(text, "kind", names.word)?;
     push_unknowns(text, asked.unknowns())?;
     push_line(text, "usable", asked.usable())?;
     let mut number = 0u64;

@@ -1,8 +1,8 @@
 use Rattle.std.proofs.Common.{rules, get_or, pos, w32, FitsSigned}
 use Rattle.std.proofs.lemmas.Int.{to_z-of_z}
-use Rattle.pg_dimacs.specs.Dimacs.{greatest_in}
-use Rattle.pg_dimacs.proofs.Texts.{greatest_in_next}
-use Rattle.pg_dimacs.proofs.text.greatest_in.Goals as goal
+use Rattle.pg_formula.specs.Dimacs.{greatest_in}
+use Rattle.pg_formula.proofs.Texts.{greatest_in_next}
+use Rattle.pg_formula.proofs.text.greatest_in.Goals as goal
 
 pub loop-literal-preserved : goal.loop-literal-preserved
 loop-literal-preserved c =

@@ -1,8 +1,8 @@
 use Rattle.std.proofs.Common.{rules, get_or, pos, w32, FitsSigned, ◌++◌}
 use Rattle.std.proofs.lemmas.Int.{to_z-of_z}
-use Rattle.pg_dimacs.specs.Dimacs.{literals_text}
-use Rattle.pg_dimacs.proofs.Texts.{literals_next}
-use Rattle.pg_dimacs.proofs.text.push_literals.Goals as goal
+use Rattle.pg_formula.specs.Dimacs.{literals_text}
+use Rattle.pg_formula.proofs.Texts.{literals_next}
+use Rattle.pg_formula.proofs.text.push_literals.Goals as goal
 
 pub loop-literal-preserved : goal.loop-literal-preserved
 loop-literal-preserved c =
