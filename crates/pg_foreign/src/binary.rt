@@ -4,6 +4,8 @@
 //! number 2 v for variable v and 2 v + 1 for its negation, seven bits a byte, the low ones first, with the highest bit set in each
 //! byte but the last.
 
+ghost use Rattle.std.specs.Prelude.{◌<◌, ◌≤◌, length, OnSome};
+
 use crate::bytes::Bytes;
 use crate::fault::ForeignFault;
 use crate::record::{Act, Place, Record, RecordList};
@@ -31,7 +33,9 @@ pub fn read_binary(alloc: Global, bytes: &[u8]) -> Result<RecordList, ForeignFau
 }
 
 /// The literals up to the byte 0 that ends them, or none where they are none. The error is want of memory.
-fn literals(alloc: Global, bytes: &mut Bytes<'_>) -> Result<Option<LitList>, AllocError> {
+fn literals(alloc: Global, bytes: &mut Bytes<'_>) -> Result<Option<LitList>, AllocError>
+    ensures rest { length bytes.new.left.now ≤ length bytes.old.left.now }
+{
     let mut literals = LitList::new(alloc);
     while let Some(code) = code(bytes) {
         if code == 0 {
@@ -52,11 +56,14 @@ fn number_of(code: u64) -> i64 {
 }
 
 /// The code at the head of some bytes, below 2^35: none where they have no end of one.
-fn code(bytes: &mut Bytes<'_>) -> Option<u64> {
+fn code(bytes: &mut Bytes<'_>) -> Option<u64>
+    ensures shorter { OnSome result (length bytes.new.left.now < length bytes.old.left.now) }
+    ensures rest { length bytes.new.left.now ≤ length bytes.old.left.now }
+{
     let mut code = 0;
     for place in 0..5u32 {
         let byte = bytes.byte()?;
-        code += u64::from(byte & 0x7f) << (7 * place);
+        code |= u64::from(byte & 0x7f) << (7 * place);
         if byte < 0x80 {
             return Some(code);
         }

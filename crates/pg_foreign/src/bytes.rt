@@ -1,6 +1,6 @@
 //! A file, part by part.
 
-ghost use Rattle.std.specs.Prelude.{◌<◌, length, OnSome};
+ghost use Rattle.std.specs.Prelude.{◌<◌, ◌≤◌, length, OnSome};
 
 /// What is left of a file.
 #[derive(Clone, Copy)]
@@ -12,6 +12,7 @@ impl<'a> Bytes<'a> {
     /// The next byte.
     pub fn byte(&mut self) -> Option<u8>
         ensures shorter { OnSome result (length self.new.left.now < length self.old.left.now) }
+        ensures rest { length self.new.left.now ≤ length self.old.left.now }
     {
         match self.left {
             [] => None,

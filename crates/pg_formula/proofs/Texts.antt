@@ -1,8 +1,10 @@
 -- Texts of clauses, step by step.
 use Rattle.std.proofs.Common.{◌≡◌, ℕ, ◌+◌, ◌<◌, List, [], ◌∷◌, ◌++◌, length, drop, get_or, append_assoc, arith, ap, sym, ◌∙◌}
 use Rattle.std.specs.Prelude.{max, ℤ, pos, nat_abs, Result, Ok, Err, IfOk}
-use Rattle.std.specs.Fmt.{signed_decimal}
+use Rattle.std.specs.Fmt.{decimal, signed_decimal}
 use Rattle.std.proofs.lemmas.List.{drop_more}
+use Rattle.pg_proof.specs.declared.step.Act.{Act}
+use Rattle.pg_formula.specs.Lrat.{numbers_text, acts_text}
 use Rattle.pg_formula.specs.Dimacs.{literals_text, clauses_text, greatest_in, greatest_variable}
 
 nested : (x a b c : List ℕ) → ((x ++ a) ++ b) ++ c ≡ x ++ (a ++ (b ++ c))
@@ -47,3 +49,19 @@ greatest_variable_next most whole cs i c lt e h =
 pub if_ok : {T E : Type 0} {P Q : T → Type 0} (r : Result T E) → ((x : T) → P x → Q x) → IfOk r P → IfOk r Q
 if_ok (Ok x) f h = f x h
 if_ok (Err e) f h = h
+
+-- a number more
+pub numbers_next : (text whole : List ℕ) (ns : List ℕ) (i : ℕ) (n : ℕ) → i < length ns → n ≡ get_or ns i 0 → text ++ numbers_text (drop i ns) ≡ whole →
+    ((text ++ decimal n) ++ 32 ∷ []) ++ numbers_text (drop (i + 1) ns) ≡ whole
+unfolding numbers_text
+numbers_next text whole ns i n lt e h =
+    let split : drop i ns ≡ n ∷ drop (i + 1) ns = drop_more ns i 0 lt ∙ ap (λ u. u ∷ drop (i + 1) ns) (sym e) in
+    nested text (decimal n) (32 ∷ []) (numbers_text (drop (i + 1) ns)) ∙ ap (λ y. text ++ numbers_text y) (sym split) ∙ h
+
+-- a line more of a log
+pub acts_next : (text line whole : List ℕ) (acts : List Act) (i : ℕ) (act : Act) (last next : ℕ) → i < length acts → act ≡ get_or acts i act →
+    acts_text last (act ∷ drop (i + 1) acts) ≡ line ++ acts_text next (drop (i + 1) acts) → text ++ acts_text last (drop i acts) ≡ whole →
+    (text ++ line) ++ acts_text next (drop (i + 1) acts) ≡ whole
+acts_next text line whole acts i act last next lt e one h =
+    let split : drop i acts ≡ act ∷ drop (i + 1) acts = drop_more acts i act lt ∙ ap (λ u. u ∷ drop (i + 1) acts) (sym e) in
+    append_assoc text line (acts_text next (drop (i + 1) acts)) ∙ ap (λ y. text ++ y) (sym one) ∙ ap (λ y. text ++ acts_text last y) (sym split) ∙ h

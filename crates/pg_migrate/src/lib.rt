@@ -15,4 +15,4 @@ mod logs;
 mod making;
 mod migrating;
 
-pub use migrating::{Migrated, migrate};
+pub use migrating::{Migrated, migrate, migrate_of};

@@ -1,7 +1,8 @@
 //! Literals in order: ascending by variable, none twice.
 
-ghost use Rattle.std.specs.Prelude.{◌≡◌, ◌<◌, ◌≤◌, ◌^◌, IfOk, IfSome, nat_abs, IsTrue};
+ghost use Rattle.std.specs.Prelude.{◌≡◌, ◌<◌, ◌^◌, IfOk, IfSome};
 ghost use Rattle.pg_cnf.specs.Literals.{IsClause};
+ghost use Rattle.pg_proof.specs.Refutation.{are_ascending};
 
 use pg_cnf::Clause;
 use pg_proof::LitList;
@@ -34,6 +35,7 @@ fn key(literal: i32) -> u64 {
 
 /// The clause of these literals, where they are of variables up to a greatest and strictly ascend by variable. The error is want
 /// of memory.
+#[tactic(auto, using(crate::proofs::OrderLemmas::ascending_clause))]
 pub fn clause_of(
     alloc: Global,
     variables: u32,
@@ -42,15 +44,15 @@ pub fn clause_of(
     requires few { variables < 2 ^ 31 }
     ensures clause { IfOk result (λ found. IfSome found (λ clause. IsClause variables clause)) }
 {
-    if !is_clause(variables, literals) {
+    if !are_ascending(variables, literals) {
         return Ok(None);
     }
     Ok(Some(Clause::new(SmallVec::from_slice(alloc, literals)?)))
 }
 
-/// Whether literals are of variables up to a greatest, and strictly ascend by variable.
-fn is_clause(variables: u32, literals: &[i32]) -> bool
-    ensures { IsTrue result → IsClause variables literals.now }
+/// Whether literals are of variables up to a greatest, and strictly ascend by variable from 1 on.
+fn are_ascending(variables: u32, literals: &[i32]) -> bool
+    ensures { result ≡ are_ascending variables 0 literals.now }
 {
     let mut above = 0;
     for literal in literals {
