@@ -9,10 +9,13 @@
 //! # Modules
 //!
 //! - `logs`: the logs that stand in a text. `making`: one finding, of its mark and its log. `migrating`: all of a certificate.
+//! - `families`: the same of either family.
 #![tactic(auto)]
 
+mod families;
 mod logs;
 mod making;
 mod migrating;
 
-pub use migrating::{Migrated, migrate, migrate_of};
+pub use families::migrate_of;
+pub use migrating::{Migrated, migrate};

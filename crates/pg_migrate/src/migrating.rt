@@ -2,7 +2,7 @@
 
 ghost use Rattle.std.specs.Prelude.{◌≡◌, ◌*◌, ℕ, length, map, Err, IfOk};
 ghost use Rattle.pg_type.specs.declared.kind.Kind.{Kind as Kinds};
-ghost use Rattle.pg_cert.specs.declared.cert.Family.TheVariants.{Plain, Hybrid};
+ghost use Rattle.pg_cert.specs.declared.cert.Family.TheVariants.{Plain};
 ghost use Rattle.pg_cert.specs.Verdicts.{mark_of};
 ghost use Rattle.pg_verify.specs.declared.fault.VerifyFault.TheVariants.{Missing};
 ghost use Rattle.pg_verify.specs.Feeding.{verified_whole, IsReported, IsAnswer};
@@ -14,7 +14,7 @@ use crate::logs::{LogList, logs_of};
 use crate::making::finding;
 use pg_cert::{Cert, Family, FindingList, Mark, Report, instr_of, kind_of};
 use pg_machine::Machine;
-use pg_verify::{CERT_BYTES, Verifier, VerifyFault, verify};
+use pg_verify::{VerifyFault, verify};
 use std::alloc::{AllocError, Global};
 
 /// A certificate made anew, and what is kept of the one before.
@@ -50,7 +50,7 @@ fn findings(
 }
 
 /// The certificate of a text of a family that was taken, with this report, made anew. The error is want of memory.
-fn made_anew(
+pub fn made_anew(
     alloc: Global,
     machine: &Machine,
     family: Family,
@@ -91,53 +91,6 @@ pub fn migrate(alloc: Global, machine: &Machine, bytes: &[u8]) -> Result<Migrate
 {
     match verify(alloc, machine, bytes) {
         Ok(report) => Ok(made_anew(alloc, machine, Family::Plain, bytes, report)?),
-        Err(fault) => Err(fault),
-    }
-}
-
-/// The same of a certificate in which the kinds of a family are asked about.
-pub fn migrate_of(
-    alloc: Global,
-    machine: &Machine,
-    family: Family,
-    bytes: &[u8],
-) -> Result<Migrated, VerifyFault>
-    ensures migrated { IfOk result (λ m. IsMigrated machine.now.desc family bytes.now m.cert) }
-    ensures answer { IsAnswer (verified_whole machine.now.desc family bytes.now) (report_told result) }
-    ensures marks { IfOk result (λ m. m.report.marks ≡ map mark_of m.cert.findings) }
-    ensures family { IfOk result (λ m. m.report.family ≡ m.cert.family) }
-{
-    match report(alloc, machine, family, bytes) {
-        Ok(report) => Ok(made_anew(alloc, machine, family, bytes, report)?),
-        Err(fault) => Err(fault),
-    }
-}
-
-/// The report of a whole text of a family, or why it is refused.
-fn report(
-    alloc: Global,
-    machine: &Machine,
-    family: Family,
-    bytes: &[u8],
-) -> Result<Report, VerifyFault>
-    ensures { IsAnswer (verified_whole machine.now.desc family bytes.now) result }
-{
-    match family {
-        Family::Plain => verify(alloc, machine, bytes),
-        Family::Hybrid => hybrid_report(alloc, machine, bytes),
-    }
-}
-
-/// The same of the kinds of Theorem 3.
-fn hybrid_report(alloc: Global, machine: &Machine, bytes: &[u8]) -> Result<Report, VerifyFault>
-    ensures { IsAnswer (verified_whole machine.now.desc Hybrid bytes.now) result }
-{
-    if bytes.len() > CERT_BYTES as usize {
-        return Err(VerifyFault::Long);
-    }
-    let mut verifier = Verifier::hybrid(alloc, machine);
-    match verifier.feed(bytes) {
-        Ok(()) => verifier.finish(),
         Err(fault) => Err(fault),
     }
 }

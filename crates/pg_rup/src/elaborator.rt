@@ -211,8 +211,16 @@ impl Elaborator {
         Ok(hints)
     }
 
-    /// Watches anew the clauses that are not removed, without those that have a literal that is true for good.
+    /// Watches anew the clauses that are not removed.
     fn renew(&mut self) -> Result<(), RupFault> {
+        self.held = self.renewed()?;
+        self.root = 0;
+        self.settle()
+    }
+
+    /// The clauses that are not removed, without those that have a literal that is true for good; and those of one such literal.
+    /// The error is want of memory.
+    fn renewed(&self) -> Result<Held, AllocError> {
         let mut held = Held::new(self.alloc, self.held.watches.variables())?;
         for literal in self.held.watches.trail() {
             if let Some(number) = self.units.number(*literal) {
@@ -220,15 +228,18 @@ impl Elaborator {
             }
         }
         for place in 0..self.held.len() {
-            let Some((entry, literals)) = self.held.left_at(place) else {
-                continue;
-            };
-            if self.true_literal(literals).is_none() {
-                held.add(self.alloc, literals, entry.number, entry.id)?;
-            }
+            self.keep(place, &mut held)?;
         }
-        self.held = held;
-        self.root = 0;
-        self.settle()
+        Ok(held)
+    }
+
+    /// Keeps the clause at a place, where it is not removed and has no literal that is true. The error is want of memory.
+    fn keep(&self, place: usize, held: &mut Held) -> Result<(), AllocError> {
+        match self.held.left_at(place) {
+            Some((entry, literals)) if self.true_literal(literals).is_none() => {
+                held.add(self.alloc, literals, entry.number, entry.id)
+            }
+            _ => Ok(()),
+        }
     }
 }

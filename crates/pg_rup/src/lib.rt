@@ -30,4 +30,5 @@ mod sums;
 mod units;
 
 pub use fault::RupFault;
+pub use ordered::clause_of;
 pub use proving::log_of_proof;
