@@ -1,77 +1,52 @@
 //! What another solver wrote, made a finding.
 
+ghost use Rattle.std.specs.Prelude.{◌≡◌, slice_get, Some, IfOk};
+ghost use Rattle.pg_ast.specs.declared.tree.Instr.{Instr};
+ghost use Rattle.pg_imported.specs.Imported.{IsRight};
+
 use crate::stop::{ProofStop, Stop};
 use pg_ask::Asked;
 use pg_cert::Finding;
-use pg_cnf::{Clause, Cnf};
-use pg_foreign::{Foreign, read};
-use pg_imported::{refuted, shown};
+use pg_foreign::{Foreign, Record, read};
+use pg_imported::{assignment_of, first_false, refuted, shown};
 use pg_rup::log_of_proof;
-use std::alloc::{AllocError, Global};
+use std::alloc::Global;
 
 /// The finding of a question that the bytes say.
-pub fn finding_of(alloc: Global, asked: &Asked<'_>, bytes: &[u8]) -> Result<Finding, Stop> {
-    match read(alloc, bytes)? {
-        Foreign::Proof(records) => {
-            let log = log_of_proof(alloc, asked.cnf(), records.as_slice())?;
-            Ok(refuted(alloc, asked, &log)?)
-        }
-        Foreign::Model(literals) => shown_by(alloc, asked, literals.as_slice()),
+pub fn finding_of(alloc: Global, asked: &Asked<'_>, bytes: &[u8]) -> Result<Finding, Stop>
+    ensures { IfOk result (λ f. (i : Instr) → slice_get asked.now.machine.now.desc.instrs asked.now.instr ≡ Some i → IsRight asked.now.cnf.clauses asked.now.machine.now.desc i asked.now.kind f) }
+{
+    match read(alloc, bytes) {
+        Ok(Foreign::Proof(records)) => refuted_by(alloc, asked, records.as_slice()),
+        Ok(Foreign::Model(literals)) => shown_by(alloc, asked, literals.as_slice()),
+        Err(fault) => Err(Stop::from(fault)),
+    }
+}
+
+/// The finding of a proof.
+fn refuted_by(alloc: Global, asked: &Asked<'_>, records: &[Record]) -> Result<Finding, Stop>
+    ensures { IfOk result (λ f. (i : Instr) → slice_get asked.now.machine.now.desc.instrs asked.now.instr ≡ Some i → IsRight asked.now.cnf.clauses asked.now.machine.now.desc i asked.now.kind f) }
+{
+    match log_of_proof(alloc, asked.cnf(), records) {
+        Ok(log) => match refuted(alloc, asked, &log) {
+            Ok(finding) => Ok(finding),
+            Err(_) => Err(Stop::Memory),
+        },
+        Err(fault) => Err(Stop::from(fault)),
     }
 }
 
 /// The finding of an assignment that makes these literals true.
-fn shown_by(alloc: Global, asked: &Asked<'_>, literals: &[i32]) -> Result<Finding, Stop> {
+fn shown_by(alloc: Global, asked: &Asked<'_>, literals: &[i32]) -> Result<Finding, Stop>
+    ensures { IfOk result (λ f. (i : Instr) → slice_get asked.now.machine.now.desc.instrs asked.now.instr ≡ Some i → IsRight asked.now.cnf.clauses asked.now.machine.now.desc i asked.now.kind f) }
+{
     let cnf = asked.cnf();
-    let assignment = assignment_of(alloc, cnf, literals)?;
+    let assignment = assignment_of(alloc, cnf.variables, literals)?;
     match first_false(assignment.as_slice(), cnf.clauses.as_slice()) {
-        Some(clause) => Err(Stop::Proof(ProofStop::False(clause as u64 + 1))),
-        None => Ok(shown(alloc, asked, assignment.as_slice())?),
+        Some(clause) => Err(Stop::Proof(ProofStop::False(clause))),
+        None => match shown(alloc, asked, assignment.as_slice()) {
+            Ok(finding) => Ok(finding),
+            Err(_) => Err(Stop::Memory),
+        },
     }
-}
-
-/// The values of the variables in order, where these literals are true; variables that they do not name are false, and others than
-/// those of the question are passed over. The error is want of memory.
-fn assignment_of(alloc: Global, cnf: &Cnf, literals: &[i32]) -> Result<Vec<bool>, AllocError> {
-    let mut values = vec![in alloc; false; cnf.variables as usize]?;
-    for literal in literals {
-        let variable = literal.unsigned_abs() as usize;
-        if 0 < variable && variable <= values.len() {
-            values[variable - 1] = *literal > 0;
-        }
-    }
-    Ok(values)
-}
-
-/// The place of the first clause that is not true under an assignment.
-fn first_false(assignment: &[bool], clauses: &[Clause]) -> Option<usize> {
-    for (place, clause) in clauses.iter().enumerate() {
-        if !is_true(assignment, clause.lits()) {
-            return Some(place);
-        }
-    }
-    None
-}
-
-/// Whether a literal of a clause is true under an assignment.
-fn is_true(assignment: &[bool], literals: &[i32]) -> bool {
-    for literal in literals {
-        if literal_is_true(assignment, *literal) {
-            return true;
-        }
-    }
-    false
-}
-
-/// Whether a literal is true under an assignment. Past its end variables are false.
-fn literal_is_true(assignment: &[bool], literal: i32) -> bool {
-    let variable = literal.unsigned_abs() as usize;
-    if variable == 0 {
-        return false;
-    }
-    let value = match assignment.get(variable - 1) {
-        Some(value) => *value,
-        None => false,
-    };
-    value == (literal > 0)
 }

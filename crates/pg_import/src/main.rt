@@ -13,6 +13,8 @@
 //! words are read in `request`, and the files in `load`. Nothing that `pgv` does stands on this program.
 #![tactic(auto)]
 
+ghost use Rattle.std.specs.Prelude.{◌<◌, length, IfSome};
+
 mod answer;
 mod load;
 mod making;
@@ -20,12 +22,14 @@ mod request;
 mod stop;
 
 use crate::load::{certificate, machine, proof};
-use crate::making::{Written, made};
+use crate::making::{Written, written};
 use crate::request::{Request, asked_by};
 use crate::stop::Stop;
 use pg_edge::{Shelf, Sink};
 use pg_host::{DirShelf, StdSink};
 use pg_judged::tell_verdict;
+use pg_machine::Machine;
+use pg_migrate::Migrated;
 use pg_report::put_text;
 use std::alloc::{AllocError, Global};
 use std::env;
@@ -66,10 +70,25 @@ fn import<F: Shelf, S: Sink>(
 ) -> Result<u8, Stop> {
     let request = asked_by(words).ok_or(Stop::Words)?;
     let machine = machine(alloc, shelf, &request)?;
-    let migrated = certificate(alloc, shelf, &machine, &request)?;
+    let migrated = match certificate(alloc, shelf, &machine, &request) {
+        Ok(migrated) => migrated,
+        Err(stop) => return Err(stop),
+    };
+    let instr = find(&machine, request.instr).ok_or(Stop::Words)?;
     let bytes = proof(alloc, shelf, &request)?;
-    let made = made(alloc, machine, migrated, &request, bytes.as_slice())?;
-    save(shelf, out, &request, &made)
+    let Migrated { report: _, cert } = migrated;
+    let new = written(alloc, machine, cert, instr, &request, bytes.as_slice())?;
+    save(shelf, out, &request, &new)
+}
+
+/// The number of the instruction of a name.
+fn find(machine: &Machine, name: &str) -> Option<usize>
+    ensures { IfSome result (λ k. k < length machine.now.desc.instrs) }
+{
+    match machine.find(name) {
+        Some(instr) if instr < machine.count() => Some(instr),
+        _ => None,
+    }
 }
 
 /// Saves the new certificate, and tells what it is.
@@ -77,11 +96,11 @@ fn save<F: Shelf, S: Sink>(
     shelf: &mut F,
     out: &mut S,
     request: &Request<'_>,
-    made: &Written,
+    new: &Written,
 ) -> Result<u8, Stop> {
     shelf
-        .save(request.file, made.text.as_slice())
+        .save(request.file, new.text.as_slice())
         .map_err(|_| Stop::Output)?;
-    put_text(out, made.line.as_bytes()).map_err(|_| Stop::Output)?;
-    Ok(tell_verdict(out, &made.judged).code())
+    put_text(out, new.line.as_bytes()).map_err(|_| Stop::Output)?;
+    Ok(tell_verdict(out, &new.judged).code())
 }

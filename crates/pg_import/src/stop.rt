@@ -33,8 +33,8 @@ pub enum ProofStop {
     Form(ForeignFault),
     /// It is a proof that does not refute the question.
     Rup(RupFault),
-    /// It is an assignment, and the question's clause of this number, from 1, is not true under it.
-    False(u64),
+    /// It is an assignment, and the question's clause at this place, from 0, is not true under it.
+    False(usize),
 }
 
 impl From<AllocError> for Stop {
@@ -118,7 +118,8 @@ impl ProofStop {
             ProofStop::Rup(RupFault::Open) => whole(alloc, "the empty clause is not reached"),
             ProofStop::Rup(RupFault::Unchecked) => whole(alloc, "the checker refuses the log"),
             ProofStop::Rup(RupFault::Memory) => Err(AllocError),
-            ProofStop::False(clause) => {
+            ProofStop::False(place) => {
+                let clause = place.saturating_add(1);
                 format!(in alloc; "proof: clause {clause} is not true under the values\n")
             }
         }

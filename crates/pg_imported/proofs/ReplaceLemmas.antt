@@ -1,8 +1,8 @@
 -- A certificate with one finding exchanged for a right one is valid.
 use Rattle.std.proofs.Common.{◌≡◌, ℕ, ◌+◌, ◌*◌, ◌<◌, ◌⊎◌, inl, inr, List, [], ◌∷◌, ◌++◌, length, map, All, Some, refl, sym, ap, subst, ◌∙◌, arith}
 use Rattle.std.specs.Prelude.{slice_get, slice_set}
-use Rattle.std.proofs.lemmas.List.{length-set}
-use Rattle.std.proofs.lemmas.List.Elements.{All-cons, All-set, All-tail, All-append}
+use Rattle.std.proofs.lemmas.List.{length-set, length-map}
+use Rattle.std.proofs.lemmas.List.Elements.{All-set, All-tail, All-append, All-map, All-weaker}
 use Rattle.pg_ast.specs.declared.tree.Instr.{Instr}
 use Rattle.pg_ast.specs.declared.tree.Desc.{Desc}
 use Rattle.pg_meaning.specs.States.{shape_of}
@@ -11,14 +11,17 @@ use Rattle.pg_valid.proofs.ValidFacts.{IsShape-of_valid}
 use Rattle.pg_ask.specs.Question.{question}
 use Rattle.pg_cert.specs.declared.cert.Family.{Family}
 use Rattle.pg_cert.specs.declared.cert.Finding.{Finding}
+use Rattle.pg_cert.specs.declared.cert.Finding.TheVariants as finding
+use Rattle.pg_cert.specs.declared.report.Report.{Report}
 use Rattle.pg_cert.specs.declared.cert.Cert.{Cert}
 use Rattle.pg_cert.specs.declared.line.Heading.{Heading}
 use Rattle.pg_cert.specs.declared.line.Line.TheVariants.{First, End}
 use Rattle.pg_cert.specs.Lines.{IsLine}
-use Rattle.pg_cert.specs.Verdicts.{kind_count}
-use Rattle.pg_cert.specs.Texts.{AreListed, instr_of, kind_of, heading_of, findings_lines, cert_lines}
+use Rattle.pg_cert.specs.Verdicts.{kind_count, mark_of}
+use Rattle.pg_cert.specs.Texts.{AreListed, instr_of, kind_of, heading_of, findings_lines, cert_lines, DoFindingWordsFit}
 use Rattle.pg_cert.specs.Validity.{IsValidFinding, IsValidCert}
-use Rattle.pg_cert.proofs.Fits.{instr_within}
+use Rattle.pg_cert.proofs.Fits.{instr_within, cert_fits}
+use Rattle.pg_report.specs.Verdicts.{DoMarkWordsFit}
 use Rattle.pg_verify.specs.Verified.{IsValidOf}
 use Rattle.pg_migrate.proofs.RangeLemmas.{All-front, All-back}
 use Rattle.pg_migrate.proofs.MadeLemmas.{there}
@@ -86,3 +89,22 @@ module _ (d : Desc) (valid : IsValid d) (made : Cert) (was : IsValidOf (heading_
     findings = same;
     valid = subst (λ c. IsValidOf heading d c) (λ i. record { family = sym of_family i; findings = sym same i }) valid_so;
   }
+
+mark_fits : (w : ℕ) (f : Finding) → DoFindingWordsFit w f → DoMarkWordsFit w (mark_of f)
+mark_fits w (finding.Refuted acts) h = tt
+mark_fits w (finding.Shown s t) h = h
+mark_fits w (finding.Spent k steps) h = tt
+
+-- what is kept of a valid certificate has a mark for each instruction and each kind, and the words of its states fit
+module _ (d : Desc) (made cert : Cert) (n : ℕ) (f : Finding) (h : IsReplaced d made n f cert) (report : Report) (family : report.family ≡ cert.family)
+    (marks : report.marks ≡ map mark_of cert.findings) where
+  pub marks_whole : length report.marks ≡ length d.instrs * kind_count report.family
+  marks_whole =
+      ap length marks ∙ length-map cert.findings mark_of ∙ h.valid.valid.whole ∙ ap (λ x. length d.instrs * kind_count x) (sym family)
+
+  pub marks_fit : All (DoMarkWordsFit d.word) report.marks
+  marks_fit =
+      subst (λ ms. All (DoMarkWordsFit d.word) ms) (sym marks)
+      (All-map (DoMarkWordsFit d.word) mark_of cert.findings
+      (All-weaker (DoFindingWordsFit d.word) (λ g. DoMarkWordsFit d.word (mark_of g)) (mark_fits d.word) cert.findings
+      (cert_fits (question d) (heading_of made.family) d cert h.valid.listed h.valid.valid)))

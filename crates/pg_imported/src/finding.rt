@@ -4,7 +4,6 @@ ghost use Rattle.std.specs.Prelude.{◌≡◌, ◌≤◌, ◌<◌, ℕ, true, le
 ghost use Rattle.pg_ast.specs.declared.tree.Instr.{Instr};
 ghost use Rattle.pg_cnf.specs.Truth.{clauses_true};
 ghost use Rattle.pg_proof.specs.Log.{IsClosedLog};
-ghost use Rattle.pg_proof.specs.Trimmed.{step_count};
 ghost use Rattle.pg_cert.specs.declared.cert.Finding.TheVariants.{Shown};
 ghost use Rattle.pg_cert.specs.Texts.{AreListed};
 ghost use Rattle.pg_verify.specs.Feeding.{most_bytes};
@@ -12,7 +11,7 @@ ghost use Rattle.pg_imported.specs.Imported.{IsRight};
 
 use pg_ask::{Asked, states_of};
 use pg_cert::Finding;
-use pg_proof::{Act, ActList, trim};
+use pg_proof::{ActList, trim};
 use pg_small::small;
 use pg_word::Sparse;
 use std::alloc::{AllocError, Global};
@@ -59,18 +58,4 @@ pub fn shown(
         second,
     );
     Ok(pair(one, other))
-}
-
-/// How many steps a log has.
-pub fn step_count(acts: &[Act]) -> usize
-    ensures { result ≡ step_count acts.now }
-{
-    let mut count = 0;
-    for act in acts {
-        match act {
-            Act::Add(_) => count += 1,
-            Act::Remove(_) => continue,
-        }
-    }
-    count
 }

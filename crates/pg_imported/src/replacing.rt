@@ -1,8 +1,9 @@
 //! A certificate with one finding exchanged.
 
-ghost use Rattle.std.specs.Prelude.{◌≡◌, ◌<◌, length, map, slice_set, IfOk};
+ghost use Rattle.std.specs.Prelude.{◌≡◌, ◌*◌, ◌<◌, All, length, map, slice_set, IfOk};
 ghost use Rattle.pg_cert.specs.Texts.{heading_of, cert_text};
-ghost use Rattle.pg_cert.specs.Verdicts.{mark_of};
+ghost use Rattle.pg_cert.specs.Verdicts.{kind_count, mark_of};
+ghost use Rattle.pg_report.specs.Verdicts.{DoMarkWordsFit};
 ghost use Rattle.pg_imported.specs.Imported.{IsRightAt, IsReplaced, IsOfText};
 
 use pg_cert::{Cert, Finding, Report, report_of, write};
@@ -38,6 +39,8 @@ pub fn replaced(
     ensures replaced { IfOk result (λ m. IsReplaced machine.now.desc made place finding m.cert) }
     ensures text { IfOk result (λ m. m.text.items ≡ cert_text machine.now.desc (heading_of made.family) m.cert) }
     ensures family { IfOk result (λ m. m.report.family ≡ made.family) }
+    ensures whole { IfOk result (λ m. length m.report.marks ≡ length machine.now.desc.instrs * kind_count m.report.family) }
+    ensures fit { IfOk result (λ m. All (DoMarkWordsFit machine.now.desc.word) m.report.marks) }
     ensures marks { IfOk result (λ m. m.report.marks ≡ map mark_of m.cert.findings) }
 {
     let cert = exchanged(made, place, finding);

