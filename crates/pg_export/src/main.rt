@@ -70,11 +70,7 @@ fn export<F: Shelf, S: Sink>(
 }
 
 /// The texts of the finding that the words ask for.
-fn load<F: Shelf>(
-    alloc: Global,
-    shelf: &mut F,
-    request: &Request<'_>,
-) -> Result<Texts, Stop> {
+fn load<F: Shelf>(alloc: Global, shelf: &mut F, request: &Request<'_>) -> Result<Texts, Stop> {
     let desc = name_of(alloc, request.names.file)?;
     let cert = name_of(alloc, request.cert)?;
     let machine = load_machine(alloc, &desc, shelf).map_err(|stop| Stop::Told(stop))?;

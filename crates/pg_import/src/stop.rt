@@ -112,7 +112,11 @@ impl ProofStop {
                 at(alloc, *place, "a variable that the question has not")
             }
             ProofStop::Rup(RupFault::NotImplied(place)) => {
-                at(alloc, *place, "the clause does not follow by unit propagation")
+                at(
+                    alloc,
+                    *place,
+                    "the clause does not follow by unit propagation",
+                )
             }
             ProofStop::Rup(RupFault::Many) => whole(alloc, "too many clauses"),
             ProofStop::Rup(RupFault::Open) => whole(alloc, "the empty clause is not reached"),

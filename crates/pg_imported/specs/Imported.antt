@@ -42,4 +42,3 @@ pub record IsReplaced (d : Desc) (made : Cert) (n : ℕ) (f : Finding) (cert : C
   pub there : n < length made.findings
   pub findings : cert.findings ≡ slice_set made.findings n f
   pub valid : IsValidOf (heading_of made.family) d cert
-

@@ -40,11 +40,7 @@ fn pair(first: Sparse, second: Sparse) -> Finding
 
 /// The finding of an assignment that makes all clauses of a question true: the states that it stands for, made small. The error
 /// is want of memory.
-pub fn shown(
-    alloc: Global,
-    asked: &Asked<'_>,
-    assignment: &[bool],
-) -> Result<Finding, AllocError>
+pub fn shown(alloc: Global, asked: &Asked<'_>, assignment: &[bool]) -> Result<Finding, AllocError>
     requires { clauses_true assignment.now asked.now.cnf.clauses ≡ true }
     ensures { IfOk result (λ f. (i : Instr) → slice_get asked.now.machine.now.desc.instrs asked.now.instr ≡ Some i → IsRight asked.now.cnf.clauses asked.now.machine.now.desc i asked.now.kind f) }
 {

@@ -108,8 +108,7 @@ impl Elaborator {
         if self.true_literal(literals.as_slice()).is_some() {
             return Ok(());
         }
-        self.held
-            .add(self.alloc, literals.as_slice(), number, id)?;
+        self.held.add(self.alloc, literals.as_slice(), number, id)?;
         self.settle()
     }
 

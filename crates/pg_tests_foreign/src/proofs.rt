@@ -194,7 +194,12 @@ fn files_are_told(rt: HostRuntime) -> Result<(), Fail> {
     let alloc = rt.alloc();
     let cnf = question(&rt, alloc)?;
     for row in &ROWS {
-        assert_eq!(rt; told(alloc, &cnf, row.bytes), row.told, "at {:?}", row.bytes);
+        assert_eq!(rt;
+            told(alloc, &cnf, row.bytes),
+            row.told,
+            "at {:?}",
+            row.bytes
+        );
     }
     Ok(())
 }
