@@ -9,7 +9,7 @@ bash := $(share)/bash-completion/completions
 zsh := $(share)/zsh/site-functions
 fish := $(share)/fish/vendor_completions.d
 program := crates/pgv/out/pgv
-sides := pg_explain pg_trace pg_dimacs pg_solve
+sides := pg_explain pg_trace pg_dimacs pg_solve pg_import pg_export
 
 .PHONY: help install uninstall
 help:

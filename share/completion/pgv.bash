@@ -95,6 +95,8 @@ _pgv_side() {
     pg_explain) files=".isa .cert instr kind" options="--budget --mend" least=2 ;;
     pg_trace) files=".isa .img" options="--grant --steps --cert --only-traps --counts" order=no ;;
     pg_dimacs) files=".isa instr kind" ;;
+    pg_import) files=".isa .cert instr kind - .cert" ;;
+    pg_export) files=".isa .cert instr kind" options="--cnf" least=4 ;;
     pg_solve) files=".cnf -" options="--check" least=1 ;;
     *) return ;;
   esac
@@ -117,6 +119,7 @@ _pgv_side() {
   case $value in
     --mend) _pgv_files "$word" .isa; return ;;
     --cert) _pgv_files "$word" .cert; return ;;
+    --cnf) _pgv_files "$word" .cnf; return ;;
     --*) return ;;
   esac
 
@@ -141,4 +144,4 @@ _pgv_side() {
 }
 
 complete -F _pgv pgv
-complete -F _pgv_side pg_explain pg_trace pg_dimacs pg_solve
+complete -F _pgv_side pg_explain pg_trace pg_dimacs pg_solve pg_import pg_export

@@ -3,29 +3,26 @@
 //!     pg_dimacs DESC INSTR KIND
 //!
 //! KIND is `privileged`, `control`, `mode`, `location`, `bound`, `ucontrol`, `ulocation` or `ubound`. What is written is a
-//! formula in the format DIMACS CNF, which can be true exactly where two states show the kind of the instruction: lines of
-//! comment that say what its variables stand for (`comments`), and its text (`text`). Refusals have the lines and statuses of
+//! formula in the format DIMACS CNF, which can be true exactly where two states show the kind of the instruction (`pg_formula`).
+//! Refusals have the lines and statuses of
 //! `pgv` (`stop`). The words are read in `request`, and the file in `load`. Nothing that `pgv` does stands on this program.
 #![tactic(auto)]
 
 ghost use Rattle.std.specs.Prelude.{◌≡◌, ◌<◌, length, slice_get, Some, IfSome, IfOk};
 ghost use Rattle.pg_ast.specs.declared.tree.Instr.{Instr as Instrs};
 ghost use Rattle.pg_ask.specs.Question.{question};
-ghost use Rattle.pg_dimacs.specs.Dimacs.{IsQuestionText};
+ghost use Rattle.pg_formula.specs.Dimacs.{IsQuestionText};
 
-mod comments;
 mod load;
 mod request;
 mod stop;
-mod text;
 
-use crate::comments::push_comments;
 use crate::load::load;
 use crate::request::{Request, asked_by};
 use crate::stop::Stop;
-use crate::text::push_formula;
-use pg_ask::{Asked, ask};
+use pg_ask::ask;
 use pg_edge::{Shelf, Sink};
+use pg_formula::text_of;
 use pg_host::{DirShelf, StdSink};
 use pg_machine::Machine;
 use std::alloc::{AllocError, Global};
@@ -67,8 +64,8 @@ fn show<F: Shelf, S: Sink>(
     out: &mut S,
 ) -> Result<(), Stop> {
     let request = asked_by(words).ok_or(Stop::Words)?;
-    let machine = load(alloc, shelf, request.file)?;
-    let instr = find(&machine, request.instr).ok_or(Stop::Words)?;
+    let machine = load(alloc, shelf, request.names.file)?;
+    let instr = find(&machine, request.names.instr).ok_or(Stop::Words)?;
     let text = written(alloc, &machine, instr, &request)?;
     out.put(text.as_slice()).map_err(|_| Stop::Output)
 }
@@ -94,15 +91,5 @@ fn written(
     ensures { IfOk result (λ text. (i : Instrs) → slice_get machine.now.desc.instrs instr ≡ Some i → IsQuestionText (question machine.now.desc i request.now.kind) text.items) }
 {
     let asked = ask(alloc, machine, instr, request.kind)?;
-    text_of(alloc, request, &asked)
-}
-
-/// A question as text: lines of comment, and its clauses. The error is want of memory.
-fn text_of(alloc: Global, request: &Request<'_>, asked: &Asked<'_>) -> Result<Vec<u8>, AllocError>
-    ensures { IfOk result (λ text. IsQuestionText asked.now.cnf.clauses text.items) }
-{
-    let mut text = Vec::new(alloc);
-    push_comments(&mut text, request, asked)?;
-    push_formula(&mut text, asked.cnf())?;
-    Ok(text)
+    text_of(alloc, &request.names, &asked)
 }

@@ -1,16 +1,13 @@
 //! What the words of the command line ask for.
 
+use pg_formula::Names;
 use pg_type::Kind;
 
 /// A question about one instruction of a description.
 #[derive(Clone, Copy)]
 pub struct Request<'a> {
-    /// The name of the description's file.
-    pub file: &'a str,
-    /// The name of the instruction.
-    pub instr: &'a str,
-    /// The word of the kind.
-    pub word: &'a str,
+    /// The names of the description's file, the instruction and the kind.
+    pub names: Names<'a>,
     /// The kind.
     pub kind: Kind,
 }
@@ -21,9 +18,11 @@ pub fn asked_by(words: &[String]) -> Option<Request<'_>> {
         return None;
     };
     Some(Request {
-        file: file.as_str(),
-        instr: instr.as_str(),
-        word: word.as_str(),
+        names: Names {
+            file: file.as_str(),
+            instr: instr.as_str(),
+            word: word.as_str(),
+        },
         kind: kind_of(word.as_str())?,
     })
 }

@@ -1,6 +1,6 @@
 use Rattle.std.proofs.Common.{subst}
-use Rattle.pg_dimacs.specs.Dimacs.{IsQuestionText}
-use Rattle.pg_dimacs.proofs.Texts.{if_ok}
+use Rattle.pg_formula.specs.Dimacs.{IsQuestionText}
+use Rattle.pg_formula.proofs.Texts.{if_ok}
 use Rattle.pg_dimacs.proofs.written.Goals as goal
 
 pub returns : goal.returns
