@@ -3,3 +3,4 @@ pub mod ReadLemmas
 pub mod RangeLemmas
 pub mod MadeLemmas
 pub mod KeepLemmas
+pub mod FamilyLemmas

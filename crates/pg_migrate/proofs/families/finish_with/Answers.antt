@@ -1,4 +1,4 @@
-use Rattle.pg_verify.proofs.FeedLemmas.{answered_after, refused_before}
+use Rattle.pg_migrate.proofs.FamilyLemmas.{answered_after, refused_before}
 use Rattle.pg_migrate.proofs.families.finish_with.Goals as goal
 
 pub returns-in-Ok : goal.returns-in-Ok

@@ -3,7 +3,7 @@ use Rattle.pg_cert.specs.declared.cert.Family.TheVariants.{Hybrid}
 use Rattle.pg_verify.specs.Reader.{Reader}
 use Rattle.pg_verify.specs.Taking.{then_take}
 use Rattle.pg_verify.specs.Feeding.{fed, finished, IsAnswer}
-use Rattle.pg_verify.proofs.FeedLemmas.{whole_answered}
+use Rattle.pg_migrate.proofs.FamilyLemmas.{whole_answered}
 use Rattle.pg_migrate.proofs.families.hybrid_report.Goals as goal
 
 pub returns : goal.returns
