@@ -114,9 +114,11 @@ module _ (d : Desc) (family : Family) where
       All (IsLine (shape_of d)) (cert_lines d heading (record { family = family; findings = fs })) → IsOne n f
   unfolding cert_lines
   cert_one heading n fs f e all =
-      one_in_range 0 n fs f e
+      let same : 0 + n ≡ n = omega arith in
+      subst (λ m. IsOne m f) same
+      (one_in_range 0 n fs f e
       (All-front (IsLine (shape_of d)) (findings_lines d family 0 fs) (End ∷ [])
-      (All-tail (IsLine (shape_of d)) (First heading) (findings_lines d family 0 fs ++ End ∷ []) all))
+      (All-tail (IsLine (shape_of d)) (First heading) (findings_lines d family 0 fs ++ End ∷ []) all)))
 
 -- ---- a log that refutes the empty clause, whatever is asked
 
@@ -131,7 +133,7 @@ filler = finding.Refuted (short ∷ [])
 
 filler_valid : (heading : Heading) (d : Desc) (i : Instr) (kind : Kind) → IsValidFinding nothing heading d i kind filler
 unfolding IsValidFinding fault_of walk
-filler_valid heading d i kind = (tt, All-cons (IsActUnder heading) short [] tt (All-nil (IsActUnder heading)))
+filler_valid heading d i kind = (refl, All-cons (IsActUnder heading) short [] tt (All-nil (IsActUnder heading)))
 
 filler_numbered : IsNumbered nothing (short ∷ [])
 filler_numbered = record { variables = omega arith; numbers = omega arith }

@@ -18,7 +18,7 @@ use Rattle.pg_cert.specs.declared.line.Heading.{Heading}
 use Rattle.pg_cert.specs.declared.line.Line.TheVariants.{First, End}
 use Rattle.pg_cert.specs.Lines.{IsLine}
 use Rattle.pg_cert.specs.Verdicts.{kind_count, mark_of}
-use Rattle.pg_cert.specs.Texts.{AreListed, instr_of, kind_of, heading_of, findings_lines, cert_lines, DoFindingWordsFit}
+use Rattle.pg_cert.specs.Texts.{AreListed, instr_of, kind_of, heading_of, finding_lines, findings_lines, cert_lines, DoFindingWordsFit}
 use Rattle.pg_cert.specs.Validity.{IsValidFinding, IsValidCert}
 use Rattle.pg_cert.proofs.Fits.{instr_within, cert_fits}
 use Rattle.pg_report.specs.Verdicts.{DoMarkWordsFit}
@@ -68,12 +68,14 @@ module _ (d : Desc) (valid : IsValid d) (made : Cert) (was : IsValidOf (heading_
   in_range =
       let tail = All-tail (IsLine (shape_of d)) (First heading) (findings_lines d made.family 0 made.findings ++ End ∷ []) was.in_range in
       let front = All-front (IsLine (shape_of d)) (First heading ∷ []) (findings_lines d made.family 0 made.findings ++ End ∷ []) was.in_range in
+      let from_zero : n ≡ 0 + n = omega arith in
       let inside : n < length d.instrs * kind_count made.family = (let w = was.valid.whole in omega (arith, l, w)) in
       All-append (IsLine (shape_of d)) (First heading ∷ []) (findings_lines d made.family 0 findings ++ End ∷ []) front
       (All-append (IsLine (shape_of d)) (findings_lines d made.family 0 findings) (End ∷ [])
       (set_in_range d made.family 0 n made.findings f
       (All-front (IsLine (shape_of d)) (findings_lines d made.family 0 made.findings) (End ∷ []) tail)
-      (instr_at (λ i at. right_lines d (IsShape-of_valid d valid) made.family n inside i at f right)))
+      (subst (λ m. All (IsLine (shape_of d)) (finding_lines d made.family m f)) from_zero
+      (instr_at (λ i at. right_lines d (IsShape-of_valid d valid) made.family n inside i at f right))))
       (All-back (IsLine (shape_of d)) (findings_lines d made.family 0 made.findings) (End ∷ []) tail))
 
   listed : All AreListed findings

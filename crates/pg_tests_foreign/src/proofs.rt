@@ -178,7 +178,7 @@ fn question(rt: &impl Abort, alloc: Global) -> Result<Cnf, AllocError> {
 }
 
 /// What is told of a file.
-fn told(alloc: Global, cnf: &Cnf, bytes: &[u8]) -> Told {
+fn outcome(alloc: Global, cnf: &Cnf, bytes: &[u8]) -> Told {
     match read(alloc, bytes) {
         Ok(Foreign::Proof(records)) => match log_of_proof(alloc, cnf, records.as_slice()) {
             Ok(_) => Told::Taken,
@@ -195,7 +195,7 @@ fn files_are_told(rt: HostRuntime) -> Result<(), Fail> {
     let cnf = question(&rt, alloc)?;
     for row in &ROWS {
         assert_eq!(rt;
-            told(alloc, &cnf, row.bytes),
+            outcome(alloc, &cnf, row.bytes),
             row.told,
             "at {:?}",
             row.bytes
