@@ -22,7 +22,7 @@ mod request;
 mod stop;
 
 use crate::load::{certificate, machine, proof};
-use crate::making::{Written, written};
+use crate::making::{Written, new_certificate};
 use crate::request::{Request, asked_by};
 use crate::stop::Stop;
 use pg_edge::{Shelf, Sink};
@@ -77,7 +77,7 @@ fn import<F: Shelf, S: Sink>(
     let instr = find(&machine, request.instr).ok_or(Stop::Words)?;
     let bytes = proof(alloc, shelf, &request)?;
     let Migrated { report: _, cert } = migrated;
-    let new = written(alloc, machine, cert, instr, &request, bytes.as_slice())?;
+    let new = new_certificate(alloc, machine, cert, instr, &request, bytes.as_slice())?;
     save(shelf, out, &request, &new)
 }
 

@@ -35,7 +35,7 @@ struct Taken {
 }
 
 /// The certificate that the words ask for: one that was made anew, with what another solver wrote of an instruction, by its number.
-pub fn written(
+pub fn new_certificate(
     alloc: Global,
     machine: Machine,
     cert: Cert,
@@ -50,7 +50,7 @@ pub fn written(
     let Some(place) = place_of(&cert, instr, request.kind) else {
         return Err(Stop::Words);
     };
-    let taken = match taken(alloc, &machine, &cert, instr, place, request, bytes) {
+    let taken = match taken_finding(alloc, &machine, &cert, instr, place, request, bytes) {
         Ok(taken) => taken,
         Err(stop) => return Err(stop),
     };
@@ -73,7 +73,7 @@ pub fn written(
 }
 
 /// The finding of an instruction and a kind, which stands at a place, that the bytes say.
-fn taken(
+fn taken_finding(
     alloc: Global,
     machine: &Machine,
     cert: &Cert,
