@@ -36,8 +36,8 @@ impl Course {
         })
     }
 
-    /// A step was learned from a conflict, of a question of so many clauses: says whether the search is to begin anew. The error is
-    /// want of memory.
+    /// A step was learned from a conflict, of a question of so many clauses: says whether the search begins anew. The error is want
+    /// of memory.
     pub fn end_conflict(
         &mut self,
         alloc: Global,
@@ -46,14 +46,18 @@ impl Course {
         step: &Step,
     ) -> Result<bool, AllocError> {
         let glue = self.levels.glue(watches, step.lits.as_slice());
-        let planned = self.guide.end_trace(alloc, cnf)?;
-        let anew = self.pace.count(glue);
+        let is_planned = self.guide.end_trace(alloc, cnf)?;
+        let is_due = self.pace.count(glue);
         let used = self.pace.conflicts();
         for hint in step.hints.as_slice() {
             self.use_hint(*hint, cnf.clauses.len(), used);
         }
         self.worths.push(Worth { glue, used })?;
-        Ok(planned || anew || self.pace.is_full())
+        let anew = is_planned || is_due || self.pace.is_full();
+        if anew {
+            self.guide.begin_anew();
+        }
+        Ok(anew)
     }
 
     /// A clause was a hint.

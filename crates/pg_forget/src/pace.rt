@@ -1,6 +1,6 @@
 //! When the search begins anew, and when it forgets.
 //!
-//! For the first ten thousand conflicts it begins anew as `pg_sat` does, after the numbers of Luby, Sinclair and Zuckerman (1993),
+//! For the first three thousand conflicts it begins anew as `pg_sat` does, after the numbers of Luby, Sinclair and Zuckerman (1993),
 //! and keeps all: that many clauses cost little. From then on it begins anew where the glue of late is more than it was over all
 //! (Audemard and Simon, 2012), and forgets after some thousand conflicts, each time after more.
 
@@ -8,7 +8,7 @@
 const UNIT: u64 = 100;
 
 /// How many conflicts are counted so; then also the search first forgets.
-const CALM: u64 = 10_000;
+const CALM: u64 = 3000;
 
 /// The fewest conflicts from one beginning to the next.
 const LEAST: u64 = 20;
@@ -17,9 +17,9 @@ const LEAST: u64 = 20;
 const MARGIN: u64 = 120;
 
 /// After how many conflicts the search forgets the second time, and how many are added each time.
-const STEP: u64 = 3000;
+const STEP: u64 = 2000;
 
-const MORE: u64 = 500;
+const MORE: u64 = 300;
 
 /// Conflicts, counted.
 #[derive(Drop)]

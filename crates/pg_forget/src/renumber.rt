@@ -23,7 +23,8 @@ fn number_of(numbers: &[u32], held: u32) -> u32
 fn named(alloc: Global, hints: &[u32], numbers: &[u32]) -> Result<HintList, AllocError>
     ensures { IfOk result (λ named. named ≡ map (number_in numbers.now) hints.now) }
 {
-    let mut named = Vec::new(alloc);
+    // A log keeps them, so they take no more memory than they need.
+    let mut named = Vec::with_capacity(alloc, hints.len())?;
     for hint in hints {
         named.push(number_of(numbers, *hint))?;
     }

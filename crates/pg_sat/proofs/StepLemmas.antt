@@ -1,5 +1,5 @@
 -- The step of a cut: its literals in order, and its hints.
-use Rattle.std.proofs.Common.{◌≡◌, ◌≢◌, ◌⊎◌, inl, inr, ℕ, zero, suc, ◌+◌, ◌-◌, ◌*◌, ◌<◌, ◌≤◌, Bool, true, false, ltb, leb, cond, ◌&&◌, List, [], ◌∷◌, ◌++◌, map, Option, Some, None, is_none, refl, sym, ap, subst, ◌∙◌, arith, ℤ, pos, negsuc, neg_ℤ, nat_abs}
+use Rattle.std.proofs.Common.{◌≡◌, ◌≢◌, ◌⊎◌, inl, inr, ℕ, zero, suc, ◌+◌, ◌*◌, ◌<◌, ◌≤◌, Bool, true, false, ltb, leb, cond, ◌&&◌, List, [], ◌∷◌, ◌++◌, map, Option, Some, None, is_none, refl, sym, ap, subst, ◌∙◌, arith, ℤ, pos, negsuc, neg_ℤ, nat_abs}
 use Rattle.std.specs.List.{list_all}
 use Rattle.std.proofs.Math.IntN.{neg_ℤ-neg_ℤ}
 use Rattle.std.proofs.lemmas.Bool.{cases_lt}
@@ -59,21 +59,13 @@ pub listed_neither : (flags : List Bool) (v : ℕ) → is_marked flags (pos v) �
 listed_neither flags v e f =
     ap (λ b. cond b (pos v ∷ []) (cond (is_marked flags (neg_ℤ (pos v))) (neg_ℤ (pos v) ∷ []) [])) e ∙ ap (λ b. cond b (neg_ℤ (pos v) ∷ []) []) f
 
-step-listed : (flags : List Bool) (v k : ℕ) (xs : List ℤ) → listed_at flags v ≡ xs → listed flags v (suc k) ≡ xs ++ listed flags (v + 1) k
+pub step-listed : (flags : List Bool) (v k : ℕ) (xs : List ℤ) → listed_at flags v ≡ xs → listed flags v (suc k) ≡ xs ++ listed flags (v + 1) k
 unfolding listed
 step-listed flags v k xs e = ap (λ ys. ys ++ listed flags (v + 1) k) e
 
-none-listed : (flags : List Bool) (v : ℕ) → listed flags v 0 ≡ []
+pub none-listed : (flags : List Bool) (v : ℕ) → listed flags v 0 ≡ []
 unfolding listed
 none-listed flags v = refl
-
-pub listed-next : (flags : List Bool) (i n : ℕ) → i < n → listed flags (i + 1) (n - i) ≡ listed_at flags (i + 1) ++ listed flags (i + 1 + 1) (n - (i + 1))
-listed-next flags i n lt =
-    let e : n - i ≡ suc (n - (i + 1)) = omega arith in
-    ap (listed flags (i + 1)) e ∙ step-listed flags (i + 1) (n - (i + 1)) (listed_at flags (i + 1)) refl
-
-pub listed-end : (flags : List Bool) (i v n : ℕ) → n ≤ i → listed flags v (n - i) ≡ []
-listed-end flags i v n le = let e : n - i ≡ 0 = omega arith in ap (listed flags v) e ∙ none-listed flags v
 
 tests : (above n variables : ℕ) (b : Bool) → above < n → n ≤ variables → b ≡ true → ltb above n && (leb n variables && b) ≡ true
 tests above n variables b lt le e = both_true (ltb above n) (leb n variables && b) (grind (arith, nat_tests)) (both_true (leb n variables) b (grind (arith, nat_tests)) e)

@@ -1,5 +1,5 @@
 -- The literals whose flags are up, in order.
-use Rattle.std.specs.Prelude.{ℕ, zero, suc, ◌+◌, Bool, if◌then◌else◌, ℤ, pos, neg_ℤ, List, [], ◌∷◌, ◌++◌}
+use Rattle.std.specs.Prelude.{ℕ, zero, suc, ◌≡◌, ◌+◌, ◌<◌, ◌≤◌, Bool, false, if◌then◌else◌, ℤ, pos, neg_ℤ, List, [], ◌∷◌, ◌++◌, slice_index_or}
 use Rattle.pg_proof.specs.Places.{is_marked}
 
 -- that of a variable, if any
@@ -11,3 +11,7 @@ listed_at flags v =
 unfoldable pub listed : List Bool → ℕ → ℕ → List ℤ
 listed flags v zero = []
 listed flags v (suc k) = listed_at flags v ++ listed flags (v + 1) k
+
+-- no flag is up from one place to before another
+unfoldable pub AreDownWithin : List Bool → ℕ → ℕ → Type 0
+AreDownWithin flags from to = (n : ℕ) → from ≤ n → n < to → slice_index_or flags n false ≡ false

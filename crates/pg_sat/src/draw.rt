@@ -1,12 +1,15 @@
 //! The step that a trace of a conflict shows.
 
-ghost use Rattle.std.specs.Prelude.{◌≡◌, ◌+◌, ◌*◌, ◌<◌, ◌^◌, ◌++◌, length, reverse, IfOk, OnOk};
+ghost use Rattle.std.specs.Prelude.{◌≡◌, ◌+◌, ◌-◌, ◌*◌, ◌<◌, ◌≤◌, ◌^◌, ◌++◌, length, reverse, IfOk, OnOk};
 ghost use Rattle.pg_sat.specs.Listed.{listed_at, listed};
 
 use crate::flags::{Flags, literal_of, negation, place};
 use crate::trace::Trace;
 use pg_proof::{HintList, LitList, Step};
 use std::alloc::{AllocError, Global};
+
+/// How many variables are looked at together.
+const BLOCK: u32 = 32;
 
 /// Adds the literal of a variable whose flag is up, if one is. The error is want of memory.
 fn push_literal(flags: &Flags, variable: u32, literals: &mut LitList) -> Result<(), AllocError>
@@ -26,18 +29,70 @@ fn push_literal(flags: &Flags, variable: u32, literals: &mut LitList) -> Result<
     Ok(())
 }
 
+/// Adds the literals of some variables whose flags are up, ascending: from one variable to before another. The error is want of
+/// memory.
+fn push_literals(
+    flags: &Flags,
+    first: u32,
+    end: u32,
+    literals: &mut LitList,
+) -> Result<(), AllocError>
+    requires positive { 0 < first }
+    requires order { first ≤ end }
+    requires small { end ≤ 2 ^ 31 }
+    requires places { 2 * end ≤ length flags.now }
+    ensures { OnOk result (literals.new ≡ literals.old ++ listed flags.now first (end - first)) }
+{
+    for variable in first..end {
+        push_literal(flags, variable, literals)?;
+    }
+    Ok(())
+}
+
+/// The same, and where none of their flags is up they are passed over at once. The error is want of memory.
+#[tactic(auto, using(crate::proofs::Drawn::passed_over))]
+fn push_block(flags: &Flags, first: u32, end: u32, literals: &mut LitList) -> Result<(), AllocError>
+    requires positive { 0 < first }
+    requires order { first ≤ end }
+    requires small { end ≤ 2 ^ 31 }
+    requires places { 2 * end ≤ length flags.now }
+    ensures { OnOk result (literals.new ≡ literals.old ++ listed flags.now first (end - first)) }
+{
+    if flags.are_down(2 * first as usize, 2 * end as usize) {
+        return Ok(());
+    }
+    push_literals(flags, first, end, literals)
+}
+
+/// Where the block ends that begins with one of some variables: before this one.
+fn end_of(first: u32, variables: u32) -> u32
+    requires there { first ≤ variables }
+    requires small { variables < 2 ^ 31 }
+    ensures later { first < result }
+    ensures within { result ≤ variables + 1 }
+{
+    if variables - first < BLOCK {
+        variables + 1
+    } else {
+        first + BLOCK
+    }
+}
+
 /// The literals whose flags are up, ascending by variable. It costs the number of variables. The error is want of memory.
-#[tactic(auto, using(crate::proofs::Drawn::listed_on, crate::proofs::Drawn::listed_whole))]
 fn literals_up(alloc: Global, flags: &Flags, variables: u32) -> Result<LitList, AllocError>
     requires small { variables < 2 ^ 31 }
     requires places { length flags.now ≡ 2 * variables + 2 }
     ensures { IfOk result (λ literals. literals ≡ listed flags.now 1 variables) }
 {
     let mut literals = LitList::new(alloc);
-    for index in 0..variables {
-        push_literal(flags, index + 1, &mut literals)?;
+    let mut first = 1;
+    while first <= variables {
+        let end = end_of(first, variables);
+        push_block(flags, first, end, &mut literals)?;
+        first = end;
     }
-    Ok(literals)
+    // A copy takes no more memory than it needs, and a log keeps it.
+    LitList::from_slice(alloc, literals.as_slice())
 }
 
 /// The numbers in the other order. The error is want of memory.

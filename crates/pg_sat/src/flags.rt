@@ -1,10 +1,11 @@
 //! The literals that an analysis of a conflict has come to, as a flag for each literal.
 
-ghost use Rattle.std.specs.Prelude.{◌≡◌, ◌+◌, ◌*◌, ◌<◌, ◌^◌, length, false, pos, neg_ℤ, replicate, slice_set, slice_index_or, IfOk};
+ghost use Rattle.std.specs.Prelude.{◌≡◌, ◌+◌, ◌*◌, ◌<◌, ◌≤◌, ◌^◌, length, false, pos, neg_ℤ, replicate, slice_set, slice_index_or, IfOk, IsTrue};
 ghost use Rattle.pg_cnf.specs.Literals.{IsLiteral};
 ghost use Rattle.pg_proof.specs.Places.{place, is_marked, IsWithin, AreWithin};
 ghost use Rattle.pg_proof.specs.Marked.{marked};
 ghost use Rattle.pg_sat.specs.Cut.{IsResolved};
+ghost use Rattle.pg_sat.specs.Listed.{AreDownWithin};
 
 use crate::guide::Guide;
 use std::alloc::{AllocError, Global};
@@ -64,6 +65,18 @@ impl Flags {
         ensures { result ≡ slice_index_or self.now at false }
     {
         self.flags[at]
+    }
+
+    /// Whether no flag is up from one place to before another. All of them are read, so that a processor takes many at once.
+    pub fn are_down(&self, from: usize, to: usize) -> bool
+        requires { to ≤ length self.now }
+        ensures { IsTrue result → AreDownWithin self.now from to }
+    {
+        let mut is_up = false;
+        for at in from..to {
+            is_up |= self.flags[at];
+        }
+        !is_up
     }
 
     /// Puts the flag at a place up or down.

@@ -50,28 +50,36 @@ impl Guide {
         self.heap.raise(literal.unsigned_abs());
     }
 
-    /// A conflict of the search for an assignment of a formula was traced: says whether a plan wants the search to begin anew, as
-    /// one that is not done does. The error is want of memory.
+    /// A conflict of the search for an assignment of a formula was traced: says whether a plan wants the search to begin anew. The
+    /// error is want of memory.
     pub fn end_trace(&mut self, alloc: Global, cnf: &Cnf) -> Result<bool, AllocError> {
         self.heap.age();
         self.conflicts = self.conflicts.saturating_add(1);
         if self.conflicts == PLANNED {
             self.plan = Some(Plan::new(alloc, cnf)?);
         }
-        if let Some(plan) = &mut self.plan {
-            plan.begin_anew();
-            return Ok(!plan.is_done());
+        match &mut self.plan {
+            Some(plan) => Ok(plan.count()),
+            None => Ok(false),
         }
-        Ok(false)
     }
 
-    /// The same, and it counts the conflict: says whether the search is to begin anew, which it is while there is a plan, and
-    /// else after the numbers of conflicts that `pace` has. The error is want of memory.
-    pub fn end_conflict(&mut self, alloc: Global, cnf: &Cnf) -> Result<bool, AllocError> {
-        if self.end_trace(alloc, cnf)? {
-            return Ok(true);
+    /// The search begins anew.
+    pub fn begin_anew(&mut self) {
+        if let Some(plan) = &mut self.plan {
+            plan.begin_anew();
         }
-        Ok(self.pace.count())
+    }
+
+    /// The same as `end_trace`, and it counts the conflict: says whether the search begins anew, as a plan wants it, or after the
+    /// numbers of conflicts that `pace` has. The error is want of memory.
+    pub fn end_conflict(&mut self, alloc: Global, cnf: &Cnf) -> Result<bool, AllocError> {
+        let is_planned = self.end_trace(alloc, cnf)?;
+        let anew = self.pace.count() || is_planned;
+        if anew {
+            self.begin_anew();
+        }
+        Ok(anew)
     }
 
     /// A literal that was set gets unset. The error is want of memory.

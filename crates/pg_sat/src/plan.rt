@@ -3,8 +3,8 @@
 //! Where a question compares two circuits of the same values, as a sum and the one with its operands exchanged, a search has
 //! to find out that their gates are equal, the lower ones first; left to itself it may not (Kuehlmann and Krohm, 1997, do so
 //! for equivalence alone). Of each pair both sides are tried: that the first is false and the second true, and that it is the
-//! other way round. The literals of a side are decided, then the operands of both, and then the search goes on as ever. After
-//! each conflict it begins anew, and what was learned is kept, until the side is refuted or was tried often enough.
+//! other way round. The literals of a side are decided, then the operands of both, and then the search goes on as ever, until the
+//! side is refuted or there were some conflicts. Then the search begins anew with the next side, and keeps what it learned.
 //!
 //! As for the guide: answers are right whatever a plan says, and contracts ask no more of it than that a literal is unset.
 
@@ -19,7 +19,7 @@ use pg_cnf::Cnf;
 use pg_watch::Watches;
 use std::alloc::{AllocError, Global};
 
-/// How often a side is tried.
+/// After how many conflicts a side is left.
 const TRIES: u32 = 12;
 
 /// Pairs to be refuted to differ, in order, and how far that is done.
@@ -31,7 +31,7 @@ pub struct Plan {
     at: usize,
     /// Whether its other side is at hand.
     turned: bool,
-    /// How often that side was tried.
+    /// The conflicts since that side was taken up.
     tries: u32,
     /// Whether something was decided since the search last began anew.
     begun: bool,
@@ -60,14 +60,25 @@ impl Plan {
         self.at >= self.pairs.len()
     }
 
-    /// The search begins anew, after a conflict.
-    pub fn begin_anew(&mut self) {
-        if self.ahead == 0 {
-            self.tries = self.tries.saturating_add(1);
-            if self.tries >= TRIES {
-                self.leave_side();
-            }
+    /// Counts a conflict, and says whether the search is to begin anew: where the side at hand was tried often enough, and where
+    /// decisions have gone beyond its pair.
+    pub fn count(&mut self) -> bool {
+        if self.is_done() {
+            return false;
         }
+        if self.ahead > 0 {
+            return true;
+        }
+        self.tries = self.tries.saturating_add(1);
+        if self.tries < TRIES {
+            return false;
+        }
+        self.leave_side();
+        true
+    }
+
+    /// The search begins anew.
+    pub fn begin_anew(&mut self) {
         self.begun = false;
         self.ahead = 0;
     }
