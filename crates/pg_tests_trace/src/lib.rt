@@ -4,6 +4,4 @@
 #![tactic(auto)]
 
 #[cfg(test)]
-mod monitors;
-#[cfg(test)]
 mod runs;

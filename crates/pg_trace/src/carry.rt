@@ -26,7 +26,7 @@ use pg_judged::{JudgedMachine, is_accepted, tell_verdict};
 use pg_machine::Machine;
 use pg_report::{put_state, put_text};
 use pg_steps::{Status, Stop, StopWatcher, stopped};
-use pg_traced::{Monitor, Shows, Tally, Telling, TraceFault, push_counts, push_shares, trace_told};
+use pg_traced::{Monitor, Shows, Tally, Telling, TraceFault, push_counts, push_shares, trace_bare};
 use std::alloc::{AllocError, Global};
 
 /// Nobody is told why the program goes no further, but by its text.
@@ -137,7 +137,7 @@ fn put_run<S: Sink, H: Hardware>(
     ensures put { OnOk result (PutsText telling (planned_run plan.now) (S.written out.old) (S.written out.new)) }
 {
     let image = plan.image.as_slice();
-    let tally = trace_told(alloc, &plan.machine, image, hw, out, plan.steps, telling)?;
+    let tally = trace_bare(alloc, &plan.machine, image, hw, out, plan.steps, telling)?;
     put_counts(alloc, &plan.machine, &tally, out, telling.monitor)?;
     put_end(plan, hw, out, telling.shows)
 }

@@ -31,4 +31,4 @@ pub use shows::{Shows, Telling};
 pub use stepped::Stepped;
 pub use tally::Tally;
 pub use tracer::Tracer;
-pub use tracing::{TraceFault, trace, trace_bare, trace_told};
+pub use tracing::{TraceFault, trace, trace_bare};

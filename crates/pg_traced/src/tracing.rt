@@ -1,6 +1,6 @@
 //! Many steps, each with its line.
 
-ghost use Rattle.std.specs.Prelude.{◌≡◌, ◌^◌, ◌<◌, ◌≤◌, length, All, IfOk, OnOk, None};
+ghost use Rattle.std.specs.Prelude.{◌≡◌, ◌^◌, ◌<◌, ◌≤◌, length, All, IfOk, OnOk};
 ghost use Rattle.pg_ast.specs.declared.tree.Desc.{Desc};
 ghost use Rattle.pg_meaning.specs.Steps.{bare, power_on};
 ghost use Rattle.pg_valid.specs.Valid.{IsValid};
@@ -81,7 +81,7 @@ pub fn trace<H: Hardware, S: Sink>(
 
 /// Switches a hardware on with an image, all of whose cells are a word of the machine, and traces `n` steps, less than 2^32. The
 /// state that is reached is that of a bare machine.
-pub fn trace_told<H: Hardware, S: Sink>(
+pub fn trace_bare<H: Hardware, S: Sink>(
     alloc: Global,
     m: &Machine,
     image: &[u64],
@@ -106,36 +106,6 @@ pub fn trace_told<H: Hardware, S: Sink>(
     hw.install(image.len() as u32)?;
     power_on(hw, image);
     trace(alloc, m, hw, out, n, telling)
-}
-
-/// The same, where no monitor is named.
-pub fn trace_bare<H: Hardware, S: Sink>(
-    alloc: Global,
-    m: &Machine,
-    image: &[u64],
-    hw: &mut H,
-    out: &mut S,
-    n: u64,
-    shows: Shows,
-) -> Result<Tally, TraceFault>
-    requires serves { (d : Desc) → IsValid d → H.serves (H.fixed hw.old) d }
-    requires room { length image.now ≤ H.room (H.fixed hw.old) }
-    requires least { 2 ≤ length image.now }
-    requires small { length image.now ≤ 1048575 }
-    requires most { length image.now ≤ m.now.desc.size }
-    requires words { All (λ word. word < 2 ^ m.now.desc.word) image.now }
-    requires few { n < 2 ^ 32 }
-    ensures tally { IfOk result (λ t. IsTally m.now.desc n (power_on image.now (length image.now)) t) }
-    ensures balanced { IfOk result IsBalanced }
-    ensures state { OnOk result ((H.machinery hw.new).state ≡ bare m.now.desc image.now (length image.now) n) }
-    ensures puts { OnOk result (PutsTrace (record { shows = shows; monitor = None }) m.now.desc n (power_on image.now (length image.now))
-        (S.written out.old) (S.written out.new)) }
-{
-    let telling = Telling {
-        shows,
-        monitor: None,
-    };
-    trace_told(alloc, m, image, hw, out, n, telling)
 }
 
 /// Puts the line of a step, where it is shown. The buffer is for the line; what it holds means nothing.

@@ -7,7 +7,7 @@ use Rattle.pg_traced.specs.Counting.{IsTally}
 use Rattle.pg_traced.specs.Handling.{AreShares}
 use Rattle.pg_traced.specs.Traces.{PutsTrace}
 use Rattle.pg_traced.proofs.TraceLemmas.{blank-length, reached}
-use Rattle.pg_traced.proofs.tracing.trace_told.Goals as goal
+use Rattle.pg_traced.proofs.tracing.trace_bare.Goals as goal
 
 pub power_on-requires-clause-size : goal.power_on-requires-clause-size
 power_on-requires-clause-size g c =
