@@ -55,9 +55,6 @@ block_on flags before after whole v w n le within e h =
     (ap (λ (u : ℕ). listed flags v (w - v) ++ listed flags u (n - w)) (sym q) ∙ sym (listed-split flags v (w - v) (n - w)) ∙ ap (listed flags v) p)
     ∙ h
 
-pub listed_all : (flags : List Bool) (n : ℕ) → [] ++ listed flags 1 (n + 1 - 1) ≡ listed flags 1 n
-listed_all flags n = let e : n + 1 - 1 ≡ n = omega arith in ap (listed flags 1) e
-
 -- where no flag is up nothing is listed
 listed-down : (flags : List Bool) (k v : ℕ) → 0 < v → AreDownWithin flags (2 * v) (2 * (v + k)) → listed flags v k ≡ []
 unfolding AreDownWithin

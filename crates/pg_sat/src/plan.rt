@@ -5,6 +5,7 @@
 //! for equivalence alone). Of each pair both sides are tried: that the first is false and the second true, and that it is the
 //! other way round. The literals of a side are decided, then the operands of both, and then the search goes on as ever, until the
 //! side is refuted or there were some conflicts. Then the search begins anew with the next side, and keeps what it learned.
+//! Where too many sides are left so, the pairs are not what makes the question hard, and the plan is given up.
 //!
 //! As for the guide: answers are right whatever a plan says, and contracts ask no more of it than that a literal is unset.
 
@@ -22,6 +23,11 @@ use std::alloc::{AllocError, Global};
 /// After how many conflicts a side is left.
 const TRIES: u32 = 12;
 
+/// So many sides may be left, and one more for each `SHARE` that are refuted, before the plan is given up.
+const LEFT: usize = 16;
+
+const SHARE: usize = 8;
+
 /// Pairs to be refuted to differ, in order, and how far that is done.
 #[derive(Drop)]
 pub struct Plan {
@@ -37,6 +43,9 @@ pub struct Plan {
     begun: bool,
     /// By how many pairs the decisions since then have gone beyond the one at hand.
     ahead: usize,
+    /// How many sides were left, and how many refuted.
+    left: usize,
+    refuted: usize,
 }
 
 impl Plan {
@@ -52,6 +61,8 @@ impl Plan {
             tries: 0,
             begun: false,
             ahead: 0,
+            left: 0,
+            refuted: 0,
         })
     }
 
@@ -73,8 +84,17 @@ impl Plan {
         if self.tries < TRIES {
             return false;
         }
+        self.left = self.left.saturating_add(1);
         self.leave_side();
+        self.give_up();
         true
+    }
+
+    /// Gives the plan up, where too many sides were left.
+    fn give_up(&mut self) {
+        if self.left > LEFT.saturating_add(self.refuted / SHARE) {
+            self.at = self.pairs.len();
+        }
     }
 
     /// The search begins anew.
@@ -133,6 +153,7 @@ impl Plan {
             self.ahead = self.ahead.saturating_add(1);
             return;
         }
+        self.refuted = self.refuted.saturating_add(1);
         self.leave_side();
         if self.begun && self.turned {
             self.ahead = 1;
