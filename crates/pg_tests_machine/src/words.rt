@@ -6,7 +6,7 @@ use pg_word::{Cause, Mode, Psw, Shape, pack, pack_trap, unpack, window_len};
 const ONLY_TOP: u64 = 0x8000_0000_0000_0000;
 
 #[test]
-fn a_program_status_word_is_packed_and_opens_a_window(rt: HostRuntime) {
+fn a_program_status_word_is_packed(rt: HostRuntime) {
     let wide = Shape {
         w: 64,
         a: 20,
@@ -43,7 +43,10 @@ fn a_program_status_word_is_packed_and_opens_a_window(rt: HostRuntime) {
     assert_eq!(rt; Cause::Memory.number(), 1);
     assert_eq!(rt; Cause::NoPattern.number(), 3);
     assert_eq!(rt; unpack(&wide, 0xdabc_de12_345f_ffff), psw);
-    // The window ends with the storage.
+}
+
+#[test]
+fn a_window_ends_with_the_storage(rt: HostRuntime) {
     let user = Psw {
         mode: Mode::U,
         p: 0,
