@@ -46,7 +46,7 @@ first_more n =
     let one : suc n ≡ n + 1 = omega arith in
     subst (λ (m : ℕ). first_numbers m ≡ first_numbers n ++ m ∷ []) one refl
 
-length-first : (n : ℕ) → length (first_numbers n) ≡ n
+pub length-first : (n : ℕ) → length (first_numbers n) ≡ n
 length-first zero = refl
 length-first (suc n) = omega (arith, length-append (first_numbers n) (suc n ∷ []), length-first n)
 
@@ -115,7 +115,7 @@ held_at [] k lt = absurd (omega (arith, lt))
 held_at (c ∷ cs) zero lt = refl
 held_at (c ∷ cs) (suc k) lt = held_at cs k (omega (arith, lt))
 
-clause_right : (v : ℕ) (cs : List (List ℤ)) (k : ℕ) → AreClauses v cs → k < length cs → IsClause v (get_or cs k [])
+pub clause_right : (v : ℕ) (cs : List (List ℤ)) (k : ℕ) → AreClauses v cs → k < length cs → IsClause v (get_or cs k [])
 clause_right v [] k h lt = absurd (omega (arith, lt))
 clause_right v (c ∷ cs) zero h lt = h.0
 clause_right v (c ∷ cs) (suc k) h lt = clause_right v cs k h.1 (omega (arith, lt))
@@ -181,3 +181,16 @@ held_more question variables steps cs ns step number greatest h e at =
           (numbered_more (log ++ step.lits ∷ []) cs ns step.lits number h.as_many (log_more log cs ns step.lits h.numbered) last);
       few = omega (arith, h.few, length-append cs (step.lits ∷ []), length-append steps (renumbered ns step ∷ []));
     }
+
+-- the question alone, before any clause that is kept
+pub begun_with : (question : List (List ℤ)) (variables : ℕ) (steps : List Step) → AreClauses variables question →
+    IsHeld question variables steps (question ++ []) (first_numbers (length question) ++ [])
+begun_with question variables steps are =
+    begun_held question variables steps (question ++ []) (first_numbers (length question) ++ []) are (append-nil question)
+    (append-nil (first_numbers (length question)))
+
+-- as many numbers as clauses that are kept
+pub kept_as_many : (question : List (List ℤ)) (variables : ℕ) (steps : List Step) (cs : List (List ℤ)) (ns : List ℕ) →
+    IsHeld question variables steps (question ++ cs) (first_numbers (length question) ++ ns) → length ns ≡ length cs
+kept_as_many question variables steps cs ns h =
+    omega (arith, h.as_many, length-append question cs, length-append (first_numbers (length question)) ns, length-first (length question))

@@ -7,6 +7,7 @@ ghost use Rattle.std.specs.Prelude.{◌<◌, ◌^◌};
 use crate::glue::Levels;
 use crate::keep::{Worth, kept_of};
 use crate::pace::Pace;
+use crate::walk::walked;
 use pg_cnf::Cnf;
 use pg_proof::Step;
 use pg_sat::Guide;
@@ -21,6 +22,8 @@ pub struct Course {
     levels: Levels,
     /// What each of the learned clauses that are held is worth.
     worths: Vec<Worth>,
+    /// How many walks there were.
+    walks: usize,
 }
 
 impl Course {
@@ -33,6 +36,7 @@ impl Course {
             pace: Pace::new(),
             levels: Levels::new(alloc, variables)?,
             worths: Vec::new(alloc),
+            walks: 0,
         })
     }
 
@@ -98,5 +102,15 @@ impl Course {
         self.worths = worths;
         self.pace.forgot();
         Ok(kept)
+    }
+
+    /// Walks over assignments, and where all clauses are true under one, lets the search try its values first. The error is want of
+    /// memory.
+    pub fn walk(&mut self, alloc: Global, cnf: &Cnf) -> Result<(), AllocError> {
+        self.walks = self.walks.saturating_add(1);
+        if let Some(values) = walked(alloc, cnf, &self.guide, self.walks)? {
+            self.guide.follow(values.as_slice());
+        }
+        Ok(())
     }
 }

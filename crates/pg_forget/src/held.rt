@@ -1,6 +1,6 @@
 //! The clauses that are held: those of a question, and some that were learned.
 
-ghost use Rattle.std.specs.Prelude.{◌≡◌, ◌<◌, ◌^◌, [], List, IfOk};
+ghost use Rattle.std.specs.Prelude.{◌≡◌, ◌<◌, ◌^◌, [], length, List, IfOk};
 ghost use Rattle.pg_proof.specs.declared.step.Step.{Step};
 ghost use Rattle.pg_forget.specs.Held.{IsHeld, first_numbers};
 
@@ -20,6 +20,7 @@ impl Held {
     pub fn new(alloc: Global, cnf: &Cnf) -> Result<Held, AllocError>
         ensures held { IfOk result (λ held. (steps : List Step) → IsHeld cnf.now.clauses cnf.now.variables steps held.watches.clauses held.numbers.items) }
         ensures clauses { IfOk result (λ held. held.watches.clauses ≡ cnf.now.clauses) }
+        ensures numbers { IfOk result (λ held. held.numbers.items ≡ first_numbers (length cnf.now.clauses)) }
         ensures variables { IfOk result (λ held. held.watches.trail.variables ≡ cnf.now.variables) }
         ensures reasons { IfOk result (λ held. held.watches.trail.reasons ≡ []) }
     {

@@ -11,7 +11,7 @@ ghost use Rattle.pg_forget.specs.Lesson.{IsLesson};
 
 use crate::course::Course;
 use crate::held::Held;
-use crate::rebuild::rebuilt;
+use crate::rebuild::rebuild;
 use crate::renumber::renumbered;
 use pg_cnf::{Clause, Cnf};
 use pg_proof::Step;
@@ -101,9 +101,8 @@ fn renew(
         return Ok(());
     }
     let kept = course.forget(alloc, &held.watches, cnf.clauses.len())?;
-    let made = rebuilt(alloc, cnf, held, steps, kept.as_slice())?;
-    *held = made;
-    Ok(())
+    rebuild(alloc, cnf, held, steps, kept.as_slice())?;
+    course.walk(alloc, cnf)
 }
 
 /// Learns from a conflict where a literal was assigned: the step goes to the log, the trail is cut, the clause is held, others may

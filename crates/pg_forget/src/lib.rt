@@ -15,7 +15,7 @@
 //! - `turn`: one turn of a search. `learn`: what is done at a conflict. `renumber`: a step under the numbers of the log.
 //! - `held`: the clauses that are held. `rebuild`: those that are kept, made anew.
 //! - `course`: what the search goes by, of which nothing is said in contracts: `glue`, the levels of a clause; `keep`, which clauses
-//!   are kept; `pace`, when the search begins anew and when it forgets.
+//!   are kept; `pace`, when the search begins anew and when it forgets; `walk`, a local search beside it.
 #![tactic(auto)]
 
 mod course;
@@ -30,6 +30,7 @@ mod renumber;
 mod search;
 mod solver;
 mod turn;
+mod walk;
 
 pub use found::Found;
 pub use search::{find, find_counted};

@@ -1,5 +1,6 @@
 pub mod ReadingLemmas
 pub mod CutLemmas
+pub mod BlockLemmas
 pub mod FlagLemmas
 pub mod TrailLemmas
 pub mod TraceLemmas

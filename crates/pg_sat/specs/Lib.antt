@@ -1,6 +1,7 @@
 pub mod Cut
 pub mod Trace
 pub mod Listed
+pub mod Blocks
 pub mod Learned
 pub mod Jump
 pub mod Models

@@ -1,6 +1,6 @@
 //! The literals that an analysis of a conflict has come to, as a flag for each literal.
 
-ghost use Rattle.std.specs.Prelude.{◌≡◌, ◌+◌, ◌*◌, ◌<◌, ◌≤◌, ◌^◌, length, false, pos, neg_ℤ, replicate, slice_set, slice_index_or, IfOk, IsTrue};
+ghost use Rattle.std.specs.Prelude.{◌≡◌, ◌+◌, ◌*◌, ◌<◌, ◌≤◌, ◌^◌, length, false, true, pos, neg_ℤ, replicate, slice_set, slice_index_or, IfOk, IsTrue};
 ghost use Rattle.pg_cnf.specs.Literals.{IsLiteral};
 ghost use Rattle.pg_proof.specs.Places.{place, is_marked, IsWithin, AreWithin};
 ghost use Rattle.pg_proof.specs.Marked.{marked};
@@ -35,10 +35,15 @@ pub fn negation(literal: i32) -> i32
     -literal
 }
 
+/// So many flags are passed over at once where none of them was ever put up.
+const BLOCK: usize = 64;
+
 /// A flag for each literal of some variables, up or down.
 #[derive(Drop)]
 pub struct Flags {
     flags: Vec<bool>,
+    /// For each block of flags whether one was put up.
+    blocks: Vec<bool>,
 }
 
 impl Model for Flags {
@@ -47,6 +52,10 @@ impl Model for Flags {
     ghost Value = { List Bool };
 
     ghost view = { λ f. f.flags.items };
+
+    ghost use Rattle.pg_sat.specs.Blocks.{AreCovered};
+
+    ghost invariant = { λ f. AreCovered f.flags.items f.blocks.items };
 }
 
 impl Flags {
@@ -56,7 +65,8 @@ impl Flags {
     {
         let places = 2 * variables as usize + 2;
         let flags = vec![in alloc; false; places]?;
-        Ok(Flags { flags })
+        let blocks = vec![in alloc; false; places / BLOCK + 1]?;
+        Ok(Flags { flags, blocks })
     }
 
     /// Whether the flag at a place is up.
@@ -67,16 +77,16 @@ impl Flags {
         self.flags[at]
     }
 
-    /// Whether no flag is up from one place to before another. All of them are read, so that a processor takes many at once.
+    /// Whether no flag was put up in the blocks that have the places from one to before another.
     pub fn are_down(&self, from: usize, to: usize) -> bool
-        requires { to ≤ length self.now }
         ensures { IsTrue result → AreDownWithin self.now from to }
     {
-        let mut is_up = false;
-        for at in from..to {
-            is_up |= self.flags[at];
+        for block in from / BLOCK..to / BLOCK + 1 {
+            if is_raised(self.blocks.as_slice(), block) {
+                return false;
+            }
         }
-        !is_up
+        true
     }
 
     /// Puts the flag at a place up or down.
@@ -84,6 +94,7 @@ impl Flags {
         requires { at < length self.old }
         ensures { self.new ≡ slice_set self.old at up }
     {
+        raise(&mut self.blocks, at / BLOCK);
         self.flags[at] = up;
     }
 
@@ -119,5 +130,24 @@ impl Flags {
         self.put(place(negation(literal)), false);
         self.mark(clause);
         self.put(place(literal), false);
+    }
+}
+
+/// Whether a flag of a block was put up, as is taken to be so where there is no such block.
+fn is_raised(blocks: &[bool], block: usize) -> bool
+    ensures { result ≡ slice_index_or blocks.now block true }
+{
+    match blocks.get(block) {
+        Some(raised) => *raised,
+        None => true,
+    }
+}
+
+/// A flag of a block may have been put up.
+fn raise(blocks: &mut Vec<bool>, block: usize)
+    ensures { blocks.new.items ≡ slice_set blocks.old.items block true }
+{
+    if block < blocks.len() {
+        blocks[block] = true;
     }
 }

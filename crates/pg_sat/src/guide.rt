@@ -92,6 +92,14 @@ impl Guide {
         self.heap.push(variable)
     }
 
+    /// These values, by variable, are to be tried first, and no plan before them.
+    pub fn follow(&mut self, values: &[bool]) {
+        for (phase, value) in self.phases.iter_mut().zip(values) {
+            *phase = *value;
+        }
+        self.plan = None;
+    }
+
     /// How many literals got unset.
     pub fn freed(&self) -> u64 {
         self.freed
@@ -135,8 +143,8 @@ impl Guide {
         None
     }
 
-    /// The value that a variable had last.
-    fn phase(&self, variable: u32) -> bool {
+    /// The value that a variable had last, or is to have first.
+    pub fn phase(&self, variable: u32) -> bool {
         match self.phases.get(variable as usize) {
             None => false,
             Some(&phase) => phase,

@@ -129,6 +129,28 @@ impl Watches {
         ensures err { OnErr result (self.new.trail ≡ self.old.trail) }
         ensures err_quiet { OnErr result (self.new.quiet ≡ false) }
     {
+        self.release();
+        self.draw()
+    }
+
+    /// Lets each fresh clause that has two literals to watch watch them, before any is looked at: a drawing looks at all that are
+    /// fresh, again and again.
+    fn release(&mut self)
+        ensures clauses { self.new.clauses ≡ self.old.clauses }
+        ensures trail { self.new.trail ≡ self.old.trail }
+    {
+        release_each(&self.clauses, &self.trail, &mut self.index, &mut self.fresh);
+    }
+
+    /// Draws all consequences, as `settle` says.
+    fn draw(&mut self) -> Result<Fix, AllocError>
+        ensures clauses { self.new.clauses ≡ self.old.clauses }
+        ensures trail { OnOk result (Extends self.old.trail self.new.trail) }
+        ensures end { IfOk result (IsEnd self.new.clauses self.new.trail.literals) }
+        ensures quiet { IfOk result (λ fix. self.new.quiet ≡ is_quiet fix) }
+        ensures err { OnErr result (self.new.trail ≡ self.old.trail) }
+        ensures err_quiet { OnErr result (self.new.quiet ≡ false) }
+    {
         self.quiet = false;
         let len = self.trail.len();
         let head = self.head;

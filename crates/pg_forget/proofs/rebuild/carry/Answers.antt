@@ -1,7 +1,9 @@
-use Rattle.std.proofs.Common.{◌≡◌, ◌∙◌, ◌+◌, ◌-◌, ◌<◌, ℕ, [], Some, arith, length, sym, ap, subst, get_or}
+use Rattle.std.proofs.Common.{◌≡◌, ◌∙◌, ◌+◌, ◌-◌, ◌++◌, ◌∷◌, ◌<◌, ℕ, ℤ, List, [], Some, arith, length, sym, ap, subst, get_or, append_assoc}
+use Rattle.std.proofs.lemmas.List.{length-append}
 use Rattle.std.proofs.lemmas.Option.{slice_get-get_or, get_or_from_slice_get}
 use Rattle.pg_cnf.specs.Literals.{IsClause}
 use Rattle.pg_cnf.proofs.LiteralLemmas.{IsClause-more}
+use Rattle.pg_forget.specs.Held.{first_numbers}
 use Rattle.pg_forget.proofs.HeldLemmas.{held_clause, carried}
 use Rattle.pg_forget.proofs.rebuild.carry.Goals as goal
 
@@ -15,8 +17,12 @@ clause_of-requires c =
     (IsClause-more cnf.variables 2147483647 (get_or held.watches.clauses c.args.place []) (omega (arith, few))
     (held_clause cnf.clauses cnf.variables c.args.steps.now held.watches.clauses held.numbers.items c.args.place c.requires.held c.requires.place))
 
-pub add-requires-clause-clause : goal.add-requires-clause-clause
-add-requires-clause-clause c =
+pub push-requires-clause-room : goal.push-requires-clause-room
+push-requires-clause-room c =
+    omega (arith, c.requires.few, c.requires.room, c.requires.place, c.requires.held.few)
+
+pub push-requires-clause-clause : goal.push-requires-clause-clause
+push-requires-clause-clause c =
     let held = c.args.held.now in
     let cnf = c.args.cnf.now in
     let at : c.args.place + 1 - 1 ≡ c.args.place = omega arith in
@@ -31,14 +37,18 @@ returns-clause-made c =
     let held = c.args.held.now in
     let made = c.args.made.now in
     let cnf = c.args.cnf.now in
+    let first = first_numbers (length cnf.clauses) in
     let at : c.args.place + 1 - 1 ≡ c.args.place = omega arith in
     let number = c.index-number.result.now in
-    let same : c.in_ok-clause.clause ≡ get_or held.watches.clauses c.args.place [] =
+    let clause = c.in_ok-clause.clause in
+    let same : clause ≡ get_or held.watches.clauses c.args.place [] =
     c.in_ok-clause.ensures ∙ c.clause.ensures ∙ ap (λ (k : ℕ). get_or held.watches.clauses k []) at in
     let lt : c.args.place < length held.numbers.items = omega (arith, c.requires.place, c.requires.held.as_many) in
     let there : number ≡ get_or held.numbers.items c.args.place 0 =
     sym (get_or_from_slice_get held.numbers.items c.args.place number 0
     (slice_get-get_or held.numbers.items c.args.place number lt ∙ ap Some (sym c.index-number.ensures))) in
-    carried cnf.clauses cnf.variables c.args.steps.now held.watches.clauses made.watches.clauses c.add.new.self.clauses
-    held.numbers.items made.numbers.items c.push.new.self.items c.in_ok-clause.clause number c.args.place
-    c.requires.held c.requires.made c.requires.place c.requires.room same there c.in_ok-add.ensures.clauses c.in_ok-push.ensures.items
+    carried cnf.clauses cnf.variables c.args.steps.now held.watches.clauses (cnf.clauses ++ made.clauses.clauses) (cnf.clauses ++ c.push.new.self.clauses)
+    held.numbers.items (first ++ made.numbers.items) (first ++ c.push-2.new.self.items) clause number c.args.place
+    c.requires.held c.requires.made c.requires.place (omega (arith, c.requires.room, length-append cnf.clauses made.clauses.clauses)) same there
+    (ap (λ (xs : List (List ℤ)). cnf.clauses ++ xs) c.in_ok-push.ensures.clauses ∙ sym (append_assoc cnf.clauses made.clauses.clauses (clause ∷ [])))
+    (ap (λ (ns : List ℕ). first ++ ns) c.in_ok-push-2.ensures.items ∙ sym (append_assoc first made.numbers.items (number ∷ [])))

@@ -5,7 +5,7 @@ use Rattle.pg_watch.specs.Runs.{IsSpread, IsAllRun}
 use Rattle.pg_watch.specs.Watched.{IsWatched}
 use Rattle.pg_watch.proofs.WatchedLemmas.{after_run, after_back, cut-extends}
 use Rattle.pg_watch.proofs.QuietLemmas.{nothing_left, when_quiet}
-use Rattle.pg_watch.proofs.watches.Watches.settle.Goals as goal
+use Rattle.pg_watch.proofs.watches.Watches.draw.Goals as goal
 
 pub invariant_of-self : goal.invariant_of-self
 invariant_of-self c =
