@@ -2,17 +2,17 @@
 //!
 //! This is WalkSAT (Selman, Kautz and Cohen, 1994). A clause that is false is taken at random, and one of its literals is made
 //! true: one that makes no other clause false, where there is such a one; else, by chance, any of them, or one that makes the
-//! fewest false. Random formulas that have a model lose it so in a tenth of a second, where a search that learns takes seconds.
-//! Where none is found nothing is known.
+//! fewest false. So a model of a formula at random is found in a tenth of a second, where a search that learns takes seconds.
+//! Where no model is found nothing is known.
 //!
-//! What is found are values that the search is to try first, so contracts say nothing of it.
+//! What is found are values that the search tries first, so contracts say nothing of it.
 
 use pg_cnf::{Clause, Cnf};
 use pg_sat::Guide;
 use std::alloc::{AllocError, Global};
 
-/// How often of a thousand times any literal of the clause is taken: best for random clauses of three literals (Hoos and
-/// Stützle, 2000).
+/// How often of a thousand times any literal of the clause is taken: near the best for random clauses of three literals (Seitz, Alava
+/// and Orponen, 2005).
 const NOISE: usize = 567;
 
 /// The first walk ends after it has looked at so many clauses, some milliseconds, and each later one after as many more.
