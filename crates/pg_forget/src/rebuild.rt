@@ -18,8 +18,8 @@ struct Kept {
 }
 
 /// Holds the clauses of a question, and those of the learned ones that are kept, with nothing set. It takes time in all their
-/// literals. What was held before is given up before they are made, so that memory has them once. The error is want of memory. The
-/// steps say what the numbers stand for.
+/// literals. What was held before is given up before they are made, so that memory has those of the question once. The error is
+/// want of memory. The steps say what the numbers stand for.
 pub fn rebuild(
     alloc: Global,
     cnf: &Cnf,

@@ -88,10 +88,9 @@ impl Walk {
     /// From the values that a search had last. It costs the length of the formula. The error is want of memory.
     fn new(alloc: Global, cnf: &Cnf, guide: &Guide, number: usize) -> Result<Walk, AllocError> {
         let mut values = Vec::with_capacity(alloc, cnf.variables as usize + 1)?;
-        for variable in 0..cnf.variables {
+        for variable in 0..cnf.variables + 1 {
             values.push(guide.phase(variable))?;
         }
-        values.push(guide.phase(cnf.variables))?;
         let mut walk = Walk {
             values,
             counts: vec![in alloc; 0u32; cnf.clauses.len()]?,
