@@ -26,14 +26,14 @@ use Rattle.pg_shown.proofs.ReachedLemmas.{can-run}
 use Rattle.pg_hw.specs.Machinery.{Machinery}
 use Rattle.pg_type.specs.Accepting.{IsAccepted}
 use Rattle.pg_tool_gen.specs.declared.generating.plan.GenPlan.{GenPlan}
-use Rattle.pg_tool_judging.specs.Check.{IsChecked}
+use Rattle.pg_cmd_saving.specs.Checked.{IsChecked}
 use Rattle.pg_tool_gen.specs.Generating.{GenEnds, HaveRunBy, RanBy, gen_budget, gen_slice, gen_steps, generated_run, generated_text, run_told}
 use Rattle.pg_judged.specs.Judged.{Judged, verdict_on, verdict_status}
-use Rattle.pg_tool_judging.specs.Saving.{HoldsNow}
+use Rattle.pg_cmd_saving.specs.Saving.{HoldsNow}
 use Rattle.pg_judged.specs.Meaning.{IsAcceptedBy, Means}
 use Rattle.pg_tool_gen.specs.Plans.{run_of_plan}
 use Rattle.pg_steps.specs.World.{World}
-use Rattle.pg_tool_judging.proofs.SavingLemmas.{is_saved, written_means}
+use Rattle.pg_cmd_saving.proofs.SavingLemmas.{is_saved, written_means}
 
 -- ---- there can be a run
 

@@ -23,10 +23,10 @@ use Rattle.pg_report.specs.Verdicts.{outcome_line}
 use Rattle.pg_type.specs.Accepting.{IsAccepted}
 use Rattle.pg_steps.specs.declared.status.Status.{Status}
 use Rattle.pg_steps.specs.declared.refusal.Refusal.{Refusal}
-use Rattle.pg_tool_judging.specs.Check.{IsChecked}
+use Rattle.pg_cmd_saving.specs.Checked.{IsChecked}
 use Rattle.pg_steps.specs.Commands.{Command}
 use Rattle.pg_judged.specs.Judged.{verdict_status}
-use Rattle.pg_tool_judging.specs.Saving.{IsSaved, LeavesUnsaved}
+use Rattle.pg_cmd_saving.specs.Saving.{IsSaved, LeavesUnsaved}
 use Rattle.pg_steps.specs.Steps.{Step, Came, Refused, Misread}
 use Rattle.pg_steps.specs.World.{World}
 

@@ -1,7 +1,7 @@
 -- What the code has for the work of `gen`, as that of the definition.
 use Rattle.pg_shown.specs.Runs.{GuestRun, run_of}
 use Rattle.pg_judged.specs.Judged.{Judged}
-use Rattle.pg_tool_judging.specs.Views.{written}
+use Rattle.pg_cmd_saving.specs.Views.{written}
 use Rattle.pg_tool_gen.specs.declared.generating.plan.GenPlan.{GenPlan}
 use Rattle.pg_tool_gen.specs.Generating.{gen_slice, gen_steps}
 

@@ -17,7 +17,7 @@ ghost use Rattle.pg_steps.specs.Commands.{Carries};
 ghost use Rattle.pg_steps.specs.World.{Keeps, around};
 ghost use Rattle.pg_tool_gen.specs.Generating.{HaveRunBy, RanBy, gen_budget, gen_command, generated_text};
 ghost use Rattle.pg_tool_gen.specs.Plans.{judged_input, run_of_plan};
-ghost use Rattle.pg_tool_judging.specs.Check.{IsChecked};
+ghost use Rattle.pg_cmd_saving.specs.Checked.{IsChecked};
 ghost use Rattle.pg_type.specs.Accepting.{IsAccepted};
 
 mod plan;
@@ -34,7 +34,7 @@ use pg_machine::check;
 use pg_report::{put_instructions, put_outcome};
 use pg_shown::put_summaries;
 use pg_steps::Status;
-use pg_tool_judging::{checked, save_text};
+use pg_cmd_saving::{checked, save_text};
 use pg_valid::TypeFault;
 use plan::GenPlan;
 use std::alloc::{AllocError, Global};

@@ -1,35 +1,17 @@
--- `check` and `hcheck`: a certificate that was found, and what is left once it was saved.
-use Rattle.std.proofs.Common.{◌≡◌, ℕ, List, map, ap, ◌∙◌}
+-- `check` and `hcheck`: what is left once a certificate was saved.
+use Rattle.std.proofs.Common.{◌≡◌, ℕ, List}
 use Rattle.pg_ast.specs.declared.tree.Desc.{Desc}
 use Rattle.pg_valid.specs.Valid.{IsValid}
-use Rattle.pg_cert.specs.declared.cert.Cert.{Cert}
 use Rattle.pg_cert.specs.declared.cert.Family.{Family}
 use Rattle.pg_cert.specs.declared.report.Report.{Report}
-use Rattle.pg_cert.specs.Texts.{heading_of, cert_text}
-use Rattle.pg_cert.specs.Verdicts.{mark_of}
-use Rattle.pg_classify.specs.Classified.{IsClassified}
 use Rattle.pg_asked.specs.declared.check.CheckWords.{CheckWords}
 use Rattle.pg_edge.specs.Told.{BothTold}
-use Rattle.pg_tool_judging.specs.Check.{IsChecked, CheckEnds, CheckUnsaved}
+use Rattle.pg_tool_judging.specs.Check.{CheckEnds, CheckUnsaved}
 use Rattle.pg_judged.specs.Judged.{Judged, verdict_on, verdict_status, verdict_told}
-use Rattle.pg_tool_judging.specs.Saving.{HoldsNow, LeavesUnsaved}
+use Rattle.pg_cmd_saving.specs.Checked.{IsChecked}
+use Rattle.pg_cmd_saving.specs.Saving.{HoldsNow, LeavesUnsaved}
 use Rattle.pg_steps.specs.World.{World}
-use Rattle.pg_tool_judging.proofs.SavingLemmas.{ends_saved}
-
-pub is_checked : (d : Desc) (family : Family) (budget : ℕ) (bytes : List ℕ) (cert : Cert) (report : Report) → IsClassified d family budget cert →
-    bytes ≡ cert_text d (heading_of cert.family) cert → report.family ≡ cert.family → report.marks ≡ map mark_of cert.findings →
-    IsChecked d family budget bytes report
-is_checked d family budget bytes cert report h text kept marks = record {
-  written = record {
-    cert = cert;
-    of_family = h.of_family;
-    valid = record { valid = h.valid; in_range = h.in_range; listed = h.listed };
-    text = text ∙ ap (λ f. cert_text d (heading_of f) cert) h.of_family;
-    kept_family = kept ∙ h.of_family;
-    marks = marks;
-  };
-  searched = h.searched;
-}
+use Rattle.pg_cmd_saving.proofs.SavingLemmas.{ends_saved}
 
 module _ (family : Family) (c : CheckWords) (j : Judged) (old new : World) (bytes : List ℕ) (valid : IsValid j.desc)
     (h : IsChecked j.desc family c.budget bytes j.report) (hw : new.hw ≡ old.hw) where

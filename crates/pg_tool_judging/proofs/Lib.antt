@@ -1,4 +1,3 @@
-pub mod SavingLemmas
 pub mod CheckLemmas
 pub mod MigrateLemmas
 pub mod ReplayLemmas

@@ -23,14 +23,14 @@ use Rattle.pg_steps.specs.Answering.{Comes}
 use Rattle.pg_judged.specs.Certificates.{CertTextDue, CertDue}
 use Rattle.pg_steps.specs.FileSteps.{Faulty, HoldsWithin}
 use Rattle.pg_judged.specs.Judged.{Judged, verdict_on, verdict_status, verdict_told}
-use Rattle.pg_tool_judging.specs.Saving.{HoldsNow, LeavesUnsaved}
+use Rattle.pg_cmd_saving.specs.Saving.{HoldsNow, LeavesUnsaved}
 use Rattle.pg_tool_judging.specs.Migrate.{MigratesFile, IsMigratedText, MigrateEnds, MigrateUnsaved}
 use Rattle.pg_judged.specs.Parts.{IsStopOf}
 use Rattle.pg_steps.specs.Steps.{Came}
 use Rattle.pg_steps.specs.World.{World}
 use Rattle.pg_steps.proofs.FileLemmas.{file-came}
 use Rattle.pg_judged.proofs.PartLemmas.{answer_ok, told_known}
-use Rattle.pg_tool_judging.proofs.SavingLemmas.{ends_saved}
+use Rattle.pg_cmd_saving.proofs.SavingLemmas.{ends_saved}
 
 -- ---- a certificate that is loaded whole
 

@@ -4,21 +4,16 @@ use Rattle.std.specs.Prelude.{ℕ, List, Option, Some}
 use Rattle.pg_ast.specs.declared.tree.Desc.{Desc}
 use Rattle.pg_cert.specs.declared.cert.Family.{Family}
 use Rattle.pg_cert.specs.declared.report.Report.{Report}
-use Rattle.pg_classify.specs.Classified.{AreSearched}
+use Rattle.pg_cmd_saving.specs.Checked.{IsChecked}
+use Rattle.pg_cmd_saving.specs.Saving.{EndsSaved, LeavesUnsaved}
 use Rattle.pg_asked.specs.declared.check.CheckWords.{CheckWords}
 use Rattle.pg_edge.specs.Shelf.{Files}
 use Rattle.pg_steps.specs.declared.status.Status.{Status}
 use Rattle.pg_steps.specs.declared.refusal.Refusal.{Refusal}
 use Rattle.pg_steps.specs.Commands.{Command}
 use Rattle.pg_inputs.specs.Descriptions.{DescDue}
-use Rattle.pg_tool_judging.specs.Saving.{IsWritten, EndsSaved, LeavesUnsaved}
 use Rattle.pg_steps.specs.Steps.{Step}
 use Rattle.pg_steps.specs.World.{World}
-
--- a valid certificate, whose refutations are trimmed, and whose open logs spend the budget
-pub record IsChecked (d : Desc) (family : Family) (budget : ℕ) (bytes : List ℕ) (report : Report) : Type 0 where
-  pub written : IsWritten d family bytes report
-  pub searched : AreSearched d family budget written.cert.findings
 
 -- the description alone: whatever the solver finds of it, there is a certificate
 abbrev pub CheckDue : CheckWords → Option Files → Step Refusal Desc

@@ -1,6 +1,4 @@
-pub mod Saving
 pub mod Verify
 pub mod Replay
 pub mod Check
 pub mod Migrate
-pub mod Views

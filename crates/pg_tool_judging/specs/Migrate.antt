@@ -12,7 +12,7 @@ use Rattle.pg_steps.specs.declared.status.Status.{Status}
 use Rattle.pg_steps.specs.Commands.{Command}
 use Rattle.pg_steps.specs.FileSteps.{HoldsWithin}
 use Rattle.pg_judged.specs.Judged.{Judged, JudgedDue}
-use Rattle.pg_tool_judging.specs.Saving.{IsWritten, EndsSaved, LeavesUnsaved}
+use Rattle.pg_cmd_saving.specs.Saving.{IsWritten, EndsSaved, LeavesUnsaved}
 use Rattle.pg_steps.specs.World.{World}
 
 -- a certificate that is made of the one that a file holds: it has the same findings, with its refutations trimmed

@@ -5,24 +5,24 @@
 //! The description is loaded, and its certificate is found and its text made whole: memory is refused before any of it is
 //! saved. Then the text is saved, and after that the text of the verdict is put. No more memory is taken for either.
 
-ghost use Rattle.std.specs.Prelude.{◌≡◌, ◌≤◌, IfOk};
+ghost use Rattle.std.specs.Prelude.{IfOk};
+ghost use Rattle.pg_cmd_saving.specs.Checked.{IsChecked};
 ghost use Rattle.pg_steps.specs.Answering.{Comes, OnlyReads};
 ghost use Rattle.pg_steps.specs.Commands.{Carries};
 ghost use Rattle.pg_steps.specs.World.{Keeps, around};
-ghost use Rattle.pg_tool_judging.specs.Check.{IsChecked, CheckDue, check_command};
+ghost use Rattle.pg_tool_judging.specs.Check.{CheckDue, check_command};
 
 use crate::saving::save_and_tell;
-use crate::written::WrittenCert;
 use pg_asked::CheckWords;
-use pg_cert::{Family, report_of, write};
-use pg_classify::{Watcher, classify_watched};
+use pg_cert::Family;
+use pg_classify::Watcher;
+use pg_cmd_saving::{WrittenCert, checked};
 use pg_edge::{Shelf, Sink};
 use pg_hw::Hardware;
 use pg_inputs::load_machine;
-use pg_judged::{JudgedMachine, VerdictWatcher};
-use pg_machine::Machine;
+use pg_judged::VerdictWatcher;
 use pg_steps::{Status, Stop, StopWatcher, stopped};
-use std::alloc::{AllocError, Global};
+use std::alloc::Global;
 
 /// Carries out `check`, or over the kinds of Theorem 3 `hcheck`. The hardware is lent, and stays as it is. The watcher is told
 /// of each question, why the command stops, and of a verdict that could not be saved.
@@ -67,29 +67,4 @@ fn prepare_check<F: Shelf, W: Watcher>(
         Ok(found) => Ok(found),
         Err(_) => Err(Stop::Memory),
     }
-}
-
-/// A certificate of a machine, found within a budget from 1 to 1,000,000: its text, and what is kept of it.
-///
-/// # Errors
-/// Only for want of memory.
-pub fn checked<W: Watcher>(
-    alloc: Global,
-    machine: Machine,
-    family: Family,
-    budget: u32,
-    watcher: &mut W,
-) -> Result<WrittenCert, AllocError>
-    requires least { 1 ≤ budget }
-    requires most { budget ≤ 1000000 }
-    ensures machine { IfOk result (λ p. p.judged.machine.desc ≡ machine.desc) }
-    ensures checked { IfOk result (λ p. IsChecked p.judged.machine.desc family budget p.text.items p.judged.report) }
-{
-    let cert = classify_watched(alloc, &machine, family, budget, watcher)?;
-    let report = report_of(alloc, &cert)?;
-    let text = write(alloc, &machine, &cert)?;
-    Ok(WrittenCert {
-        judged: JudgedMachine { machine, report },
-        text,
-    })
 }

@@ -7,18 +7,18 @@
 ghost use Rattle.std.specs.Prelude.{◌≡◌, IfOk, map};
 ghost use Rattle.pg_cert.specs.Verdicts.{mark_of};
 ghost use Rattle.pg_cert.specs.declared.cert.Family.TheVariants.{Plain};
+ghost use Rattle.pg_cmd_saving.specs.Views.{written};
 ghost use Rattle.pg_judged.specs.Certificates.{CertDue};
 ghost use Rattle.pg_judged.specs.Judged.{JudgedDue};
 ghost use Rattle.pg_steps.specs.Answering.{Comes, OnlyReads};
 ghost use Rattle.pg_steps.specs.Commands.{Carries};
 ghost use Rattle.pg_steps.specs.World.{Keeps, around};
 ghost use Rattle.pg_tool_judging.specs.Migrate.{IsMigratedText, MigratesFile, migrate_command};
-ghost use Rattle.pg_tool_judging.specs.Views.{written};
 
 use crate::saving::save_and_tell;
-use crate::written::WrittenCert;
 use pg_asked::{FileName, MigrateWords};
 use pg_cert::write;
+use pg_cmd_saving::WrittenCert;
 use pg_edge::{Shelf, Sink};
 use pg_hw::Hardware;
 use pg_inputs::load_machine;

@@ -18,7 +18,7 @@ use Rattle.pg_meaning.specs.Steps.{bare, power_on, steps}
 use Rattle.pg_steps.specs.Steps.{Came}
 use Rattle.pg_steps.specs.World.{World, IsUntouched}
 use Rattle.pg_steps.specs.declared.status.Status.TheVariants.{Done}
-use Rattle.pg_tool_judging.specs.Saving.{HoldsNow}
+use Rattle.pg_cmd_saving.specs.Saving.{HoldsNow}
 use Rattle.pg_tool_save.specs.Resume.{ResumeRun, ResumeDue, ResumeEnds, GuestWentOn, guest_on, judged_on, told_on}
 use Rattle.pg_tool_save.specs.Save.{SaveRun, SaveDue, SaveEnds, GuestSaved, files_of, guest_of, judged_by, saved_of, told_of_run}
 use Rattle.pg_type.specs.Accepting.{IsAccepted}

@@ -24,7 +24,7 @@ use Rattle.pg_steps.specs.declared.status.Status.TheVariants as status
 use Rattle.pg_steps.specs.Commands.{Command}
 use Rattle.pg_steps.specs.Steps.{Step, Then, Gives}
 use Rattle.pg_steps.specs.World.{World}
-use Rattle.pg_tool_judging.specs.Saving.{HoldsAtMost, HoldsNow}
+use Rattle.pg_cmd_saving.specs.Saving.{HoldsAtMost, HoldsNow}
 use Rattle.pg_type.specs.Accepting.{IsAccepted}
 
 -- a run that is asked for: an image of so many cells, how many steps it makes, and what is kept of the certificate by which it

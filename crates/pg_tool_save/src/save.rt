@@ -27,7 +27,7 @@ use pg_judged::{is_accepted, tell_verdict};
 use pg_move::{put_saved, saved_room};
 use pg_shown::put_guests;
 use pg_steps::{Status, StopWatcher, stopped};
-use pg_tool_judging::save_text;
+use pg_cmd_saving::save_text;
 use pg_type::Accepted;
 use plan::SavePlan;
 use preparing::prepare_save;

@@ -5,7 +5,7 @@ ghost use Rattle.pg_shown.specs.Setting.{CanRun};
 ghost use Rattle.pg_tool_gen.specs.Generating.{gen_slice, gen_steps};
 
 use pg_image::Image;
-use pg_tool_judging::WrittenCert;
+use pg_cmd_saving::WrittenCert;
 use sqlite_items::Items;
 
 /// A machine and images of a number, and the certificate that was found of the machine.

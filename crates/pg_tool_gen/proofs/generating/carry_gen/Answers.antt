@@ -8,8 +8,8 @@ use Rattle.pg_judged.proofs.TellingLemmas.{verdict-ended}
 use Rattle.pg_steps.specs.Commands.{Carries}
 use Rattle.pg_steps.specs.World.{around}
 use Rattle.pg_steps.proofs.CarryLemmas.{carries-ended, carries-broken, carries-starved, carries-unsaved}
-use Rattle.pg_tool_judging.specs.Saving.{HoldsNow, HoldsAtMost}
-use Rattle.pg_tool_judging.proofs.SavingLemmas.{is_saved}
+use Rattle.pg_cmd_saving.specs.Saving.{HoldsNow, HoldsAtMost}
+use Rattle.pg_cmd_saving.proofs.SavingLemmas.{is_saved}
 use Rattle.pg_tool_gen.specs.Generating.{GenEnds, RanBy, gen_command, generated_text}
 use Rattle.pg_tool_gen.specs.Plans.{judged_input}
 use Rattle.pg_tool_gen.proofs.GeneratingLemmas.{checked-accepts, gen-ends, plan-run}

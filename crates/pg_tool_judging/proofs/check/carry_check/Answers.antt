@@ -3,7 +3,7 @@ use Rattle.pg_judged.specs.Views.{judged}
 use Rattle.pg_steps.specs.World.{around}
 use Rattle.pg_tool_judging.specs.Check.{check_command}
 use Rattle.pg_tool_judging.proofs.CheckLemmas.{check_ends, check_unsaved}
-use Rattle.pg_tool_judging.proofs.SavingLemmas.{carries-saved}
+use Rattle.pg_cmd_saving.proofs.SavingLemmas.{carries-saved}
 use Rattle.pg_tool_judging.proofs.check.carry_check.Goals as goal
 
 pub returns-in-Ok-clause-carries : goal.returns-in-Ok-clause-carries

@@ -1,9 +1,9 @@
 use Rattle.std.proofs.Common.{refl}
 use Rattle.pg_steps.specs.World.{around}
 use Rattle.pg_tool_judging.specs.Migrate.{migrate_command}
-use Rattle.pg_tool_judging.specs.Views.{written}
+use Rattle.pg_cmd_saving.specs.Views.{written}
 use Rattle.pg_tool_judging.proofs.MigrateLemmas.{migrate_ends, migrate_unsaved}
-use Rattle.pg_tool_judging.proofs.SavingLemmas.{carries-saved}
+use Rattle.pg_cmd_saving.proofs.SavingLemmas.{carries-saved}
 use Rattle.pg_steps.proofs.CarryLemmas.{carries-stopped}
 use Rattle.pg_tool_judging.proofs.migrate.carry_migrate.Goals as goal
 

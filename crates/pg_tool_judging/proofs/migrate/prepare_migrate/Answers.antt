@@ -8,11 +8,11 @@ use Rattle.pg_migrate.specs.declared.migrating.Migrated.{Migrated}
 use Rattle.pg_steps.specs.Answering.{Comes}
 use Rattle.pg_judged.specs.Certificates.{CertDue}
 use Rattle.pg_tool_judging.specs.Migrate.{MigratesFile}
-use Rattle.pg_tool_judging.specs.Views.{written}
+use Rattle.pg_cmd_saving.specs.Views.{written}
 use Rattle.pg_steps.specs.Steps.{Came}
 use Rattle.pg_judged.proofs.JudgedLemmas.{judged-stopped, judged-refused, judged-came}
 use Rattle.pg_tool_judging.proofs.MigrateLemmas.{is_migrated_text}
-use Rattle.pg_tool_judging.proofs.SavingLemmas.{written_fit, written_whole}
+use Rattle.pg_cmd_saving.proofs.SavingLemmas.{written_fit, written_whole}
 use Rattle.pg_tool_judging.proofs.migrate.prepare_migrate.Goals as goal
 
 pub write-requires-clause-fit : goal.write-requires-clause-fit

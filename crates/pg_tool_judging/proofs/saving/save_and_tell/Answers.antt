@@ -2,8 +2,8 @@ use Rattle.std.proofs.Common.{inl, refl, subst}
 use Rattle.pg_edge.specs.Told.{BothTold}
 use Rattle.pg_judged.specs.Views.{judged}
 use Rattle.pg_steps.specs.World.{around, output}
-use Rattle.pg_tool_judging.specs.Saving.{HoldsNow, HoldsAtMost}
-use Rattle.pg_tool_judging.proofs.SavingLemmas.{saved-told}
+use Rattle.pg_cmd_saving.specs.Saving.{HoldsNow, HoldsAtMost}
+use Rattle.pg_cmd_saving.proofs.SavingLemmas.{saved-told}
 use Rattle.pg_tool_judging.proofs.saving.save_and_tell.Goals as goal
 
 pub returns-in-Ok-clause-saved : goal.returns-in-Ok-clause-saved

@@ -12,7 +12,7 @@ use Rattle.pg_shown.specs.Telling.{AreWithin}
 use Rattle.pg_steps.specs.declared.status.Status.TheVariants.{Done}
 use Rattle.pg_steps.specs.World.{IsUntouched, around}
 use Rattle.pg_steps.proofs.CarryLemmas.{carries-stopped, carries-done, carries-broken, carries-starved, carries-unsaved}
-use Rattle.pg_tool_judging.specs.Saving.{HoldsNow, HoldsAtMost}
+use Rattle.pg_cmd_saving.specs.Saving.{HoldsNow, HoldsAtMost}
 use Rattle.pg_tool_save.specs.Plans.{save_run}
 use Rattle.pg_tool_save.specs.Save.{guest_of, judged_by, reached, save_command, saved_of, told_of_run}
 use Rattle.pg_tool_save.proofs.GuestLemmas.{ran-told}

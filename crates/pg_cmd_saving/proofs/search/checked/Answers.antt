@@ -1,9 +1,9 @@
 use Rattle.pg_ask.specs.Question.{question}
 use Rattle.pg_cert.specs.Texts.{heading_of}
 use Rattle.pg_cert.proofs.Fits.{cert_fits}
-use Rattle.pg_tool_judging.proofs.CheckLemmas.{is_checked}
-use Rattle.pg_tool_judging.proofs.SavingLemmas.{written_fit, written_whole}
-use Rattle.pg_tool_judging.proofs.check.checked.Goals as goal
+use Rattle.pg_cmd_saving.proofs.CheckedLemmas.{is_checked}
+use Rattle.pg_cmd_saving.proofs.SavingLemmas.{written_fit, written_whole}
+use Rattle.pg_cmd_saving.proofs.search.checked.Goals as goal
 
 pub write-requires-clause-fit : goal.write-requires-clause-fit
 write-requires-clause-fit g c =

@@ -1,9 +1,9 @@
 use Rattle.std.proofs.Common.{◌≡◌, Some, subst}
 use Rattle.pg_edge.specs.Shelf.{Files, HasOldOrFront, SameBut}
 use Rattle.pg_edge.specs.Told.{BothTold}
-use Rattle.pg_tool_judging.specs.Saving.{HoldsNow, HoldsAtMost}
-use Rattle.pg_tool_judging.proofs.SavingLemmas.{both_told}
-use Rattle.pg_tool_judging.proofs.saving.save_text.Goals as goal
+use Rattle.pg_cmd_saving.specs.Saving.{HoldsNow, HoldsAtMost}
+use Rattle.pg_cmd_saving.proofs.SavingLemmas.{both_told}
+use Rattle.pg_cmd_saving.proofs.saving.save_text.Goals as goal
 
 pub returns-in-Ok-clause-saved : goal.returns-in-Ok-clause-saved
 returns-in-Ok-clause-saved g c =

@@ -22,7 +22,7 @@ use Rattle.pg_judged.specs.Certificates.{IsCertificate}
 use Rattle.pg_judged.specs.Judged.{Judged, verdict_on, verdict_status, verdict_told}
 use Rattle.pg_judged.specs.Telling.{ToldWhole, ToldAs}
 use Rattle.pg_judged.specs.Meaning.{VerdictMeans}
-use Rattle.pg_tool_judging.specs.Saving.{IsWritten, HoldsNow, HoldsAtMost, IsSaved, EndsSaved, LeavesUnsaved, SavedAs}
+use Rattle.pg_cmd_saving.specs.Saving.{IsWritten, HoldsNow, HoldsAtMost, IsSaved, EndsSaved, LeavesUnsaved, SavedAs}
 use Rattle.pg_steps.specs.declared.status.Status.{Status}
 use Rattle.pg_steps.specs.Classes.{Class, Ended, Unwritten, Unread, OutOfMemory, class_of}
 use Rattle.pg_steps.specs.Commands.{Command, CarriesAs, Carries}

@@ -1,0 +1,2 @@
+pub mod SavingLemmas
+pub mod CheckedLemmas

@@ -1,0 +1,3 @@
+pub mod Saving
+pub mod Checked
+pub mod Views
