@@ -21,6 +21,7 @@ TOP = Path(__file__).resolve().parent.parent
 SUMS = TOP / "bench/wrong.sums"
 FUNCTION = re.compile(r"( *)(?:pub(?:\([^)]*\))? )?(?:const )?(?:unsafe )?(?:extern \"C\" )?fn (\w+)")
 OWNER = re.compile(r"(?:pub(?:\([^)]*\))? )?(?:unsafe )?(impl|trait)\b(?:<[^{]*?>)? *(.*)")
+TRIED = ("file:", "old:", "new:", "goal:")
 CLAUSE = re.compile(r" *(?:requires|ensures|ghost (?!use\b))")
 
 
@@ -162,21 +163,27 @@ def owner(lines, at, indent):
     return names[:1]
 
 
+def clauses(file):
+    """The lines of the clauses of a source, with the names of the functions that they stand at, or else stand behind."""
+    name, left_open = "", 0
+    for line in file.read_text().splitlines():
+        found = FUNCTION.match(line)
+        name = found[2] if found else name
+        if left_open > 0 or CLAUSE.match(line):
+            yield f"{name} {line.strip()}"
+            left_open += line.count("{") - line.count("}")
+
+
 def contracts(crate):
-    """What a crate promises and its edits try: clauses with the names of their functions, definitions without comments, and edits."""
+    """What a crate promises and what its edits try: clauses, definitions without comments, and the lines of edits but for those on twins."""
     folder = TOP / "crates" / crate
     for file in sorted((folder / "src").glob("**/*.rt")):
-        name = ""
-        for line in file.read_text().splitlines():
-            found = FUNCTION.match(line)
-            name = found[2] if found else name
-            if CLAUSE.match(line):
-                yield f"{file.relative_to(folder)} {name} {line.strip()}"
+        yield from (f"{file.relative_to(folder)} {clause}" for clause in clauses(file))
     for file in sorted((folder / "specs").glob("**/*.antt")):
         yield str(file.relative_to(folder))
         yield from (line for line in file.read_text().splitlines() if line.strip() and not line.lstrip().startswith("--"))
     for edit in edits_of(crate):
-        yield from (f"{edit.name} {line}" for line in edit.file.read_text().splitlines() if not line.startswith("#"))
+        yield from (f"{edit.name} {line}" for line in edit.file.read_text().splitlines() if line.startswith(TRIED))
 
 
 def sum_of(crate):
