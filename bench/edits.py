@@ -127,7 +127,7 @@ def apply(edits, twins=False):
 
 
 def places(edit):
-    """The functions that an edit stands in, each as a file, a line and the function's path in the crate; none for what stands in no function."""
+    """The functions that an edit stands in: file, line and path in the crate, which is empty for a change that stands in none."""
     found = set()
     for change in edit.changes:
         text = text_of(edit.folder, change.path)
@@ -175,7 +175,7 @@ def clauses(file):
 
 
 def contracts(crate):
-    """What a crate promises and what its edits try: clauses, definitions without comments, and the lines of edits but for those on twins."""
+    """What a crate promises and what its edits try: clauses, definitions without comments, and edits without comments and twins."""
     folder = TOP / "crates" / crate
     for file in sorted((folder / "src").glob("**/*.rt")):
         yield from (f"{file.relative_to(folder)} {clause}" for clause in clauses(file))

@@ -42,7 +42,7 @@ class Function:
 
 
 class Answer:
-    """What the prover says of a changed crate: its status, its functions by their paths, and the lines of sources that no compiler takes."""
+    """What the prover says of a changed crate: status, functions by their paths, and the lines of sources that do not compile."""
 
     def __init__(self, crate, ran):
         self.status, self.text = ran.returncode, ran.stdout
@@ -101,7 +101,7 @@ class Prover:
         missing = [it.name for it in below if not os.path.exists(f"{it.rlib}/format")]
         if missing:
             raise Unproved(missing)
-        self.kept = tempfile.TemporaryDirectory(prefix="pgv-wrong-")
+        self.checks, self.kept = 0, tempfile.TemporaryDirectory(prefix="pgv-wrong-")
         start = Path(f"{top}/crates/{name}/out/incremental")
         if start.is_dir():
             shutil.copytree(start, self.kept.name, symlinks=True, dirs_exist_ok=True)
@@ -118,7 +118,14 @@ class Prover:
             words = [self.rtlib.RATTLE, "check", *self.crate.words([*JOBS, *words], keeps=False), "--incremental", self.kept.name]
             how = {"cwd": room, "stdin": subprocess.DEVNULL, "stdout": subprocess.PIPE, "stderr": subprocess.STDOUT}
             ran = subprocess.run([*self.rtlib.guarded(), *words], text=True, errors="replace", check=False, **how)
+        self.keep(ran.stdout)
         return Answer(self.crate.name, ran)
+
+    def keep(self, said):
+        """Keeps what was said of a check in the crate's `out/wrong`, for a reader."""
+        self.checks += 1
+        os.makedirs(f"{self.crate.folder}/out/wrong", exist_ok=True)
+        Path(self.crate.folder, f"out/wrong/{self.checks}.txt").write_text(said)
 
 
 JOBS = ("--jobs", "1")
