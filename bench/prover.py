@@ -101,13 +101,24 @@ class Prover:
         missing = [it.name for it in below if not os.path.exists(f"{it.rlib}/format")]
         if missing:
             raise Unproved(missing)
-        self.checks, self.kept = 0, tempfile.TemporaryDirectory(prefix="pgv-wrong-")
-        start = Path(f"{top}/crates/{name}/out/incremental")
+        self.checks, self.kept = 0, None
+
+    def start(self):
+        """Begins with a copy of the work that earlier checks of the crate kept, where there is some."""
+        self.kept = tempfile.TemporaryDirectory(prefix="pgv-wrong-")
+        start = Path(self.crate.folder, "out/incremental")
         if start.is_dir():
             shutil.copytree(start, self.kept.name, symlinks=True, dirs_exist_ok=True)
 
+    def end(self):
+        """Removes the work that was kept."""
+        if self.kept:
+            self.kept.cleanup()
+
     def check(self, texts, functions):
         """What the prover says of the crate with these texts in place of its own: of these functions and what they call, or of all."""
+        if not self.kept:
+            self.start()
         words = [word for function in functions for word in ("--only", function)]
         with tempfile.TemporaryDirectory(prefix="pgv-wrong-") as room:
             for part in self.rtlib.PARTS:
