@@ -204,7 +204,8 @@ def keep_sum(crate):
 
 
 def faults():
-    """A line for each edit that no longer applies, and for each crate whose edits were not tried since its contracts or they changed."""
+    """A line for each edit that no longer applies, and for each crate whose contracts or edits changed since its edits were tried. A crate
+    without a sum was not tried yet."""
     sums, crates = kept_sums(), crates_with_edits()
     for crate in crates:
         for edit in edits_of(crate):
@@ -213,7 +214,7 @@ def faults():
                 apply([edit], twins=True)
             except Unfit as why:
                 yield f"{edit}: {why}"
-        if sums.get(crate) != sum_of(crate):
+        if crate in sums and sums[crate] != sum_of(crate):
             yield f"{crate}: its clauses, definitions or edits are others than when bench/wrong last passed: run bench/wrong {crate}"
     for crate in sorted({*sums} - {*crates}):
         yield f"{SUMS.relative_to(TOP)} has {crate}, which has no edits"
