@@ -1,3 +1,0 @@
-mod proof;
-mod sat;
-mod watch;
