@@ -9,8 +9,9 @@ use crate::commands::ROWS;
 use crate::puts::GUESTS;
 use crate::setting::{FILES, HELD, Setting, are_alike, run};
 use pg_tool::Status;
-use std::alloc::Global;
+use std::alloc::{AllocError, Global};
 use std::env;
+use std::env::VarError;
 use std::process::Abort;
 use std::test::Fail;
 
@@ -81,6 +82,7 @@ fn lines_end_either_way(rt: &impl Abort, alloc: Global, begin: &str) -> Result<(
 fn commands_end_with_and_without_memory(rt: HostRuntime) -> Result<(), Fail> {
     match env::var(&rt, "PGV_LINES") {
         Ok(begin) => lines_end_either_way(&rt, rt.alloc(), begin.as_str()),
+        Err(VarError::OutOfMemory) => Err(AllocError.into()),
         Err(_) => lines_end_either_way(&rt, rt.alloc(), ""),
     }
 }
