@@ -8,6 +8,7 @@ ghost use Rattle.pg_vec.specs.There.{AreThere};
 ghost use Rattle.pg_cells.specs.Over.{IsOver};
 ghost use Rattle.pg_symex.specs.There.{AreBits, AreRegs};
 
+use crate::strings::{inputs, is_there};
 use pg_cells::Touched;
 use pg_circuit::Circuit;
 use pg_machine::Machine;
@@ -53,18 +54,6 @@ pub fn counted(alloc: Global, machine: &Machine, instr: usize) -> Result<Counts,
     })
 }
 
-/// A string of so many new inputs, 1 to 64. The error is want of memory.
-fn inputs(alloc: Global, circuit: &mut Circuit, count: u32) -> Result<Bits, AllocError> {
-    let mut gates = Vec::new(alloc);
-    for _ in 0..count {
-        gates.push(circuit.input()?)?;
-    }
-    if gates.is_empty() || gates.len() > 64 {
-        return Err(AllocError);
-    }
-    Ok(Bits::from_vec(gates))
-}
-
 /// One run of an instruction, over cells of its machine without a write; they stay such. The error is want of memory. That
 /// registers have the widths of the machine is tested, since no type says it, and answered the same way where they have not.
 fn run(
@@ -107,14 +96,4 @@ fn are_bits(circuit: &Circuit, width: u32, bits: &Bits) -> bool
     ensures { IsTrue result → AreBits (length circuit.now.nodes) width bits.now }
 {
     bits.width() == width && is_there(circuit, bits)
-}
-
-/// Whether the gates of a string are in the circuit.
-fn is_there(circuit: &Circuit, bits: &Bits) -> bool
-    ensures { IsTrue result → AreThere (length circuit.now.nodes) bits.now }
-{
-    let size = circuit.len();
-    bits.as_slice()
-        .iter()
-        .all(|gate| (gate.number as usize) < size)
 }

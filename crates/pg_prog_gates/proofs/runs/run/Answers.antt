@@ -1,7 +1,7 @@
 use Rattle.std.proofs.Common.{ap, ◌∙◌}
 use Rattle.pg_cells.specs.View.{View}
-use Rattle.pg_bodies.proofs.OverLemmas.{over_after}
-use Rattle.pg_bodies.proofs.runs.run.Goals as goal
+use Rattle.pg_prog_gates.proofs.OverLemmas.{over_after}
+use Rattle.pg_prog_gates.proofs.runs.run.Goals as goal
 
 pub returns-clause-over : goal.returns-clause-over
 returns-clause-over c =

@@ -1,61 +1,40 @@
-//! Counts the nodes and the clauses of circuits, and builds and encodes a large one: what `bench/run` times.
-//!
-//! Nothing that `pgv` does stands on this program.
-#![tactic(auto)]
+//! The nodes and the clauses of operations on strings of 64 bits, and of a large circuit.
 
-ghost use Rattle.std.specs.Prelude.{IsTrue, length};
-ghost use Rattle.pg_vec.specs.There.{AreThere};
-
+use crate::Fault;
+use crate::strings::{inputs, is_there};
 use pg_circuit::Circuit;
 use pg_cnf::encode;
 use pg_vec::{Bits, ops};
 use std::alloc::Global;
-use std::process::ExitCode;
-use std::{env, io};
 
 /// As many nodes as a large circuit has.
 const MANY: usize = 1_000_000;
 
-/// Without a word, the counts of three operations of 64 bits; with one, those of a large circuit.
-fn main(rt: HostRuntime) -> ExitCode {
-    let shown = if has_word(&rt) {
-        show(&rt, "products", large(rt.alloc()))
-    } else {
-        show_each(&rt)
-    };
-    match shown {
-        Ok(()) => ExitCode::from(0),
-        Err(_) => ExitCode::from(1),
-    }
-}
+/// The bits of a string.
+const WIDTH: u32 = 64;
 
-/// Whether there is a word behind the program's name.
-fn has_word(rt: &HostRuntime) -> bool {
-    match env::args(rt) {
-        Ok(args) => match args.collect::<Vec<String>>(rt.alloc()) {
-            Ok(words) => words.len() > 1,
-            Err(_) => false,
-        },
-        Err(_) => false,
-    }
-}
-
-/// The counts of each operation.
-fn show_each(rt: &HostRuntime) -> io::Result<()> {
+/// Writes the counts of each operation.
+pub fn show_operations(rt: &HostRuntime) -> Result<(), Fault> {
     show(rt, "add", small(rt.alloc(), Op::Add))?;
     show(rt, "mul", small(rt.alloc(), Op::Mul))?;
     show(rt, "shl", small(rt.alloc(), Op::Shl))
 }
 
+/// Writes the counts of a product of products.
+pub fn show_products(rt: &HostRuntime) -> Result<(), Fault> {
+    show(rt, "products", large(rt.alloc()))
+}
+
 /// Counts in a line, or that there was no memory.
-fn show(rt: &HostRuntime, name: &str, counts: Option<Counts>) -> io::Result<()> {
-    match counts {
+fn show(rt: &HostRuntime, name: &str, counts: Option<Counts>) -> Result<(), Fault> {
+    let shown = match counts {
         None => println!(rt; "{name}: no memory"),
         Some(counts) => println!(rt;
             "{name}: {} nodes, {} clauses",
             counts.nodes, counts.clauses
         ),
-    }
+    };
+    shown.map_err(|_| Fault::Output)
 }
 
 /// What is counted of a circuit.
@@ -78,8 +57,8 @@ enum Op {
 /// The counts of one operation on two strings of 64 inputs.
 fn small(alloc: Global, op: Op) -> Option<Counts> {
     let mut circuit = Circuit::new(alloc).ok()?;
-    let x = inputs(alloc, &mut circuit)?;
-    let y = inputs(alloc, &mut circuit)?;
+    let x = inputs(alloc, &mut circuit, WIDTH).ok()?;
+    let y = inputs(alloc, &mut circuit, WIDTH).ok()?;
     let before = circuit.len();
     let bits = made(alloc, &mut circuit, op, &x, &y)?;
     counted(alloc, &circuit, before, &bits)
@@ -88,8 +67,8 @@ fn small(alloc: Global, op: Op) -> Option<Counts> {
 /// The counts of a product of products.
 fn large(alloc: Global) -> Option<Counts> {
     let mut circuit = Circuit::new(alloc).ok()?;
-    let mut x = inputs(alloc, &mut circuit)?;
-    let y = inputs(alloc, &mut circuit)?;
+    let mut x = inputs(alloc, &mut circuit, WIDTH).ok()?;
+    let y = inputs(alloc, &mut circuit, WIDTH).ok()?;
     let before = circuit.len();
     for _ in 0..MANY {
         if circuit.len() >= MANY {
@@ -98,28 +77,6 @@ fn large(alloc: Global) -> Option<Counts> {
         x = made(alloc, &mut circuit, Op::Mul, &x, &y)?;
     }
     counted(alloc, &circuit, before, &x)
-}
-
-/// A string of 64 inputs.
-fn inputs(alloc: Global, circuit: &mut Circuit) -> Option<Bits> {
-    let mut gates = Vec::new(alloc);
-    for _ in 0..64 {
-        gates.push(circuit.input().ok()?).ok()?;
-    }
-    if gates.len() != 64 {
-        return None;
-    }
-    Bits::from_slice(alloc, gates.as_slice()).ok()
-}
-
-/// Whether the gates of a string are in the circuit.
-fn is_there(circuit: &Circuit, bits: &Bits) -> bool
-    ensures { IsTrue result → AreThere (length circuit.now.nodes) bits.now }
-{
-    let size = circuit.len();
-    bits.as_slice()
-        .iter()
-        .all(|gate| (gate.number as usize) < size)
 }
 
 /// The string of an operation.
