@@ -8,8 +8,8 @@
 //! `location`, `bound`, `ucontrol`, `ulocation` or `ubound`. Under `--mend` the description with guards is saved, in the layout of
 //! `pgv print`, where it is accepted.
 //!
-//! The status is that of `pgv verify`, and so are refusals: 0 accepted, 1 refused, 2 open. The words are read in `request`,
-//! and the files in `load`.
+//! The status is that of `pgv verify`, and so are refusals: 0 accepted, 1 refused, 2 open. The words are read in `request`, and the
+//! files in `load`.
 
 mod load;
 mod request;

@@ -6,8 +6,8 @@
 //! it, before anything is written. The log of the finding of INSTR and KIND is written in the format LRAT, and under `--cnf` the
 //! clauses that it refutes are saved, as `pg_dimacs` writes them (`pg_formula`). A finding that has no log is told in a line.
 //!
-//! The status is 0 where the log is written; refusals are those of `pgv`. The words are read in `request`, and
-//! the texts made in `making`.
+//! The status is 0 where the log is written; refusals are those of `pgv`. The words are read in `request`, and the texts made in
+//! `making`.
 
 mod making;
 mod request;

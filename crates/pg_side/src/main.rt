@@ -3,13 +3,13 @@
 //!     pg_explain, pg_trace, pg_dimacs, pg_solve, pg_import, pg_export WORDS..
 //!     pg_side NAME WORDS..
 //!
-//! Which one is meant says the name that the program is called by, where its last part, behind every `/`, is one of the six; else its
-//! first word does (`side`). Where neither does, a line on standard error names them, and the status is 3.
+//! The name that is called says which one is meant, where its last part, behind every `/`, is one of the six; else the first word
+//! does. Where neither does, a line on standard error names the six, and the status is 3.
 //!
+//! - `side`: the programs and their names. `words`: the words of the command line, and which program they mean.
 //! - `explain`: why a machine is refused. `trace`: what each step of a run does. `dimacs`: the clauses of a question. `solve`: the
 //!   solver on clauses. `import`, `export`: findings of other solvers, logs for other checkers.
-//! - `words`: the words of the command line. `files`: files to machines and certificates, and what is put and saved. `stop`: why a
-//!   program goes no further.
+//! - `files`: files to machines and certificates, and what is put and saved. `stop`: why a program goes no further.
 //!
 //! A program beside these is a variant of `Side` and a module. Nothing that `pgv` does stands on any of them.
 #![tactic(auto)]

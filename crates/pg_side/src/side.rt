@@ -1,4 +1,4 @@
-//! The programs, and which of them is meant.
+//! The programs and their names.
 
 /// A program beside `pgv`.
 #[derive(Clone, Copy)]

@@ -60,7 +60,8 @@ impl StopWatcher for Unwatched {
     fn stops(&mut self, _stop: &pg_steps::Stop) {}
 }
 
-/// The status that a program ends with: its own, or that of why it goes no further, which is told. A usage line is told of its words.
+/// The status that a program ends with: its own, or that of why it goes no further, which is told. `usage` is the line for words that
+/// are not taken.
 pub fn ended<S: Sink>(alloc: Global, usage: &[u8], answer: Result<u8, Stop>, out: &mut S) -> u8 {
     match answer {
         Ok(status) => status,
