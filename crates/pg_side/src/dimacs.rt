@@ -29,21 +29,22 @@ const USAGE: &[u8] = b"usage: pg_dimacs DESC INSTR KIND\n";
 /// gives another status.
 pub fn run<F: Shelf, S: Sink>(alloc: Global, words: &[String], shelf: &mut F, out: &mut S) -> u8 {
     let shown = show(alloc, words, shelf, out);
-    ended(alloc, USAGE, shown.map(|()| 0), out)
+    ended(alloc, USAGE, shown, out)
 }
 
-/// Puts the clauses of the question that the words ask for.
+/// Puts the clauses of the question that the words ask for. The answer is the status.
 fn show<F: Shelf, S: Sink>(
     alloc: Global,
     words: &[String],
     shelf: &mut F,
     out: &mut S,
-) -> Result<(), Stop> {
+) -> Result<u8, Stop> {
     let request = asked_by(words).ok_or(Stop::Words)?;
     let machine = machine(alloc, shelf, request.names.file)?;
     let instr = find(&machine, request.names.instr).ok_or(Stop::Words)?;
     let text = written(alloc, &machine, instr, &request)?;
-    put(out, text.as_slice())
+    put(out, text.as_slice())?;
+    Ok(0)
 }
 
 /// The question of an instruction as text: lines of comment, and its clauses. The error is want of memory.

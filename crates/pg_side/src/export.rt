@@ -26,22 +26,23 @@ const USAGE: &[u8] = b"usage: pg_export DESC CERT INSTR KIND [--cnf FILE]\n";
 /// Puts the log that the words ask for, the program's name first, and gives the status 0; else puts a line, and gives another status.
 pub fn run<F: Shelf, S: Sink>(alloc: Global, words: &[String], shelf: &mut F, out: &mut S) -> u8 {
     let told = export(alloc, words, shelf, out);
-    ended(alloc, USAGE, told.map(|()| 0), out)
+    ended(alloc, USAGE, told, out)
 }
 
-/// Puts the log that the words ask for, and saves the clauses before it, where they ask for it.
+/// Puts the log that the words ask for, and saves the clauses before it, where they ask for it. The answer is the status.
 fn export<F: Shelf, S: Sink>(
     alloc: Global,
     words: &[String],
     shelf: &mut F,
     out: &mut S,
-) -> Result<(), Stop> {
+) -> Result<u8, Stop> {
     let request = asked_by(words).ok_or(Stop::Words)?;
     let texts = load(alloc, shelf, &request)?;
     if let Some(file) = request.cnf {
         save(shelf, file, texts.clauses.as_slice())?;
     }
-    put(out, texts.log.as_slice())
+    put(out, texts.log.as_slice())?;
+    Ok(0)
 }
 
 /// The texts of the finding that the words ask for.

@@ -70,7 +70,10 @@ fn run_on(rt: &HostRuntime, side: Side, words: &[String]) -> u8 {
     let mut out = StdSink::new(rt.stdout());
     match side {
         Side::Explain => explain::run(alloc, words, &mut shelf, &mut out),
-        Side::Trace => trace::run(alloc, words, &mut shelf, &mut out, &mut Rig::new(alloc)),
+        Side::Trace => {
+            let mut hw = Rig::new(alloc);
+            trace::run(alloc, words, &mut shelf, &mut out, &mut hw)
+        }
         Side::Dimacs => dimacs::run(alloc, words, &mut shelf, &mut out),
         Side::Solve => solve::run(rt, words),
         Side::Import => import::run(alloc, words, &mut shelf, &mut out),
