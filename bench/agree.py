@@ -4,7 +4,7 @@
 
   bench/agree.py SOLVE FOLDER [BUDGET]
 
-SOLVE is the program, `crates/pg_solve/out/pg_solve`; at most BUDGET clauses are learned, 200,000 where none is given. A line for each
+SOLVE is the program, `./pg_solve`; at most BUDGET clauses are learned, 200,000 where none is given. A line for each
 formula that is left open or answered otherwise, then how many agree. Ends with 1 where one is answered otherwise.
 """
 import subprocess

@@ -22,10 +22,10 @@ from inputs.checks import any_bodies, as_for_certificates, hard, pieced
 from judging import Judge
 from pgvmodel.deciding import SECONDS, Answer, Solver
 from pgvmodel.pairs import ALL_KINDS
-from pgvmodel.questions import Questions
+from pgvmodel.questions import Questions, asking
 from pgvmodel.reader import read
 
-ASKED = Path(__file__).resolve().parent.parent / "crates" / "pg_dimacs" / "out" / "pg_dimacs"
+ASKED = Path(__file__).resolve().parent.parent / "crates" / "pg_side" / "out" / "pg_side"
 MAKERS = (pieced, pieced, hard, any_bodies, as_for_certificates)
 
 SAME, DIFFERENT, NO_PROGRAM = 0, 1, 2
@@ -50,7 +50,7 @@ def differences(dimacs: Path, solver: Path, text: bytes, counts: Counter[str]) -
         file.flush()
         for number, instruction in enumerate(description.instructions):
             for kind in ALL_KINDS:
-                words = [dimacs, file.name, instruction.name, kind]
+                words = [*asking(dimacs), file.name, instruction.name, kind]
                 clauses = subprocess.run(words, capture_output=True, check=True).stdout
                 by_clauses, by_model = solved(solver, clauses), judge.decided(description, number, kind).answer
                 counts[by_model.value] += 1

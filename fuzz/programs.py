@@ -9,7 +9,7 @@ from typing import NamedTuple
 
 CRATES = Path(__file__).resolve().parent.parent / "crates"
 BUILT = CRATES / "pgv" / "out" / "pgv"
-ASKED = CRATES / "pg_dimacs" / "out" / "pg_dimacs"
+ASKED = CRATES / "pg_side" / "out" / "pg_side"
 
 SAME, DIFFERENT, NO_PROGRAM = 0, 1, 2
 """How a comparison ends."""

@@ -41,7 +41,7 @@ class Questions:
         with tempfile.NamedTemporaryFile(suffix=".isa") as file:
             file.write(description)
             file.flush()
-            words = [self.program, file.name, name, kind]
+            words = [*asking(self.program), file.name, name, kind]
             try:
                 ended = subprocess.run(words, capture_output=True, timeout=SECONDS, check=False)
             except subprocess.TimeoutExpired:
@@ -50,6 +50,11 @@ class Questions:
             raise NotModelled
         ended.check_returncode()
         return read_formula(ended.stdout)
+
+
+def asking(program: Path) -> list[str | Path]:
+    """The words that begin a call: `pg_side` takes the name of the program that is meant as its first word."""
+    return [program, "pg_dimacs"] if program.name == "pg_side" else [program]
 
 
 def read_formula(text: bytes) -> list[Clause]:

@@ -1,0 +1,7 @@
+pub mod Undone
+pub mod RunTexts
+pub mod RunLemmas
+pub mod CertLemmas
+pub mod ClauseLemmas
+mod TakenLemmas
+mod LogLemmas

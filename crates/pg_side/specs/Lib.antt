@@ -1,0 +1,5 @@
+pub mod Plans
+pub mod Judging
+pub mod Done
+pub mod Saved
+pub mod Exported

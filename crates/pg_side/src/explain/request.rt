@@ -1,0 +1,115 @@
+//! What the words of the command line ask for.
+
+ghost use Rattle.std.specs.Prelude.{◌≤◌};
+
+use pg_asked::Budget;
+use pg_cert::reading::kind;
+use pg_type::Kind;
+
+/// How many clauses may be learned for a question, where the words do not say it.
+const BUDGET: u32 = 20_000;
+
+/// The most clauses that may be learned.
+const MOST_BUDGET: u32 = 1_000_000;
+
+/// Why a machine is refused, asked of files.
+#[derive(Drop)]
+pub struct Request<'a> {
+    /// The name of the description's file.
+    pub desc: &'a str,
+    /// The name of the certificate's file.
+    pub cert: &'a str,
+    /// The name of an instruction, where that alone is asked for.
+    pub instr: Option<&'a str>,
+    /// A kind of it, where that alone is asked for.
+    pub kind: Option<Kind>,
+    /// What the options say.
+    pub options: Options<'a>,
+}
+
+/// What the options say.
+#[derive(Drop)]
+pub struct Options<'a> {
+    /// The name of the file for the mended description, where it is to be saved.
+    pub mend: Option<&'a str>,
+    /// How many clauses may be learned for a question, where it is said.
+    budget: Option<Budget>,
+}
+
+impl Options<'_> {
+    /// How many clauses may be learned for a question.
+    pub fn budget(&self) -> u32
+        ensures least { 1 ≤ result }
+        ensures most { result ≤ 1000000 }
+    {
+        match &self.budget {
+            None => BUDGET,
+            Some(budget) => budget.clauses(),
+        }
+    }
+}
+
+/// The request of the words, the program's name first: `DESC CERT [INSTR [KIND]]`, with `--budget K` and `--mend FILE` behind
+/// them in any order, each once at most. None where they are others.
+pub fn asked_by(words: &[String]) -> Option<Request<'_>> {
+    let [_, desc, cert, words @ ..] = words else {
+        return None;
+    };
+    let (instr, words) = named(words);
+    let (kind, words) = kind_named(instr.is_some(), words)?;
+    Some(Request {
+        desc: desc.as_str(),
+        cert: cert.as_str(),
+        instr,
+        kind,
+        options: options_of(words)?,
+    })
+}
+
+/// The first word, where it is no option, and the words behind it; else no word, and all of them.
+fn named(words: &[String]) -> (Option<&str>, &[String]) {
+    match words {
+        [word, behind @ ..] if !word.as_str().starts_with('-') => (Some(word.as_str()), behind),
+        _ => (None, words),
+    }
+}
+
+/// The kind that the first word names, where one may stand there and it is no option, and the words behind it. None where it names
+/// no kind.
+fn kind_named(may_stand: bool, words: &[String]) -> Option<(Option<Kind>, &[String])> {
+    if !may_stand {
+        return Some((None, words));
+    }
+    match named(words) {
+        (None, words) => Some((None, words)),
+        (Some(word), behind) => Some((Some(kind(word.as_bytes())?), behind)),
+    }
+}
+
+/// What the words of options say. None where they are others.
+fn options_of(words: &[String]) -> Option<Options<'_>> {
+    let mut mend = None;
+    let mut budget = None;
+    let mut left = words;
+    while let [word, value, behind @ ..] = left {
+        match word.as_str() {
+            "--mend" if mend.is_none() => mend = Some(value.as_str()),
+            "--budget" if budget.is_none() => budget = Some(budget_of(value.as_str())?),
+            _ => return None,
+        }
+        left = behind;
+    }
+    if left.is_empty() {
+        Some(Options { mend, budget })
+    } else {
+        None
+    }
+}
+
+/// The budget that a word says, from 1 to 1,000,000.
+fn budget_of(word: &str) -> Option<Budget> {
+    match word.parse::<u32>() {
+        Ok(clauses) if 1 <= clauses && clauses <= MOST_BUDGET => Some(Budget::new(clauses)),
+        _ => None,
+    }
+}

@@ -1,0 +1,100 @@
+//! Why a program goes no further: the line that tells it, and the status. Those of files are those of `pgv`.
+
+use crate::import::fault::ProofFault;
+use pg_edge::{Failed, Sink};
+use pg_foreign::ForeignFault;
+use pg_report::put_text;
+use pg_rup::RupFault;
+use pg_steps::{StopWatcher, stopped};
+use std::alloc::{AllocError, Global};
+
+/// Why a program goes no further.
+#[derive(Drop)]
+pub enum Stop {
+    /// The words are none that the program takes, or they name an instruction that the description has not, or a kind that the
+    /// certificate has not.
+    Words,
+    /// The words ask for a log that the certificate has not: two states show the kind.
+    Shown,
+    /// The same: the question is open.
+    Open,
+    /// A file is not there, is not read or is refused, as `pgv` tells it.
+    Told(pg_steps::Stop),
+    /// What another solver wrote is refused.
+    Proof(ProofFault),
+    /// Memory was refused.
+    Memory,
+    /// A text could not be put or saved.
+    Output,
+}
+
+impl From<AllocError> for Stop {
+    fn from(_error: AllocError) -> Stop {
+        Stop::Memory
+    }
+}
+
+impl From<ForeignFault> for Stop {
+    fn from(fault: ForeignFault) -> Stop {
+        match fault {
+            ForeignFault::Memory => Stop::Memory,
+            other => Stop::Proof(ProofFault::Form(other)),
+        }
+    }
+}
+
+impl From<RupFault> for Stop {
+    fn from(fault: RupFault) -> Stop {
+        match fault {
+            RupFault::Memory => Stop::Memory,
+            other => Stop::Proof(ProofFault::Rup(other)),
+        }
+    }
+}
+
+/// Nobody is told why a program goes no further, but by its text.
+#[derive(Clone, Copy, Debug)]
+pub struct Unwatched;
+
+impl StopWatcher for Unwatched {
+    fn stops(&mut self, _stop: &pg_steps::Stop) {}
+}
+
+/// The status that a program ends with: its own, or that of why it goes no further, which is told. `usage` is the line for words that
+/// are not taken.
+pub fn ended<S: Sink>(alloc: Global, usage: &[u8], answer: Result<u8, Stop>, out: &mut S) -> u8 {
+    match answer {
+        Ok(status) => status,
+        Err(stop) => stop.tell(alloc, usage, out),
+    }
+}
+
+impl Stop {
+    /// Puts the line of the stop, where it has one, and gives the status: 3 for words, 6 for a refused proof, 10 for memory, 9 for
+    /// output, and that of `pgv verify` for files; 9 too where the line could not be put.
+    ///
+    /// A finding without a log has 3 as well: the certificate is right, and the words ask for what it does not have, as those do
+    /// that name no instruction.
+    fn tell<S: Sink>(&self, alloc: Global, usage: &[u8], out: &mut S) -> u8 {
+        match self {
+            Stop::Words => status(put_text(out, usage), 3),
+            Stop::Shown => status(put_text(out, b"no log: the finding is shown\n"), 3),
+            Stop::Open => status(put_text(out, b"no log: the finding is spent\n"), 3),
+            Stop::Told(stop) => stopped(stop, out, &mut Unwatched).code(),
+            Stop::Proof(fault) => match fault.line(alloc) {
+                Ok(line) => status(put_text(out, line.as_bytes()), 6),
+                Err(AllocError) => 10,
+            },
+            Stop::Memory => 10,
+            Stop::Output => 9,
+        }
+    }
+}
+
+/// A status, or 9 where its line could not be put.
+fn status(put: Result<(), Failed>, due: u8) -> u8 {
+    match put {
+        Ok(()) => due,
+        Err(Failed) => 9,
+    }
+}

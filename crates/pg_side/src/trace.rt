@@ -1,0 +1,72 @@
+//! Runs an image on a bare machine, and shows each step.
+//!
+//!     pg_trace DESC IMAGE --grant G --steps N [--cert CERT] [--only-traps] [--counts]
+//!
+//! A line for each step: its number, the mode and P before it, the word that was fetched, the instruction with its fields, and
+//! what it changed. That is each cell that it stored into, with its new word; P where it is not the address behind; mode and R
+//! where they are others than before. A step that traps tells its cause, the word that it stored in cell 0, and the mode and P
+//! at which the machine goes on. A fetch outside the window has no word, and a dash stands there.
+//!
+//! Behind the steps stand the counts: of the steps by instruction, of the traps by cause, and of all steps. At the end is the
+//! state, as `pgv bare` writes it.
+//!
+//! - `--grant G`: how many cells the machine is given, 2 to 1,048,575. `--steps N`: how many steps are done, 0 to 1,000,000.
+//! - `--cert CERT`: a certificate of the machine, of either family. A line begins with `direct` or `emulated`: whether the hardware
+//!   would do the step, or the monitor that may run the machine. Behind the counts stand `direct N` and `emulated N`.
+//! - `--only-traps`: only the steps that trap have a line.
+//! - `--counts`: no step has a line, and there is no state: the counts are all that is written.
+//!
+//! Refusals have the lines and statuses of `pgv`, in the order of `pgv bare`: the words (3), the description (4), the room (7),
+//! the image (5). With `--cert` they are those of `pgv run`: the room is beside the cells that a monitor keeps, and behind the
+//! image come the certificate (6) and a verdict that does not accept the machine, which is written (1, 2). The status is 8 where
+//! a file cannot be read, 9 where the output cannot be written, 10 where memory is refused, and 11 where a file is not there.
+//! What was put before a fault stays. Where the status is 0 the state is the one that `pgv bare` reaches (`carry`).
+//!
+//! - `request`: the words. `prepare`: the files, to a `plan`. `certificate`: a certificate of either family. `carry`: the run and
+//!   its text.
+
+ghost use Rattle.pg_steps.specs.Able.{IsAble};
+
+mod carry;
+mod certificate;
+mod plan;
+mod prepare;
+mod request;
+
+use crate::trace::carry::carry;
+use crate::trace::request::asked_by;
+use pg_edge::{Shelf, Sink};
+use pg_hw::Hardware;
+use pg_report::put_text;
+use pg_steps::Status;
+use std::alloc::Global;
+
+/// How the program is called.
+const USAGE: &[u8] =
+    b"usage: pg_trace DESC IMAGE --grant G --steps N [--cert CERT] [--only-traps] [--counts]\n";
+
+/// Runs what the words ask for, the program's name first, and gives the number of the status.
+pub fn run<F: Shelf, S: Sink, H: Hardware>(
+    alloc: Global,
+    words: &[String],
+    shelf: &mut F,
+    out: &mut S,
+    hw: &mut H,
+) -> u8
+    requires able { IsAble H.Hardware hw.old }
+{
+    let status = match asked_by(alloc, words) {
+        Err(_) => Status::Memory,
+        Ok(None) => put_usage(out),
+        Ok(Some(words)) => carry(alloc, &words, shelf, out, hw),
+    };
+    status.code()
+}
+
+/// Puts how the program is called.
+fn put_usage<S: Sink>(out: &mut S) -> Status {
+    match put_text(out, USAGE) {
+        Ok(()) => Status::Words,
+        Err(_) => Status::WriteFault,
+    }
+}

@@ -1,0 +1,55 @@
+//! The words of the command line.
+
+use crate::side::{Call, Side, last_part};
+use std::alloc::AllocError;
+use std::env;
+use std::io::ErrorKind;
+use std::rt::Env;
+
+/// The most bytes of a name that the program is called by; a longer one is none of the programs'.
+const NAME_BYTES: usize = 4096;
+
+/// Which program is meant: that of the name which is called, or else that of the first word. The bytes are looked at before any
+/// memory is asked for, so that words which are not UTF-8, and want of memory, are told by the program that is meant.
+pub fn called<R: Env>(rt: &R) -> Option<Call> {
+    let mut bytes = [0; NAME_BYTES];
+    if let Some(side) = Side::of_name(last_part(word(rt, 0, &mut bytes))) {
+        return Some(Call {
+            side,
+            by_word: false,
+        });
+    }
+    match Side::of_name(word(rt, 1, &mut bytes)) {
+        Some(side) => Some(Call {
+            side,
+            by_word: true,
+        }),
+        None => None,
+    }
+}
+
+/// The bytes of a word, where it is there and fits; else none.
+fn word<'a, R: Env>(rt: &R, place: usize, bytes: &'a mut [u8]) -> &'a [u8] {
+    match rt.arg(place, bytes) {
+        Ok(length) => &bytes[..length],
+        Err(_) => &[],
+    }
+}
+
+/// The words of the command line, the program's name first. One that is not UTF-8 makes the line one without words, which is
+/// refused.
+pub fn words<R: Env + AllocGlobal>(rt: &R) -> Result<Vec<String>, AllocError> {
+    match env::args(rt) {
+        Ok(args) => args.collect(rt.alloc()),
+        Err(error) if error.kind() == ErrorKind::OutOfMemory => Err(AllocError),
+        Err(_) => Ok(Vec::new(rt.alloc())),
+    }
+}
+
+/// The words of the program that is meant, its name first.
+pub fn own(call: Call, words: &[String]) -> &[String] {
+    match words {
+        [_, behind @ ..] if call.by_word => behind,
+        _ => words,
+    }
+}

@@ -1,4 +1,0 @@
-pub mod Undone
-pub mod Texts
-pub mod RunLemmas
-pub mod CertLemmas
