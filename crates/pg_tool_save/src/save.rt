@@ -20,6 +20,7 @@ mod plan;
 mod preparing;
 
 use pg_asked::SaveWords;
+use pg_cmd_saving::save_text;
 use pg_edge::{Shelf, Sink};
 use pg_guests::{Ran, run_guests};
 use pg_hw::Hardware;
@@ -27,7 +28,6 @@ use pg_judged::{is_accepted, tell_verdict};
 use pg_move::{put_saved, saved_room};
 use pg_shown::put_guests;
 use pg_steps::{Status, StopWatcher, stopped};
-use pg_cmd_saving::save_text;
 use pg_type::Accepted;
 use plan::SavePlan;
 use preparing::prepare_save;

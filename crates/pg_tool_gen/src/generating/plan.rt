@@ -4,8 +4,8 @@ ghost use Rattle.pg_shown.specs.Runs.{run_of};
 ghost use Rattle.pg_shown.specs.Setting.{CanRun};
 ghost use Rattle.pg_tool_gen.specs.Generating.{gen_slice, gen_steps};
 
-use pg_image::Image;
 use pg_cmd_saving::WrittenCert;
+use pg_image::Image;
 use sqlite_items::Items;
 
 /// A machine and images of a number, and the certificate that was found of the machine.
