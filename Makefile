@@ -6,7 +6,7 @@ OUT ?= out
 
 .PHONY: help install uninstall dist deb
 help:
-	@echo "make install PREFIX=..    pgv and, where they are built, the side programs, with pages, completion, vim files, documents and examples"
+	@echo "make install PREFIX=..    the programs that are built, with pages, completion, vim files, documents and examples"
 	@echo "make uninstall PREFIX=..  takes them away"
 	@echo "make dist OUT=..          an archive of them for machines without the kit, and its SHA-256"
 	@echo "make deb OUT=..           a Debian package"
