@@ -23,7 +23,7 @@ use pg_machine::Machine;
 use std::alloc::{AllocError, Global};
 
 /// How the program is called.
-const USAGE: &[u8] = b"usage: pg_dimacs DESC INSTR KIND\n";
+pub const USAGE: &[u8] = b"usage: pg_dimacs DESC INSTR KIND\n";
 
 /// Puts the clauses of the question that the words ask for, the program's name first, and gives the status 0; else puts a line, and
 /// gives another status.

@@ -26,7 +26,7 @@ use pg_reasons::{Part, Reasons, tell_reasons};
 use std::alloc::Global;
 
 /// How the program is called.
-const USAGE: &[u8] = b"usage: pg_explain DESC CERT [INSTR [KIND]] [--budget K] [--mend FILE]\n";
+pub const USAGE: &[u8] = b"usage: pg_explain DESC CERT [INSTR [KIND]] [--budget K] [--mend FILE]\n";
 
 /// Puts why the machine is refused that the words name, the program's name first, and gives the status of the verdict; else puts a
 /// line, and gives another status.

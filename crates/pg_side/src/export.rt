@@ -21,7 +21,7 @@ use pg_imported::place_of;
 use std::alloc::Global;
 
 /// How the program is called.
-const USAGE: &[u8] = b"usage: pg_export DESC CERT INSTR KIND [--cnf FILE]\n";
+pub const USAGE: &[u8] = b"usage: pg_export DESC CERT INSTR KIND [--cnf FILE]\n";
 
 /// Puts the log that the words ask for, the program's name first, and gives the status 0; else puts a line, and gives another status.
 pub fn run<F: Shelf, S: Sink>(alloc: Global, words: &[String], shelf: &mut F, out: &mut S) -> u8 {

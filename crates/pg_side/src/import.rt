@@ -30,7 +30,7 @@ use pg_steps::{load_file, stop_of};
 use std::alloc::Global;
 
 /// How the program is called.
-const USAGE: &[u8] = b"usage: pg_import DESC CERT INSTR KIND PROOF FILE\n";
+pub const USAGE: &[u8] = b"usage: pg_import DESC CERT INSTR KIND PROOF FILE\n";
 
 /// The most bytes of what another solver wrote.
 const PROOF_BYTES: u64 = 1 << 30;

@@ -4,7 +4,8 @@
 //!     pg_side NAME WORDS..
 //!
 //! The name that is called says which one is meant, where its last part, behind every `/`, is one of the six; else the first word
-//! does. Where neither does, a line on standard error names the six, and the status is 3.
+//! does. Where neither does, a line on standard error names the six, and the status is 3. `--help` and `--version` as the first
+//! word behind the name are answered on standard output.
 //!
 //! - `side`: the programs and their names. `words`: the words of the command line, and which program they mean.
 //! - `explain`: why a machine is refused. `trace`: what each step of a run does. `dimacs`: the clauses of a question. `solve`: the
@@ -26,8 +27,11 @@ mod trace;
 mod words;
 
 use crate::side::{Call, Side};
-use crate::words::{called, own, words};
+use crate::words::{Asked, asks_for, called, own, words};
+use pg_cli_version::VERSION;
+use pg_edge::Failed;
 use pg_host::{DirShelf, StdSink};
+use pg_report::put_text;
 use pg_rig::Rig;
 use pg_steps::Status;
 use std::process::ExitCode;
@@ -48,7 +52,7 @@ fn main(rt: HostRuntime) -> ExitCode {
 /// Runs a program on the words of the command line, and gives its status.
 fn run(rt: &HostRuntime, call: Call) -> u8 {
     match words(rt) {
-        Ok(words) => run_on(rt, call.side, own(call, words.as_slice())),
+        Ok(words) => answer(rt, call.side, own(call, words.as_slice())),
         Err(_) => starved(rt, call.side),
     }
 }
@@ -60,6 +64,32 @@ fn starved(rt: &HostRuntime, side: Side) -> u8 {
         Side::Explain | Side::Trace | Side::Dimacs | Side::Import | Side::Export => {
             Status::Memory.code()
         }
+    }
+}
+
+/// Tells how a program is called, or its version, where its own words ask for that, with status 0, or 9 where it could not be
+/// put; else runs it on them.
+fn answer(rt: &HostRuntime, side: Side, words: &[String]) -> u8 {
+    let told = match asks_for(words) {
+        Some(Asked::Help) => usage(side),
+        Some(Asked::Version) => VERSION,
+        None => return run_on(rt, side, words),
+    };
+    match put_text(&mut StdSink::new(rt.stdout()), told) {
+        Ok(()) => 0,
+        Err(Failed) => Status::WriteFault.code(),
+    }
+}
+
+/// How a program is called.
+fn usage(side: Side) -> &'static [u8] {
+    match side {
+        Side::Explain => explain::USAGE,
+        Side::Trace => trace::USAGE,
+        Side::Dimacs => dimacs::USAGE,
+        Side::Solve => solve::USAGE,
+        Side::Import => import::USAGE,
+        Side::Export => export::USAGE,
     }
 }
 

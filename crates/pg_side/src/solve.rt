@@ -22,6 +22,9 @@ use std::fs;
 use std::io::ErrorKind;
 use thiserror::Error;
 
+/// How the program is called.
+pub const USAGE: &[u8] = b"usage: pg_solve FILE [BUDGET] [--check]\n";
+
 /// Why there is no answer, or not all of it is written.
 #[derive(Debug, Drop, Error)]
 enum Fault {

@@ -42,7 +42,7 @@ use pg_steps::Status;
 use std::alloc::Global;
 
 /// How the program is called.
-const USAGE: &[u8] =
+pub const USAGE: &[u8] =
     b"usage: pg_trace DESC IMAGE --grant G --steps N [--cert CERT] [--only-traps] [--counts]\n";
 
 /// Runs what the words ask for, the program's name first, and gives the number of the status.

@@ -46,6 +46,27 @@ pub fn words<R: Env + AllocGlobal>(rt: &R) -> Result<Vec<String>, AllocError> {
     }
 }
 
+/// What words ask for in place of work.
+#[derive(Clone, Copy)]
+pub enum Asked {
+    /// How the program is called.
+    Help,
+    /// The version.
+    Version,
+}
+
+/// What the first of a program's own words asks for, behind its name, if it asks for help or for the version.
+pub fn asks_for(words: &[String]) -> Option<Asked> {
+    match words {
+        [_, word, ..] => match word.as_bytes() {
+            b"--help" | b"-h" => Some(Asked::Help),
+            b"--version" => Some(Asked::Version),
+            _ => None,
+        },
+        _ => None,
+    }
+}
+
 /// The words of the program that is meant, its name first.
 pub fn own(call: Call, words: &[String]) -> &[String] {
     match words {

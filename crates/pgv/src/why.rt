@@ -1,6 +1,7 @@
 //! Why the program ends so, on standard error.
 
 use crate::screen::PROGRAM;
+use pg_cli_version::VERSION;
 use pg_command::complaint;
 use pg_host::streams::write_whole;
 use pg_host::telling::{tell, tell_refused};
@@ -45,8 +46,34 @@ fn unwritten(output: Option<ErrorKind>) -> Refused {
     Refused::new(Deed::Save, cause, "standard output")
 }
 
-/// Writes what is wrong with words that were refused, in the words of `clap`. Where memory is refused nothing is written.
+/// Where the manual is.
+const MANUAL: &[u8] = b"pgv: the manual is the page pgv(1), docs/pgv.1\n";
+
+/// Writes what refused words ask for, where it is the version or the manual, and else what is wrong with them, in the words of
+/// `clap`. Where memory is refused nothing is written.
 pub fn say_complaint<W: Write>(alloc: Global, to: &mut W, words: &[String]) {
+    match asked(words) {
+        Some(line) => {
+            let _ = write_whole(to, line);
+        }
+        None => say_fault(alloc, to, words),
+    }
+}
+
+/// The line that words ask for behind the program's name, if they do: the version, or where the manual is.
+fn asked(words: &[String]) -> Option<&'static [u8]> {
+    match words {
+        [_, word] => match word.as_bytes() {
+            b"--version" | b"-V" => Some(VERSION),
+            b"--help" | b"-h" | b"help" => Some(MANUAL),
+            _ => None,
+        },
+        _ => None,
+    }
+}
+
+/// Writes what is wrong with words that were refused.
+fn say_fault<W: Write>(alloc: Global, to: &mut W, words: &[String]) {
     if let Ok(Some(line)) = complaint_line(alloc, words) {
         let _ = write_whole(to, line.as_slice());
     }
