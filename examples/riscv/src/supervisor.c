@@ -35,13 +35,12 @@ static void write(word base, const char *from, word count) {
 }
 
 static void say(const char *what, word number) {
-  char digits[12], *d = digits + 11;
+  char digits[10], *d = digits + 10;
   const char *end = what;
   while (*end) end++;
-  *d = '\n';
   do *--d = (char)('0' + number % 10); while (number /= 10);
   write(0, what, (word)(end - what));
-  write(0, d, (word)(digits + 12 - d));
+  write(0, d, (word)(digits + 10 - d));
 }
 
 /* The status word of the next user that has not ended; with none left this is the end. */
@@ -52,6 +51,7 @@ static word next(void) {
     if (!ended[user]) return now = user, (word)&status_word[user];
   }
   say("turns ", turns);
+  write(0, "\n", 1);
   *(volatile word *)at(STATUS) = 0x600d0000;
   for (;;) ;
 }
@@ -67,6 +67,7 @@ static void finish(word user, const char *how, word number, word result) {
   ended[user] = 1;
   say("user ", user);
   say(how, number);
+  write(0, "\n", 1);
 }
 
 word trapped(void) {
