@@ -120,11 +120,20 @@ def tried(prover, edits, writes):
     ready = [edit for edit in good if writes or edit.goal or edit.no_goal]
     found = bad + [(edit, False, "it has no line goal:") for edit in good if edit not in ready]
     for group in rounds(ready):
-        for edit, answer, why in try_round(prover, group):
-            if writes and not why and not edit.goal and not edit.no_goal and first_goal(edit, answer):
-                edit.put_goal(first_goal(edit, answer))
-            found.append((edit, False, f"it does not compile: {why}") if why else (edit, *judged(edit, answer)))
+        found += [settled(prover, it, writes, len(group) == 1) for it in try_round(prover, group)]
     return sorted(found, key=lambda it: str(it[0]))
+
+
+def settled(prover, one, writes, is_alone):
+    """An edit that was tried, with whether it is shown and what is to be said of it. One that is not shown beside others is tried alone:
+    of a function whose callee is not proved the prover does not name each goal."""
+    edit, answer, why = one
+    if writes and not why and not edit.goal and not edit.no_goal and first_goal(edit, answer):
+        edit.put_goal(first_goal(edit, answer))
+    is_shown, words = (False, f"it does not compile: {why}") if why else judged(edit, answer)
+    if is_shown or is_alone:
+        return edit, is_shown, words
+    return settled(prover, try_round(prover, [edit])[0], writes, True)
 
 
 def twins_of(prover, edits):
