@@ -1,0 +1,1 @@
+/work/tmp/h12/nobin/command
