@@ -1,1 +1,0 @@
-/work/tmp/h12/nobin/command
