@@ -3,7 +3,9 @@
 
 typedef unsigned word;
 
-static const word edge[] = {0, 1, 2, 31, 32, 0x7f, 0x80, 0x7fff, 0x8000, 0xffff, 0x7fffffff, 0x80000000, 0x80000001, 0xfffffffe, 0xffffffff};
+static const word edge[] = {
+  0, 1, 2, 31, 32, 0x7f, 0x80, 0x7fff, 0x8000, 0xffff, 0x7fffffff, 0x80000000, 0x80000001, 0xfffffffe, 0xffffffff
+};
 enum { EDGES = sizeof edge / sizeof *edge, RANDOM = 75 };
 
 static word seed = 1;

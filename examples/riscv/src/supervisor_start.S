@@ -1,5 +1,6 @@
 # Where the supervisor of supervisor.c begins, and where each trap comes to. boot and trapped give the address of the program status
-# word that is loaded next, by lpsw. The supervisor's registers are those of its own window, so nothing has to be saved, and gp stays as it is.
+# word that is loaded next, by lpsw. The supervisor's registers are those of its own window, so nothing has to be saved, and gp stays
+# as it is.
   .section .init.pgv, "ax"
   .globl _start, _boot, _trap
 _start:
