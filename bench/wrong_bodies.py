@@ -70,7 +70,7 @@ def refused_by(edit, answer, texts):
 def judged(edit, answer):
     """Whether an edit is shown, and what is to be said of it."""
     if not edit.goal:
-        shown = [f"{name} {it.open[0]}" for name, it in answer.functions.items() if it.open and name in (functions_of(edit) or [name])]
+        shown = [f"{name} {it.open[0]}" for name, it in answer.functions.items() if it.open and stands_in(edit, name)]
         return bool(shown), shown[0] if shown else "no function that it stands in fails at a goal of its own"
     name, _, goal = edit.goal.partition(" ")
     found = answer.functions.get(name)
@@ -152,8 +152,8 @@ def twins_of(prover, edits):
 
 def has_unproved(edit, answer):
     """Whether a function that an edit stands in is not proved, where the crate compiles."""
-    names = functions_of(edit) or [""]
-    return not answer.refused and not all(name in answer.functions and answer.functions[name].is_proved for name in names)
+    mine = [it for name, it in answer.functions.items() if stands_in(edit, name)]
+    return not answer.refused and not (mine and all(it.is_proved for it in mine))
 
 
 def unproved(answer):
@@ -165,12 +165,22 @@ def unproved(answer):
 
 def first_goal(edit, answer):
     """The goal that an edit leaves open in a function that it stands in, where it does: of several, that of a clause that it names."""
-    mine = functions_of(edit)
-    owned = {name: it for name, it in answer.functions.items() if not mine or name in mine or is_closure(name, mine)}
-    goals = [(name, goal) for name, it in owned.items() for goal in it.open]
+    goals = [(name, goal) for name, it in answer.functions.items() if stands_in(edit, name) for goal in it.open]
     words = [word.strip(",.:;()`") for word in edit.shows.split()]
     named = [it for it in goals if it[1].rpartition("clause-")[2] in words]
     return " ".join((named or goals or [("", "")])[0]).strip()
+
+
+def stands_in(edit, name):
+    """Whether an edit stands in a function, by the prover's name of it, in which a method goes by the module of its type."""
+    mine = functions_of(edit)
+    return not mine or name in mine or is_closure(name, mine) or method(name) in {method(it) for it in mine} - {""}
+
+
+def method(name):
+    """The type and the name of a method; none of another function."""
+    parts = name.split("::")[-2:]
+    return "::".join(parts) if parts[0][:1].isupper() else ""
 
 
 def is_closure(name, functions):
