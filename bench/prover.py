@@ -49,10 +49,9 @@ class Answer:
         self.functions, self.refused, notes, answers = {}, [], [], {}
         for line in ran.stdout.split("\n"):
             self.read(crate, line, notes, answers)
-        for path, found in answers.items():
-            for name in (name for name in self.functions if name.replace("::", "/") == path):
-                for goal, why in found:
-                    self.functions[name].leave_open(goal, why)
+        for path, goal, why in ((path, *it) for path, found in answers.items() for it in found):
+            for name in filter(lambda name: is_answered(name, path, goal), self.functions):
+                self.functions[name].leave_open(goal, why)
 
     def read(self, crate, line, notes, answers):
         """Reads one line. The notes of a function's goals come above its own line, and what is wrong with written answers above all."""
@@ -70,6 +69,14 @@ class Answer:
             notes.clear()
         elif told and line.startswith("note: ") and told[1].startswith("src/"):
             notes += GOAL.findall(told[4])[:1]
+
+
+def is_answered(name, path, goal):
+    """Whether an answer for a goal in a folder of proofs is one for a function. Functions that call one another share a folder, whose
+    name begins with `+`, and their goals begin with their names."""
+    folder, _, last = path.rpartition("/")
+    module, _, function = name.replace("::", "/").rpartition("/")
+    return module == folder and goal.startswith(f"{function}-") if last.startswith("+") else name.replace("::", "/") == path
 
 
 def library_of_rt():
