@@ -11,10 +11,9 @@ verdicts: $(names:=.cert)
 	  echo "$$name $$($(PGV) verify $$name.isa $$name.cert | grep -E '^(accepted|refused [^ ]+|open [^ ]+ [^ ]+)$$')"; \
 	done
 
-# The statuses 0, 1 and 2 are verdicts, and the certificate stands.
+# The statuses 0, 1 and 2 are verdicts, and the certificate stands. It is saved whole or not at all.
 %.cert: %.isa
-	@told="$$($(PGV) check $< --cert $@.new)"; test $$? -le 2 || { echo "$<: $$told"; exit 1; }
-	@mv $@.new $@
+	@told="$$($(PGV) check $< --cert $@)"; test $$? -le 2 || { echo "$<: $$told"; exit 1; }
 
 verify: $(ACCEPTED:=.verified)
 %.verified: %.isa

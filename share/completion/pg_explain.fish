@@ -18,3 +18,6 @@ complete -c pg_explain -n '__pg_explain_at 4' -a 'privileged control mode locati
 complete -c pg_explain -n 'test (count (commandline -opc)) -ge 3' -l budget -x -d 'clauses of a question, 1 to 1000000'
 complete -c pg_explain -n 'test (count (commandline -opc)) -ge 3' -l mend -r -k -a '(__fish_complete_suffix .isa)' \
     -d 'where the mended description is saved'
+complete -c pg_explain -n 'test (count (commandline -opc)) -ge 3' -l readable \
+    -d 'states with each operand in a cell of its own, too'
+complete -c pg_explain -n '__pg_explain_at 3' -a '--json' -d 'the machine and all findings as JSON'

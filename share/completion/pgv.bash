@@ -92,8 +92,8 @@ _pgv_side() {
   COMPREPLY=()
   # Its files, its options, how many files stand before an option at least, and whether none stands behind one.
   case ${1##*/} in
-    pg_explain) files=".isa .cert instr kind" options="--budget --mend" least=2 ;;
-    pg_trace) files=".isa .img" options="--grant --steps --cert --only-traps --counts" order=no ;;
+    pg_explain) files=".isa .cert instr kind" options="--budget --mend --readable --json" least=2 ;;
+    pg_trace) files=".isa .img" options="--grant --steps --cert --only-traps --counts --json" order=no ;;
     pg_dimacs) files=".isa instr kind" ;;
     pg_import) files=".isa .cert instr kind - .cert" ;;
     pg_export) files=".isa .cert instr kind" options="--cnf" least=4 ;;
@@ -104,7 +104,7 @@ _pgv_side() {
   for ((i = 1; i < COMP_CWORD; i++)); do
     name="${COMP_WORDS[i]}"
     case $name in
-      --only-traps | --counts | --check) used+="$name " ;;
+      --only-traps | --counts | --check | --readable) used+="$name " ;;
       --*)
         used+="$name "
         ((i++))

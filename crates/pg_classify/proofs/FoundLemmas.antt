@@ -25,7 +25,8 @@ use Rattle.pg_cert.specs.Texts.{AreListed}
 use Rattle.pg_cert.specs.Validity.{IsActUnder, IsValidFinding}
 use Rattle.pg_cert.specs.InRange.{IsNumbered}
 use Rattle.pg_cert.proofs.InRange.{trimmed_may_stand}
-use Rattle.pg_classify.specs.Classified.{IsFound}
+use Rattle.pg_ask.specs.Question.{question}
+use Rattle.pg_classify.specs.Classified.{IsFound, IsFoundAt}
 
 pub IfOk-weaker : {X E : Type 0} (P Q : X → Type 0) (r : Result X E) → ((x : X) → P x → Q x) → IfOk r P → IfOk r Q
 IfOk-weaker P Q (Ok x) f h = f x h
@@ -125,3 +126,14 @@ pub shown_again : (m n : Machine) (k j : ℕ) (x y : Kind) (s t : Sparse) → m 
 shown_again m n k j x y s t same_machine same_number same_kind h =
     subst (λ z. AreShown n.desc j z s t) same_kind
     (subst (λ z. AreShown n.desc z x s t) same_number (subst (λ (z : Machine). AreShown z.desc k x s t) same_machine h))
+
+-- what is found of a question that was asked is found of the question of its instruction and kind
+pub found_at : {E : Type 0} (x y : Machine) (m n : ℕ) (k l : Kind) (clauses : List (List ℤ)) (budget : ℕ) (r : Result Finding E) → x ≡ y → m ≡ n → k ≡ l →
+    ((i : Instr) → slice_get y.desc.instrs n ≡ Some i → clauses ≡ question y.desc i l) →
+    IfOk r (λ f. (i : Instr) → slice_get x.desc.instrs m ≡ Some i → IsFound clauses budget x.desc i k f) → IfOk r (IsFoundAt y.desc n l budget)
+found_at x y m n k l clauses budget (Err e) ex em ek as_question h = h
+found_at x y m n k l clauses budget (Ok f) ex em ek as_question h = λ i at.
+    subst (λ cs. IsFound cs budget y.desc i l f) (as_question i at)
+    (subst (λ kind. IsFound clauses budget y.desc i kind f) ek
+    (subst (λ (z : Machine). IsFound clauses budget z.desc i k f) ex
+    (h i (subst (λ p. slice_get x.desc.instrs p ≡ Some i) (sym em) (subst (λ (z : Machine). slice_get z.desc.instrs n ≡ Some i) (sym ex) at)))))

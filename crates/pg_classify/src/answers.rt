@@ -13,9 +13,9 @@ ghost use Rattle.pg_classify.specs.Classified.{IsFound};
 
 use pg_ask::{Asked, states_of};
 use pg_cert::Finding;
-use pg_forget::solve;
+use pg_forget::solve_watched;
 use pg_proof::{Act, ActList, trim};
-use pg_sat::{Answer, StepList};
+use pg_sat::{Answer, SearchWatcher, StepList};
 use pg_small::small;
 use pg_word::Sparse;
 use std::alloc::{AllocError, Global};
@@ -93,13 +93,20 @@ fn shown(
 }
 
 /// What is found of a question within a budget, from 1 to 1,000,000: states that show the kind, where the solver finds an
-/// assignment; a trimmed log, where it refutes the clauses; else the log that spends the budget. The error is want of memory.
-pub fn found(alloc: Global, asked: &Asked<'_>, budget: u32) -> Result<Finding, AllocError>
+/// assignment; a trimmed log, where it refutes the clauses; else the log that spends the budget. The watcher is told at each turn how
+/// far the search has come. The error is want of memory.
+pub fn found<W: SearchWatcher>(
+    alloc: Global,
+    asked: &Asked<'_>,
+    budget: u32,
+    watcher: &mut W,
+) -> Result<Finding, AllocError>
     requires least { 1 ≤ budget }
     requires most { budget ≤ most_budget }
     ensures { IfOk result (λ f. (i : Instr) → slice_get asked.now.machine.now.desc.instrs asked.now.instr ≡ Some i → IsFound asked.now.cnf.clauses budget asked.now.machine.now.desc i asked.now.kind f) }
 {
-    match solve(alloc, asked.cnf(), budget)? {
+    let (answer, _) = solve_watched(alloc, asked.cnf(), budget, watcher)?;
+    match answer {
         Answer::Sat(assignment) => shown(alloc, asked, budget, assignment.as_slice()),
         Answer::Unsat(steps) => refuted(alloc, asked, budget, steps),
         Answer::Spent(steps) => Ok(spent(asked, budget, steps)),

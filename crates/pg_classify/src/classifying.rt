@@ -7,21 +7,23 @@ ghost use Rattle.pg_cert.specs.Verdicts.{kind_count};
 ghost use Rattle.pg_classify.specs.Classified.{IsFoundAt, AreFound, IsClassified};
 
 use crate::answers::found;
-use crate::watcher::{Silent, Watcher};
+use crate::watcher::Watcher;
 use pg_ask::ask;
 use pg_cert::{Cert, Family, Finding, FindingList, instr_of, kind_of};
 use pg_machine::Machine;
+use pg_sat::{SearchWatcher, Silent};
 use pg_type::Kind;
 use std::alloc::{AllocError, Global};
 
 /// What is found of the question of an instruction, of a number below `count()`, and a kind. Nothing else is kept of the
 /// question. The error is want of memory.
-fn finding(
+fn finding<W: SearchWatcher>(
     alloc: Global,
     machine: &Machine,
     instr: usize,
     kind: Kind,
     budget: u32,
+    watcher: &mut W,
 ) -> Result<Finding, AllocError>
     requires there { instr < length machine.now.desc.instrs }
     requires least { 1 ≤ budget }
@@ -29,7 +31,7 @@ fn finding(
     ensures { IfOk result (IsFoundAt machine.now.desc instr kind budget) }
 {
     let asked = ask(alloc, machine, instr, kind)?;
-    found(alloc, &asked, budget)
+    found(alloc, &asked, budget, watcher)
 }
 
 /// What is found of each instruction of a machine in order, and each kind of a family in order. The error is want of memory.
@@ -51,13 +53,14 @@ fn findings<W: Watcher>(
         let instr = instr_of(family, number);
         let kind = kind_of(family, number);
         watcher.asks(machine.name(instr), kind, all - number);
-        findings.push(finding(alloc, machine, instr, kind, budget)?)?;
+        findings.push(finding(alloc, machine, instr, kind, budget, watcher)?)?;
     }
     Ok(findings)
 }
 
 /// The certificate of a machine over a family of kinds: one finding for each instruction in order and each kind in order,
-/// for which the solver learns at most `budget` clauses, from 1 to 1,000,000. The watcher is told of each question.
+/// for which the solver learns at most `budget` clauses, from 1 to 1,000,000. The watcher is told of each question, and at each turn of
+/// its search how far that has come.
 ///
 /// It is valid whatever the solver finds: each finding is a log that refutes its question, trimmed from at most `budget` steps
 /// and the empty clause, two states that show the kind, or a log of as many steps as the budget, each new. Its text can be

@@ -14,4 +14,5 @@ mod classifying;
 mod watcher;
 
 pub use classifying::{classify, classify_hybrid, classify_watched};
-pub use watcher::{Silent, Watcher};
+pub use pg_sat::{SearchWatcher, Silent};
+pub use watcher::Watcher;

@@ -33,5 +33,5 @@ mod turn;
 mod walk;
 
 pub use found::Found;
-pub use search::{find, find_counted};
-pub use solver::{solve, solve_counted};
+pub use search::{find, find_counted, find_watched};
+pub use solver::{solve, solve_counted, solve_watched};

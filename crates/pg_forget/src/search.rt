@@ -11,7 +11,7 @@ use crate::learn::settle;
 use crate::turn::{Turned, turn};
 use pg_cnf::Cnf;
 use pg_proof::Step;
-use pg_sat::{Assignment, Counts, StepList};
+use pg_sat::{Assignment, Counts, SearchWatcher, Silent, StepList};
 use std::alloc::{AllocError, Global};
 
 /// How a search ends.
@@ -46,22 +46,45 @@ pub fn find_counted(alloc: Global, cnf: &Cnf, budget: u32) -> Result<(Found, Cou
     requires { budget < 2 ^ 31 }
     ensures { IfOk result (λ told. IsFinding cnf.now.clauses cnf.now.variables budget told.0) }
 {
+    find_watched(alloc, cnf, budget, &mut Silent)
+}
+
+/// The same as `find_counted`, and the watcher is told at each turn how far the search has come. It finds what it finds with any other
+/// watcher.
+pub fn find_watched<W: SearchWatcher>(
+    alloc: Global,
+    cnf: &Cnf,
+    budget: u32,
+    watcher: &mut W,
+) -> Result<(Found, Counts), AllocError>
+    requires { budget < 2 ^ 31 }
+    ensures { IfOk result (λ told. IsFinding cnf.now.clauses cnf.now.variables budget told.0) }
+{
     let mut held = Held::new(alloc, cnf)?;
     let mut course = Course::new(alloc, cnf.variables)?;
     let mut steps = Vec::new(alloc);
-    let ended = turns(alloc, cnf, &mut held, &mut steps, &mut course, budget)?;
+    let ended = turns(
+        alloc,
+        cnf,
+        &mut held,
+        &mut steps,
+        &mut course,
+        budget,
+        watcher,
+    )?;
     let counts = counts_of(&held, &course, steps.len());
     Ok((found_of(ended, steps), counts))
 }
 
 /// Goes from turn to turn until one is the last. The error is want of memory.
-fn turns(
+fn turns<W: SearchWatcher>(
     alloc: Global,
     cnf: &Cnf,
     held: &mut Held,
     steps: &mut Vec<Step>,
     course: &mut Course,
     budget: u32,
+    watcher: &mut W,
 ) -> Result<Ended, AllocError>
     requires forgetting { IsForgetting cnf.now.clauses cnf.now.variables held.old.watches held.old.numbers.items steps.old.items }
     requires steps { steps.old.items ≡ [] }
@@ -76,6 +99,7 @@ fn turns(
             Turned::Closed => return Ok(Ended::Closed),
             Turned::Exhausted => return Ok(Ended::Exhausted),
         }
+        watcher.goes_on(steps.len(), budget);
     }
 }
 

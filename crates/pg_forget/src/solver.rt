@@ -4,9 +4,9 @@ ghost use Rattle.std.specs.Prelude.{◌<◌, ◌^◌, IfOk};
 ghost use Rattle.pg_sat.specs.Answers.{IsAnswer};
 
 use crate::found::Found;
-use crate::search::find_counted;
+use crate::search::find_watched;
 use pg_cnf::Cnf;
-use pg_sat::{Answer, Counts};
+use pg_sat::{Answer, Counts, SearchWatcher, Silent};
 use std::alloc::{AllocError, Global};
 
 /// The same answers as `pg_sat::solve`, with the same evidence: an assignment, a closed log of at most `budget` steps before its
@@ -28,25 +28,40 @@ pub fn solve_counted(alloc: Global, cnf: &Cnf, budget: u32) -> Result<(Answer, C
     requires { budget < 2 ^ 31 }
     ensures { IfOk result (λ told. IsAnswer cnf.now.clauses cnf.now.variables budget told.0) }
 {
-    let (found, counts) = find_counted(alloc, cnf, budget)?;
-    match found {
-        Found::Model(assignment) => Ok((Answer::Sat(assignment), counts)),
-        Found::Refuted(steps) => Ok((Answer::Unsat(steps), counts)),
-        Found::Open(_) => solve_all(alloc, cnf, budget, counts),
-    }
+    solve_watched(alloc, cnf, budget, &mut Silent)
 }
 
-/// What `pg_sat` answers, with what was taken before. The error is want of memory.
-fn solve_all(
+/// The same as `solve_counted`, and the watcher is told at each turn how far the search has come: where the first spends the budget, it
+/// is told of the second from no clause on. It answers as it does with any other watcher.
+pub fn solve_watched<W: SearchWatcher>(
     alloc: Global,
     cnf: &Cnf,
     budget: u32,
-    before: Counts,
+    watcher: &mut W,
 ) -> Result<(Answer, Counts), AllocError>
     requires { budget < 2 ^ 31 }
     ensures { IfOk result (λ told. IsAnswer cnf.now.clauses cnf.now.variables budget told.0) }
 {
-    match pg_sat::solve_counted(alloc, cnf, budget) {
+    let (found, counts) = find_watched(alloc, cnf, budget, watcher)?;
+    match found {
+        Found::Model(assignment) => Ok((Answer::Sat(assignment), counts)),
+        Found::Refuted(steps) => Ok((Answer::Unsat(steps), counts)),
+        Found::Open(_) => solve_all(alloc, cnf, budget, counts, watcher),
+    }
+}
+
+/// What `pg_sat` answers, with what was taken before. The error is want of memory.
+fn solve_all<W: SearchWatcher>(
+    alloc: Global,
+    cnf: &Cnf,
+    budget: u32,
+    before: Counts,
+    watcher: &mut W,
+) -> Result<(Answer, Counts), AllocError>
+    requires { budget < 2 ^ 31 }
+    ensures { IfOk result (λ told. IsAnswer cnf.now.clauses cnf.now.variables budget told.0) }
+{
+    match pg_sat::solve_watched(alloc, cnf, budget, watcher) {
         Ok((answer, counts)) => {
             let both = Counts {
                 conflicts: counts.conflicts.saturating_add(before.conflicts),

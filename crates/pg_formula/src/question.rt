@@ -24,7 +24,7 @@ pub fn text_of(alloc: Global, names: &Names<'_>, asked: &Asked<'_>) -> Result<Ve
     ensures { IfOk result (λ text. IsQuestionText asked.now.cnf.clauses text.items) }
 {
     let mut text = Vec::new(alloc);
-    push_comments(&mut text, names, asked)?;
+    push_comments(alloc, &mut text, names, asked)?;
     push_formula(&mut text, asked.cnf())?;
     Ok(text)
 }

@@ -10,7 +10,7 @@ use Rattle.pg_valid.specs.Scopes.{sight_of, seen_in_order}
 use Rattle.pg_valid.specs.Widths.{Setting, fare_of, fares_in_order, broken_place}
 use Rattle.pg_valid.proofs.CheckExprEquations.{expr_tally_rules, unknown_name_rules}
 use Rattle.pg_valid.proofs.CheckStmtEquations.{stmt_tally_rules, let_names_rules, sight_of_rules}
-use Rattle.pg_valid.proofs.WidthEquations.{width_rules}
+use Rattle.pg_valid.proofs.WidthEquations.{judged_rules}
 use Rattle.pg_valid.proofs.FareEquations.{fare_rules}
 use Rattle.pg_generate.proofs.Tables.{HasFields}
 use Rattle.pg_generate.specs.Bodies.{adds, xors, jumps_where_equal, traps, loads_register, stores_relocation, body_of}
@@ -34,7 +34,7 @@ adds-sound = record {
   limits = simp (stmt_tally_rules, expr_tally_rules);
   lets = simp let_names_rules;
   names = λ pattern h. simp (sight_of_rules, unknown_name_rules, h.x, h.y, h.z);
-  widths = λ pattern h. simp (fare_rules, width_rules, h.x, h.y, h.z);
+  widths = λ pattern h. simp (fare_rules, judged_rules, h.x, h.y, h.z);
 }
 
 xors-sound : IsSound xors
@@ -44,7 +44,7 @@ xors-sound = record {
   limits = simp (stmt_tally_rules, expr_tally_rules);
   lets = simp let_names_rules;
   names = λ pattern h. simp (sight_of_rules, unknown_name_rules, h.x, h.y, h.z);
-  widths = λ pattern h. simp (fare_rules, width_rules, h.x, h.y, h.z);
+  widths = λ pattern h. simp (fare_rules, judged_rules, h.x, h.y, h.z);
 }
 
 jumps-sound : IsSound jumps_where_equal
@@ -54,7 +54,7 @@ jumps-sound = record {
   limits = simp (stmt_tally_rules, expr_tally_rules);
   lets = simp let_names_rules;
   names = λ pattern h. simp (sight_of_rules, unknown_name_rules, h.x, h.y, h.z);
-  widths = λ pattern h. simp (fare_rules, width_rules, h.x, h.y, h.z);
+  widths = λ pattern h. simp (fare_rules, judged_rules, h.x, h.y, h.z);
 }
 
 traps-sound : IsSound traps
@@ -74,7 +74,7 @@ loads-sound = record {
   limits = simp (stmt_tally_rules, expr_tally_rules);
   lets = simp let_names_rules;
   names = λ pattern h. simp (sight_of_rules, unknown_name_rules, h.x, h.y);
-  widths = λ pattern h. simp (fare_rules, width_rules, h.x, h.y);
+  widths = λ pattern h. simp (fare_rules, judged_rules, h.x, h.y);
 }
 
 stores-sound : IsSound stores_relocation
@@ -84,7 +84,7 @@ stores-sound = record {
   limits = simp (stmt_tally_rules, expr_tally_rules);
   lets = simp let_names_rules;
   names = λ pattern h. simp (sight_of_rules, unknown_name_rules, h.x);
-  widths = λ pattern h. simp (fare_rules, width_rules, h.x);
+  widths = λ pattern h. simp (fare_rules, judged_rules, h.x);
 }
 
 either-sound : (test : Bool) (one other : List Stmt) → IsSound one → IsSound other → IsSound (if test then one else other)

@@ -1,7 +1,6 @@
 -- What a program says on standard error. Its lines begin with its own name.
 use Rattle.std.specs.Prelude.{ℕ, if◌then◌else◌, List, [], ◌∷◌, ◌++◌, map, take, codes}
 use Rattle.std.specs.Char.{is_ascii_control}
-use Rattle.std.specs.Fmt.{decimal}
 use Rattle.std.specs.declared.io.ErrorKind.{ErrorKind}
 use Rattle.pg_host.specs.declared.refused.Cause.{Cause}
 use Rattle.pg_host.specs.declared.refused.Deed.{Deed}
@@ -53,17 +52,14 @@ cause_text deed (Cause.System kind) = deed_text deed ++ why_text kind
 unfoldable pub refusal_text : Refused → List ℕ
 refusal_text kept = name_text kept ++ codes ": " ++ cause_text kept.deed kept.cause
 
--- which question is asked: `NAME KIND`, of which no more is shown than comes
-unfoldable pub question_text : List ℕ → List ℕ → List ℕ
-question_text name kind = map shown_byte (take 64 name) ++ 32 ∷ take 32 kind
+-- a line that is written over: carriage return, what keeps a terminal from wrapping, `PROGRAM: TEXT`, what erases the rest of a line,
+-- and what lets the terminal wrap again
+unfoldable pub progress_text : List ℕ → List ℕ → List ℕ
+progress_text program text = (13 ∷ 27 ∷ codes "[?7l") ++ program ++ codes ": " ++ map shown_byte (take 74 text) ++ 27 ∷ codes "[K" ++ 27 ∷ codes "[?7h"
 
--- how many are left: `, N left`
-unfoldable pub left_text : ℕ → List ℕ
-left_text left = codes ", " ++ decimal left ++ codes " left"
-
--- the line of a question, which is written over: carriage return, `PROGRAM: NAME KIND, N left`, and what erases the rest of a line
-unfoldable pub progress_text : List ℕ → List ℕ → List ℕ → ℕ → List ℕ
-progress_text program name kind left = 13 ∷ program ++ codes ": " ++ question_text name kind ++ left_text left ++ 27 ∷ codes "[K"
+-- a line of a text of which no more is shown than comes
+abbrev pub noted_line : List ℕ → List ℕ → List ℕ
+noted_line program text = told_line program (map shown_byte (take 160 text))
 
 -- what erases a line
 unfoldable pub erase_text : List ℕ

@@ -1,28 +1,25 @@
 //! A line on a terminal that says how far a long command has come.
 //!
-//! It is written over at each question, and erased before anything else is written. Where it is off, or once a write has
-//! failed, nothing is written: a program puts it on where its writer is a terminal. No memory is taken.
+//! It is written over each time, and erased before anything else is written. Where it is off, or once a write has failed, nothing is
+//! written: a program puts it on where its writer is a terminal. No memory is taken. On a terminal that is narrower than the line, the
+//! rest of it is not shown, and takes no second row: the terminal is told not to wrap, and to wrap again behind it.
 
 ghost use Rattle.std.specs.Prelude.{◌≡◌, ◌+◌, ◌≤◌, ◌++◌, length, IsTrue, IsFalse, OnOk, OnErr};
 ghost use Rattle.std.specs.Io.KnownBytes.{Appends};
 ghost use Rattle.arrayvec.specs.ArrayVec.{array_vec_len};
 ghost use Rattle.pg_host.specs.Streams.{AppendsFront};
-ghost use Rattle.pg_host.specs.Telling.{progress_text, question_text, left_text, erase_text};
+ghost use Rattle.pg_host.specs.Telling.{progress_text, erase_text};
 
 use crate::push::{front, push, push_shown};
 use crate::streams::write_whole;
 use arrayvec::ArrayVec;
-use itoa::Buffer;
 use std::io::{ErrorKind, Write};
 
 /// The most bytes of a line.
 const LINE_BYTES: usize = 192;
 
-/// The most bytes that are shown of an instruction's name, which has no more than 32.
-const SHOWN_BYTES: usize = 64;
-
-/// The most bytes that are shown of the word of a kind, which has no more than 10.
-const KIND_BYTES: usize = 32;
+/// The most bytes that are shown of a text: behind a program's name of three letters, 79 columns.
+const SHOWN_BYTES: usize = 74;
 
 /// The line, over the writer that it goes to.
 #[derive(Drop)]
@@ -53,20 +50,18 @@ impl<W: Write + Drop> Progress<W> {
         &self.to
     }
 
-    /// Writes the line `PROGRAM: NAME KIND, LEFT left` over the one that is shown. The program's name has at most 32 bytes;
-    /// of the instruction's 64 are shown, each control character as `?`, and of the kind 32. A write that fails puts the
-    /// line off for good, with what it left.
-    pub fn tell(&mut self, program: &str, name: &[u8], kind: &[u8], left: usize)
+    /// Writes the line `PROGRAM: TEXT` over the one that is shown. The program's name has at most 32 bytes; of the text 74 are shown,
+    /// each control character as `?`. A write that fails puts the line off for good, with what it left.
+    pub fn show(&mut self, program: &str, text: &[u8])
         requires program { length program.now ≤ 32 }
         ensures silent { IsFalse self.old.is_on → self.new ≡ self.old }
         ensures shown { IsTrue self.old.is_on → self.new.is_shown ≡ self.new.is_on }
-        ensures whole { IsTrue self.new.is_on → Appends (W.contents self.old.to) (W.contents self.new.to)
-            (progress_text program.now name.now kind.now left) }
+        ensures whole { IsTrue self.new.is_on → Appends (W.contents self.old.to) (W.contents self.new.to) (progress_text program.now text.now) }
         ensures front { IsTrue self.old.is_on → IsFalse self.new.is_on → AppendsFront (W.contents self.old.to) (W.contents self.new.to)
-            (progress_text program.now name.now kind.now left) }
+            (progress_text program.now text.now) }
     {
         if self.is_on {
-            let written = put_question(&mut self.to, program, name, kind, left);
+            let written = put_line(&mut self.to, program, text);
             self.is_on = written.is_ok();
             self.is_shown = self.is_on;
         }
@@ -89,64 +84,27 @@ impl<W: Write + Drop> Progress<W> {
     }
 }
 
-/// Writes the line of a question, which is written over.
-fn put_question<W: Write>(
-    to: &mut W,
-    program: &str,
-    name: &[u8],
-    kind: &[u8],
-    left: usize,
-) -> Result<(), ErrorKind>
+/// Writes the line of a text, which is written over.
+fn put_line<W: Write>(to: &mut W, program: &str, text: &[u8]) -> Result<(), ErrorKind>
     requires program { length program.now ≤ 32 }
-    ensures whole { OnOk result (Appends (W.contents to.old) (W.contents to.new) (progress_text program.now name.now kind.now left)) }
-    ensures front { OnErr result (AppendsFront (W.contents to.old) (W.contents to.new) (progress_text program.now name.now kind.now left)) }
+    ensures whole { OnOk result (Appends (W.contents to.old) (W.contents to.new) (progress_text program.now text.now)) }
+    ensures front { OnErr result (AppendsFront (W.contents to.old) (W.contents to.new) (progress_text program.now text.now)) }
 {
     let mut line = ArrayVec::new();
-    push_question(&mut line, program, name, kind, left);
+    push_line(&mut line, program, text);
     write_whole(to, line.as_slice())
 }
 
-/// Pushes the line of a question into an empty one.
+/// Pushes the line of a text into an empty one.
 #[tactic(auto, unfolding(crate::specs::Telling::progress_text))]
-fn push_question(
-    line: &mut ArrayVec<u8, LINE_BYTES>,
-    program: &str,
-    name: &[u8],
-    kind: &[u8],
-    left: usize,
-)
+fn push_line(line: &mut ArrayVec<u8, LINE_BYTES>, program: &str, text: &[u8])
     requires empty { array_vec_len line.old ≡ 0 }
     requires program { length program.now ≤ 32 }
-    ensures { line.new.items ≡ line.old.items ++ progress_text program.now name.now kind.now left }
+    ensures { line.new.items ≡ line.old.items ++ progress_text program.now text.now }
 {
-    push(line, b"\r");
+    push(line, b"\r\x1b[?7l");
     push(line, program.as_bytes());
     push(line, b": ");
-    push_asked(line, name, kind);
-    push_left(line, left);
-    push(line, b"\x1b[K");
-}
-
-/// Pushes which question is asked.
-#[tactic(auto, unfolding(crate::specs::Telling::question_text))]
-fn push_asked(line: &mut ArrayVec<u8, LINE_BYTES>, name: &[u8], kind: &[u8])
-    requires room { array_vec_len line.old + 97 ≤ 192 }
-    ensures items { line.new.items ≡ line.old.items ++ question_text name.now kind.now }
-    ensures len { array_vec_len line.new ≤ array_vec_len line.old + 97 }
-{
-    push_shown(line, front(name, SHOWN_BYTES));
-    push(line, b" ");
-    push(line, front(kind, KIND_BYTES));
-}
-
-/// Pushes how many questions are left.
-#[tactic(auto, unfolding(crate::specs::Telling::left_text))]
-fn push_left(line: &mut ArrayVec<u8, LINE_BYTES>, left: usize)
-    requires { array_vec_len line.old + 47 ≤ 192 }
-    ensures items { line.new.items ≡ line.old.items ++ left_text left }
-    ensures len { array_vec_len line.new ≤ array_vec_len line.old + 47 }
-{
-    push(line, b", ");
-    push(line, Buffer::new().format(left).as_bytes());
-    push(line, b" left");
+    push_shown(line, front(text, SHOWN_BYTES));
+    push(line, b"\x1b[K\x1b[?7h");
 }

@@ -8,9 +8,9 @@ ghost use Rattle.std.specs.Prelude.{◌≡◌, ◌+◌, ◌≤◌, if◌then◌e
 ghost use Rattle.std.specs.Io.KnownBytes.{Appends};
 ghost use Rattle.arrayvec.specs.ArrayVec.{array_vec_len};
 ghost use Rattle.pg_host.specs.Streams.{AppendsFront};
-ghost use Rattle.pg_host.specs.Telling.{told_line, name_text, why_text, deed_text, cause_text, refusal_text};
+ghost use Rattle.pg_host.specs.Telling.{told_line, noted_line, name_text, why_text, deed_text, cause_text, refusal_text};
 
-use crate::push::{push, push_shown};
+use crate::push::{front, push, push_shown};
 use crate::refused::{Cause, Deed, Refused};
 use crate::streams::write_whole;
 use arrayvec::ArrayVec;
@@ -18,6 +18,9 @@ use std::io::{ErrorKind, Write};
 
 /// The most bytes of a line, with its LF.
 const LINE_BYTES: usize = 4224;
+
+/// The most bytes that are shown of a note.
+const NOTE_BYTES: usize = 160;
 
 /// Writes the line `PROGRAM: TEXT`, of a program's name of at most 32 bytes and a text of at most 64.
 ///
@@ -31,6 +34,21 @@ pub fn tell<W: Write>(to: &mut W, program: &str, text: &str) -> Result<(), Error
 {
     let mut line = ArrayVec::new();
     push_line(&mut line, program, text);
+    write_whole(to, line.as_slice())
+}
+
+/// Writes the line `PROGRAM: TEXT`, of a program's name of at most 32 bytes and the first 160 bytes of a text, each control character as
+/// `?`.
+///
+/// # Errors
+/// The kind of the system's error where a write fails. A front of the line may have been written.
+pub fn note<W: Write>(to: &mut W, program: &str, text: &[u8]) -> Result<(), ErrorKind>
+    requires program { length program.now ≤ 32 }
+    ensures whole { OnOk result (Appends (W.contents to.old) (W.contents to.new) (noted_line program.now text.now)) }
+    ensures front { OnErr result (AppendsFront (W.contents to.old) (W.contents to.new) (noted_line program.now text.now)) }
+{
+    let mut line = ArrayVec::new();
+    push_note(&mut line, program, text);
     write_whole(to, line.as_slice())
 }
 
@@ -61,6 +79,19 @@ fn push_line(line: &mut ArrayVec<u8, LINE_BYTES>, program: &str, text: &str)
     push(line, program.as_bytes());
     push(line, b": ");
     push(line, text.as_bytes());
+    push(line, b"\n");
+}
+
+/// Pushes the line of a note into an empty one.
+#[tactic(auto, unfolding(crate::specs::Telling::told_line))]
+fn push_note(line: &mut ArrayVec<u8, LINE_BYTES>, program: &str, text: &[u8])
+    requires empty { array_vec_len line.old ≡ 0 }
+    requires program { length program.now ≤ 32 }
+    ensures { line.new.items ≡ line.old.items ++ noted_line program.now text.now }
+{
+    push(line, program.as_bytes());
+    push(line, b": ");
+    push_shown(line, front(text, NOTE_BYTES));
     push(line, b"\n");
 }
 

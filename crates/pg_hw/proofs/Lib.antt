@@ -4,3 +4,4 @@ pub mod ServingLaws
 pub mod RunLemmas
 pub mod PokeLemmas
 pub mod IdleLaws
+pub mod StillLemmas

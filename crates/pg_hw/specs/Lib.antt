@@ -4,3 +4,4 @@ pub mod Bursts
 pub mod Running
 pub mod Serving
 pub mod Idling
+pub mod Stillness

@@ -33,6 +33,7 @@ impl Works for Idling {
                 psw,
                 done: 0,
                 untrapped: 0,
+                still: None,
             };
         }
         let usable = window_len(psw, cells.len() as u32);
@@ -41,6 +42,7 @@ impl Works for Idling {
             psw: trap(cells, m.shape(), psw, cause),
             done: 1,
             untrapped: 0,
+            still: None,
         }
     }
 }

@@ -11,7 +11,7 @@
 //!
 //! # Modules
 //!
-//! - `hardware`: the trait. `counts`: what is counted.
+//! - `hardware`: the trait. `counts`: what is counted. `settling`: a hardware that tells where a burst came to a standstill.
 //! - `runs`: what is run on any hardware, switching on and bare runs. `laws`: of counts and bursts.
 //! - `memory`: a hardware in memory, whatever machines it runs, and what is owed by a way to do their steps, a burst a call;
 //!   `parts`: the trap, and a count that rises. `idle`: the smallest hardware.
@@ -24,6 +24,7 @@ pub mod laws;
 mod memory;
 mod parts;
 mod runs;
+mod settling;
 
 pub use counts::Counts;
 pub use hardware::Hardware;
@@ -31,3 +32,4 @@ pub use idle::{Idle, Idling};
 pub use memory::{BurstEnd, Memory, Works};
 pub use parts::{raised, trap};
 pub use runs::{bare, power_on};
+pub use settling::{Settled, Settling};

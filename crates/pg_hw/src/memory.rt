@@ -19,10 +19,12 @@ ghost use Rattle.pg_hw.specs.Machinery.{at_psw};
 ghost use Rattle.pg_hw.specs.Bursts.{burst_length};
 ghost use Rattle.pg_hw.specs.Serving.{IsServed};
 ghost use Rattle.pg_hw.specs.Running.{after_run};
+ghost use Rattle.pg_hw.specs.Stillness.{TellsStill};
 
 use super::counts::Counts;
 use super::hardware::Hardware;
 use super::parts::raised;
+use super::settling::{Settled, Settling};
 use pg_machine::Machine;
 use pg_word::Psw;
 use std::alloc::{AllocError, Global};
@@ -36,6 +38,9 @@ pub struct BurstEnd {
     pub done: u64,
     /// The steps that began in user mode and did not trap.
     pub untrapped: u64,
+    /// Behind how many of the steps the state first stayed as it was, without a trap; none where it did not before the last one.
+    /// The steps behind that one need not be done: each leaves the state as it is.
+    pub still: Option<u64>,
 }
 
 /// A way to do steps, with the room that it takes for them.
@@ -47,6 +52,7 @@ pub trait Works {
     ghost use Rattle.pg_hw.specs.Bursts.{burst_length, untrapped_among};
     ghost use Rattle.pg_hw.specs.Machinery.{at_psw};
     ghost use Rattle.pg_hw.specs.Serving.{IsServed};
+    ghost use Rattle.pg_hw.specs.Stillness.{TellsStill};
 
     /// The machines whose steps it does.
     ghost does: { Desc → Type 0 };
@@ -61,7 +67,8 @@ pub trait Works {
         requires state { IsState m.now.desc (at_psw cells.old psw) }
         ensures done { result.done ≡ burst_length m.now.desc k (at_psw cells.old psw) }
         ensures state { at_psw cells.new result.psw ≡ stepped_often m.now.desc result.done (at_psw cells.old psw) }
-        ensures untrapped { result.untrapped ≡ untrapped_among m.now.desc result.done (at_psw cells.old psw) };
+        ensures untrapped { result.untrapped ≡ untrapped_among m.now.desc result.done (at_psw cells.old psw) }
+        ensures still { TellsStill m.now.desc result.done (at_psw cells.old psw) result.still };
 }
 
 /// A hardware in memory, which has room for `2^32 - 1` cells.
@@ -91,19 +98,23 @@ impl<W: Works> Memory<W> {
         }
     }
 
-    /// Steps until `k` were done or one trapped, counted once for all of them; how many they were.
-    fn run(&mut self, m: &Machine, k: u64) -> u64
+    /// Steps until `k` were done or one trapped, counted once for all of them; what they were.
+    fn run(&mut self, m: &Machine, k: u64) -> Settled
         requires known { IsServed W.does m.now.desc }
         requires state { IsState m.now.desc (at_psw self.old.cells.items self.old.psw) }
-        ensures done { result ≡ burst_length m.now.desc k (at_psw self.old.cells.items self.old.psw) }
-        ensures state { at_psw self.new.cells.items self.new.psw ≡ steps m.now.desc result (at_psw self.old.cells.items self.old.psw) }
-        ensures counts { self.new.counts ≡ after_run m.now.desc self.old.counts result (at_psw self.old.cells.items self.old.psw) }
+        ensures done { result.done ≡ burst_length m.now.desc k (at_psw self.old.cells.items self.old.psw) }
+        ensures still { TellsStill m.now.desc result.done (at_psw self.old.cells.items self.old.psw) result.still }
+        ensures state { at_psw self.new.cells.items self.new.psw ≡ steps m.now.desc result.done (at_psw self.old.cells.items self.old.psw) }
+        ensures counts { self.new.counts ≡ after_run m.now.desc self.old.counts result.done (at_psw self.old.cells.items self.old.psw) }
     {
         let end = self.works.run(&mut self.cells, self.psw, m, k);
         self.psw = end.psw;
         self.counts.steps = raised(self.counts.steps, end.done);
         self.counts.untrapped = raised(self.counts.untrapped, end.untrapped);
-        end.done
+        Settled {
+            done: end.done,
+            still: end.still,
+        }
     }
 }
 
@@ -140,7 +151,7 @@ impl<W: Works> Hardware for Memory<W> {
     }
 
     fn burst(&mut self, m: &Machine, k: u64) -> u64 {
-        self.run(m, k)
+        self.run(m, k).done
     }
 
     fn peek(&self, at: u32) -> u64 {
@@ -163,5 +174,11 @@ impl<W: Works> Hardware for Memory<W> {
 
     fn counts(&self) -> Counts {
         self.counts
+    }
+}
+
+impl<W: Works> Settling for Memory<W> {
+    fn burst_settling(&mut self, m: &Machine, k: u64) -> Settled {
+        self.run(m, k)
     }
 }

@@ -1,3 +1,4 @@
+pub mod LeavingLemmas
 pub mod UserLemmas
 pub mod SteppedLemmas
 pub mod TurnedLemmas

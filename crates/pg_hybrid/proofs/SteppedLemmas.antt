@@ -1,7 +1,10 @@
 -- Turns of the guest that the hardware runs from user mode: a burst, and what is interpreted behind it.
-use Rattle.std.proofs.Common.{◌≡◌, ℕ, suc, ◌+◌, Bool, true, false, refl, sym, ◌∙◌, ap, subst, arith}
+use Rattle.std.proofs.Common.{◌≡◌, ℕ, suc, ◌+◌, Bool, true, false, None, Some, slice_set, slice_index, refl, sym, ◌∙◌, ap, subst, arith}
+use Rattle.std.specs.Bool.{then_some}
+use Rattle.std.proofs.lemmas.List.{get_or-set_same}
 use Rattle.pg_word.specs.declared.psw.Mode.TheVariants.{U}
 use Rattle.pg_word.specs.declared.psw.Psw.{Psw}
+use Rattle.pg_word.specs.Psw.{power_on_psw}
 use Rattle.pg_ast.specs.declared.tree.Desc.{Desc}
 use Rattle.pg_meaning.specs.States.{State}
 use Rattle.pg_meaning.specs.Steps.{step, steps}
@@ -13,18 +16,22 @@ use Rattle.pg_hw.specs.Machinery.{Machinery}
 use Rattle.pg_hw.specs.Bursts.{untrapped_among, supervisor_among}
 use Rattle.pg_hw.specs.Running.{Ran}
 use Rattle.pg_routine.specs.Composing.{composed}
-use Rattle.pg_routine.specs.Granting.{GrantPoked}
+use Rattle.pg_routine.specs.Granting.{GrantPoked, with_grant}
 use Rattle.pg_control.specs.declared.guest.Guest.{Guest}
 use Rattle.pg_control.specs.Guests.{virtual}
 use Rattle.pg_control.specs.Direct.{is_direct, direct_among}
 use Rattle.pg_control.specs.Current.{Holds, Runs, with_psw}
+use Rattle.pg_control.specs.Traps.{trap_word}
 use Rattle.pg_control.specs.Advancing.{Advanced}
 use Rattle.pg_control.proofs.AdvanceLemmas.{Advanced-then, Advanced-direct, Advanced-halted, Advanced-interpreted}
 use Rattle.pg_control.proofs.BurstLemmas.{Halted, Stopped, StopCounts, StopCounts-of}
-use Rattle.pg_control.proofs.DirectLemmas.{IsAlikeIn, user-alike}
+use Rattle.pg_control.proofs.CellLemmas.{with_grant-before}
+use Rattle.pg_control.proofs.DirectLemmas.{Holds-within, IsAlikeIn, TrapStep-of, user-alike}
 use Rattle.pg_control.proofs.RunLemmas.{Directly}
 use Rattle.pg_hybrid.specs.UserTurns.{user_among, hybrid_among}
+use Rattle.pg_hybrid.specs.Leaving.{left_of, left_by, left_among}
 use Rattle.pg_hybrid.specs.Current.{Interpreted, Stepped}
+use Rattle.pg_hybrid.proofs.LeavingLemmas.{of_four, same-left, left-trapped, left_among-next}
 use Rattle.pg_hybrid.proofs.UserLemmas.{UserRun, UserRun-all, direct-once, trapped-users, trapped-hybrid}
 
 -- a machine that a hybrid monitor may run does the steps of a guest in user mode alike
@@ -37,6 +44,13 @@ alike-of d g accepted user = subst (IsAlikeIn d) (sym user) (user-alike d accept
 directly-kept : (d : Desc) (n : ℕ) (real : State) (g : Guest) → Runs d real g → Directly d n real g → (steps d n real).psw ≡ record real.psw { p = (steps d n real).psw.p }
 directly-kept d n real g runs run =
     run.runs.under ∙ ap (λ (x : Psw). composed x g.base g.size) run.kept ∙ ap (λ (x : Psw). record x { p = (steps d n real).psw.p }) (sym runs.under)
+
+-- and cell 0
+direct-first : (d : Desc) (n : ℕ) (real : State) (g : Guest) → Runs d real g → Directly d n real g → (now : State) → now ≡ steps d n real →
+    slice_index now.cells 0 ≡ slice_index real.cells 0
+direct-first d n real g runs run now is =
+    ap (λ (x : State). slice_index x.cells 0) is ∙ ap (λ xs. slice_index xs 0) run.storage
+    ∙ with_grant-before real.cells (steps d n (virtual real.cells g)).cells g.base 0 (omega (arith, run.within)) (omega (arith, runs.holds.grant.above))
 
 pub Stepped-direct : (d : Desc) (n : ℕ) (old new : Machinery) (g h : Guest) → ∥ IsHybridAccepted d ∥₁ → IsValid d → Runs d old.state g → g.psw.mode ≡ U → Directly d n old.state g → Ran d n old new →
     h ≡ with_psw g (record g.psw { p = new.state.psw.p }) → Stepped d n true old new g h
@@ -60,6 +74,9 @@ Stepped-direct d n old new g h accepted valid runs user run ran guest =
       };
       loads = loads;
       users = all.users;
+      left = λ k. same-left (Some k) (Some k) new.tally.loads old.tally.loads (slice_index new.state.cells 0) (slice_index old.state.cells 0) new.state.psw (steps d n old.state).psw
+          refl loads (direct-first d n old.state g runs run new.state ran.state) (ap (λ (x : State). x.psw) ran.state)
+          ∙ sym (all.left k old.tally.loads (slice_index old.state.cells 0));
       bottom = record {
         steps = omega (arith, ran.bottom.steps, all.users);
         untrapped = omega (arith, ran.bottom.untrapped.at_least, ran.bottom.untrapped.at_most, run.untrapped, run.supervisor, all.hybrid);
@@ -73,6 +90,8 @@ pub Interpreted-of : (d : Desc) (old new : Machinery) (g h : Guest) → IsValid 
 Interpreted-of d old new g h valid held poked who = record {
   advanced = Advanced-interpreted d old.state new.state g h valid held poked.state who;
   psw = ap (λ (x : State). x.psw) poked.state;
+  cell_0 = ap (λ (x : State). slice_index x.cells 0) poked.state
+      ∙ with_grant-before old.state.cells (step d (virtual old.state.cells g)).cells g.base 0 (omega (arith, Holds-within d old.state g held)) (omega (arith, held.grant.above));
   tally = poked.tally;
   bottom = poked.bottom;
 }
@@ -81,6 +100,17 @@ first-stop : (d : Desc) (n m base : ℕ) (v : State) → n ≡ suc m → is_dire
 unfolding steps
 first-stop d n m base v done turned one =
     let none : m ≡ 0 = omega (arith, done, one) in ap (λ k. is_direct d base (steps d k v)) (sym none) ∙ turned
+
+-- the trap left its word in cell 0, and entered the control program
+halted-first : (d : Desc) (m : ℕ) (real mid : State) (g h : Guest) → Directly d m real g → Halted d m real mid g h → slice_index mid.cells 0 ≡ trap_word d g.base (steps d m (virtual real.cells g))
+halted-first d m real mid g h before halted =
+    ap (λ xs. slice_index xs 0) halted.cells
+    ∙ get_or-set_same (steps d m real).cells 0 (trap_word d g.base (steps d m (virtual real.cells g))) 0 (omega (arith, before.runs.holds.real_state.size_least))
+
+stopped-psw : (d : Desc) (n : ℕ) (real : State) (g : Guest) → (stopped : Stopped d n real g) → IsValid d → (steps d n real).psw ≡ power_on_psw d.size
+unfolding steps
+stopped-psw d n real g stopped valid =
+    ap (λ i. (steps d i real).psw) stopped.done ∙ (TrapStep-of d (steps d stopped.before real) _ valid stopped.directly.runs stopped.stops).psw
 
 pub Stepped-halted : (d : Desc) (n : ℕ) (old between new : Machinery) (g h k : Guest) → ∥ IsHybridAccepted d ∥₁ → IsValid d → Runs d old.state g → g.psw.mode ≡ U →
     (stopped : Stopped d n old.state g) → Halted d stopped.before old.state between.state g h → Ran d n old between → Interpreted d between new h k → Stepped d n false old new g k
@@ -111,6 +141,13 @@ Stepped-halted d n old between new g h k accepted valid runs user stopped halted
       };
       loads = loads;
       users = users;
+      left = λ j. same-left None None new.tally.loads old.tally.loads (slice_index new.state.cells 0) (trap_word d g.base (steps d m v)) new.state.psw (power_on_psw d.size) refl loads
+          (done.cell_0 ∙ halted-first d m old.state between.state g h before halted)
+          (done.psw ∙ ap (λ (x : State). x.psw) ran.state ∙ stopped-psw d n old.state g stopped valid)
+          ∙ sym (ap (λ i. left_among d j g.base i v (left_of old (Some j))) stopped.done
+          ∙ left_among-next d j g.base m v (left_of old (Some j))
+          ∙ ap (left_by d j g.base (steps d m v)) (all.left j old.tally.loads (slice_index old.state.cells 0))
+          ∙ left-trapped d j g.base (steps d m v) old.tally.loads (slice_index old.state.cells 0) (steps d m old.state).psw all.mode halted.turned);
       bottom = record {
         steps = omega (arith, ap (λ (c : Bottom). c.steps) done.bottom, ran.bottom.steps, users);
         untrapped = omega (arith, ap (λ (c : Bottom). c.untrapped) done.bottom, ran.bottom.untrapped.at_least, ran.bottom.untrapped.at_most, counts.untrapped, counts.supervisor, hybrid);

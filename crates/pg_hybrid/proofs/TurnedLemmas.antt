@@ -32,8 +32,10 @@ use Rattle.pg_control.proofs.CountLemmas.{BottomTurns-none, BottomTurns-add}
 use Rattle.pg_control.proofs.GuestLemmas.{moved-none, virtuals-at, slice_get-set}
 use Rattle.pg_control.proofs.PlanLemmas.{moved-own}
 use Rattle.pg_hybrid.specs.UserTurns.{user_among, hybrid_among}
-use Rattle.pg_hybrid.specs.Turns.{loads_at, without, current_behind, CountsHybrid, HybridTurned}
+use Rattle.pg_hybrid.specs.Leaving.{loads_at, without, current_behind, left_of, left_among}
+use Rattle.pg_hybrid.specs.Turns.{CountsHybrid, HybridTurned}
 use Rattle.pg_hybrid.specs.Current.{Interpreted, Stepped, SteppedOnce}
+use Rattle.pg_hybrid.proofs.LeavingLemmas.{of_four, same-left, left-supervisor, left-entered, left_among-none, left_among-add}
 use Rattle.pg_hybrid.proofs.UserLemmas.{user_among-add, hybrid_among-add, user_among-most, hybrid_among-most, supervisor-users, supervisor-hybrid}
 
 -- ---- the current guest
@@ -76,7 +78,7 @@ module _ (d : Desc) (k : ℕ) (old new : Machinery) (gs hs : List Guest) (curren
     pub done : Interpreted d old new g h
     pub set : hs ≡ slice_set gs k h
 
-  pub turned-interpreted : IsInterpreted → HybridTurned d k 1 old new gs hs
+  pub turned-interpreted : IsInterpreted → HybridTurned d k 1 old new gs hs current (without k current)
   turned-interpreted a =
       let v = virtual old.state.cells g in
       let move = Moved-of d k 1 old.state new.state gs current g h a.stands a.is a.done.advanced in
@@ -89,6 +91,9 @@ module _ (d : Desc) (k : ℕ) (old new : Machinery) (gs hs : List Guest) (curren
         states = ap (virtuals new.state.cells) a.set ∙ move.states;
         grants = ap grants_of a.set ∙ move.grants;
         outside = a.done.advanced.outside;
+        left = same-left (without k current) (without k current) new.tally.loads old.tally.loads (slice_index new.state.cells 0) (slice_index old.state.cells 0) new.state.psw old.state.psw
+            refl counted.loads a.done.cell_0 a.done.psw
+            ∙ sym (left-supervisor d k g.base v (left_of old current) a.mode);
         tally = record {
           steps = omega (arith, counted.steps, users);
           untrapped = omega (arith, counted.untrapped, hybrid);
@@ -117,6 +122,7 @@ module _ (d : Desc) (k n : ℕ) (goes_on : Bool) (old between new : Machinery) (
     pub tally : between.tally ≡ record old.tally { loads = raised_by (change_to k current) old.tally.loads }
     pub bottom : between.bottom ≡ old.bottom
     pub least : 1 ≤ n
+    pub mode : g.psw.mode ≡ U
     pub done : Stepped d n goes_on between new g h
     pub set : hs ≡ slice_set gs k h
 
@@ -128,7 +134,22 @@ module _ (d : Desc) (k n : ℕ) (goes_on : Bool) (old between new : Machinery) (
       by_test true = omega arith
       by_test false = omega arith
 
-  pub turned-stepped : IsStepped → HybridTurned d k n old new gs hs
+  -- the guest was made the current one before
+  entered : IsStepped → left_among d k g.base n (virtual between.state.cells g) (left_of between (Some k)) ≡ left_among d k g.base n (virtual old.state.cells g) (left_of old current)
+  entered a =
+      let w = virtual old.state.cells g in
+      ap (λ xs. left_among d k g.base n (virtual xs g) (left_of between (Some k))) a.cells
+      ∙ ap (left_among d k g.base n w) (same-left (Some k) (Some k) between.tally.loads (raised_by (change_to k current) old.tally.loads) (slice_index between.state.cells 0)
+      (slice_index old.state.cells 0) between.state.psw between.state.psw refl (ap (λ (c : Counts). c.loads) a.tally) (ap (λ xs. slice_index xs 0) a.cells) refl)
+      ∙ sym (some-turns n a.least w a.mode)
+    where
+      some-turns : (m : ℕ) → 1 ≤ m → (s : State) → s.psw.mode ≡ U →
+          left_among d k g.base m s (left_of old current)
+          ≡ left_among d k g.base m s (of_four (Some k) (raised_by (change_to k current) old.tally.loads) (slice_index old.state.cells 0) between.state.psw)
+      some-turns zero least s mode = absurd (omega arith)
+      some-turns (suc m) least s mode = left-entered d k g.base m s (left_of old current) between.state.psw mode
+
+  pub turned-stepped : IsStepped → HybridTurned d k n old new gs hs current (then_some goes_on k)
   turned-stepped a =
       let v = virtual between.state.cells g in
       let w = virtual old.state.cells g in
@@ -144,6 +165,7 @@ module _ (d : Desc) (k n : ℕ) (goes_on : Bool) (old between new : Machinery) (
         states = ap (virtuals new.state.cells) a.set ∙ move.states;
         grants = ap grants_of a.set ∙ move.grants;
         outside = advanced.outside;
+        left = a.done.left k ∙ entered a;
         tally = record {
           steps = omega (arith, counted.steps, ap (λ (c : Counts). c.steps) a.tally, users);
           untrapped = omega (arith, counted.untrapped, ap (λ (c : Counts). c.untrapped) a.tally, hybrid);
@@ -230,21 +252,22 @@ CountsHybrid-add m n u v x y t t' t'' few few' a b = record {
 }
 
 -- no turn changes nothing
-Turned-none : (d : Desc) (k : ℕ) (h : Machinery) (gs : List Guest) (g : Guest) → slice_get gs k ≡ Some g → HybridTurned d k 0 h h gs gs
+Turned-none : (d : Desc) (k : ℕ) (h : Machinery) (gs : List Guest) (current : Option ℕ) (g : Guest) → slice_get gs k ≡ Some g → HybridTurned d k 0 h h gs gs current current
 unfolding user_among hybrid_among
-Turned-none d k h gs g is = record {
+Turned-none d k h gs current g is = record {
   guest = g;
   is_guest = is;
   states = sym (moved-none d k (virtuals h.state.cells gs));
   grants = refl;
   outside = λ at some place. refl;
+  left = sym (left_among-none d k g.base (virtual h.state.cells g) (left_of h current));
   tally = CountsHybrid-none h.tally;
   bottom = BottomTurns-none h.bottom;
 }
 
-pub Turned-zero : (d : Desc) (k : ℕ) (h : Machinery) (gs : List Guest) → k < length gs → HybridTurned d k 0 h h gs gs
-Turned-zero d k h gs within = elim ((slice_get_cases gs k).1) [
-  | inl x ↦ Turned-none d k h gs x.0 x.2
+pub Turned-zero : (d : Desc) (k : ℕ) (h : Machinery) (gs : List Guest) (current : Option ℕ) → k < length gs → HybridTurned d k 0 h h gs gs current current
+Turned-zero d k h gs current within = elim ((slice_get_cases gs k).1) [
+  | inl x ↦ Turned-none d k h gs current x.0 x.2
   | inr x ↦ absurd (omega (arith, x.0))
 ]
 
@@ -262,8 +285,9 @@ same_grant gs hs k g h same is is' =
     some_same (grant_of h) (grant_of g)
     (sym (slice_get-map grant_of hs k ∙ ap (option_map grant_of) is') ∙ ap (λ l. slice_get l k) same ∙ slice_get-map grant_of gs k ∙ ap (option_map grant_of) is)
 
-pub Turned-then : (d : Desc) (k m n : ℕ) (old mid new : Machinery) (gs hs ks : List Guest) → HybridTurned d k m old mid gs hs → HybridTurned d k n mid new hs ks → HybridTurned d k (m + n) old new gs ks
-Turned-then d k m n old mid new gs hs ks one two =
+pub Turned-then : (d : Desc) (k m n : ℕ) (old mid new : Machinery) (gs hs ks : List Guest) (c c' c'' : Option ℕ) → HybridTurned d k m old mid gs hs c c' → HybridTurned d k n mid new hs ks c' c'' →
+    HybridTurned d k (m + n) old new gs ks c c''
+Turned-then d k m n old mid new gs hs ks c c' c'' one two =
     let g = one.guest in
     let h = two.guest in
     let s = virtual old.state.cells g in
@@ -284,6 +308,11 @@ Turned-then d k m n old mid new gs hs ks one two =
       states = two.states ∙ ap (moved d k n) one.states ∙ moved-again d k m n (virtuals old.state.cells gs);
       grants = two.grants ∙ one.grants;
       outside = λ at some place. two.outside at some (subst (λ (p : ℕ × ℕ). (at < p.0) ⊎ (p.0 + p.1 ≤ at)) (sym grant) place) ∙ one.outside at some place;
+      left = two.left
+          ∙ ap (λ b. left_among d k b n t (left_of mid c')) base
+          ∙ ap (λ x. left_among d k g.base n x (left_of mid c')) state
+          ∙ ap (left_among d k g.base n (steps d m s)) one.left
+          ∙ sym (left_among-add d k g.base m n s (left_of old c));
       tally = subst (λ u. CountsHybrid (m + n) u (hybrid_among d g.base (m + n) s) old.tally new.tally) (sym users)
           (subst (λ x. CountsHybrid (m + n) (user_among d m s + user_among d n t) x old.tally new.tally) (sym hybrid)
           (CountsHybrid-add m n (user_among d m s) (user_among d n t) (hybrid_among d g.base m s) (hybrid_among d h.base n t) old.tally mid.tally new.tally
@@ -294,8 +323,8 @@ Turned-then d k m n old mid new gs hs ks one two =
     }
 
 -- as many turns, on the same machine
-pub Turned-count : (d : Desc) (k m n : ℕ) (old new : Machinery) (gs hs : List Guest) → m ≡ n → HybridTurned d k m old new gs hs → HybridTurned d k n old new gs hs
-Turned-count d k m n old new gs hs same one = subst (λ x. HybridTurned d k x old new gs hs) same one
+pub Turned-count : (d : Desc) (k m n : ℕ) (old new : Machinery) (gs hs : List Guest) (c c' : Option ℕ) → m ≡ n → HybridTurned d k m old new gs hs c c' → HybridTurned d k n old new gs hs c c'
+Turned-count d k m n old new gs hs c c' same one = subst (λ x. HybridTurned d k x old new gs hs c c') same one
 
-pub Turned-machine : (d e : Desc) (k n : ℕ) (old new : Machinery) (gs hs : List Guest) → e ≡ d → HybridTurned e k n old new gs hs → HybridTurned d k n old new gs hs
-Turned-machine d e k n old new gs hs same one = subst (λ x. HybridTurned x k n old new gs hs) same one
+pub Turned-machine : (d e : Desc) (k n : ℕ) (old new : Machinery) (gs hs : List Guest) (c c' : Option ℕ) → e ≡ d → HybridTurned e k n old new gs hs c c' → HybridTurned d k n old new gs hs c c'
+Turned-machine d e k n old new gs hs c c' same one = subst (λ x. HybridTurned x k n old new gs hs c c') same one

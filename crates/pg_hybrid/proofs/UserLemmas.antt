@@ -1,15 +1,16 @@
 -- Turns by the mode in which they begin: they add up, and what a run of the hardware counts of them.
-use Rattle.std.proofs.Common.{◌≡◌, ℕ, zero, suc, ◌+◌, ◌≤◌, Bool, true, false, not, ◌&&◌, refl, sym, ◌∙◌, ap, subst, arith, add-zero, add-suc}
+use Rattle.std.proofs.Common.{◌≡◌, ℕ, zero, suc, ◌+◌, ◌≤◌, Bool, true, false, not, ◌&&◌, length, Some, refl, sym, ◌∙◌, ap, subst, arith, add-zero, add-suc}
 use Rattle.pg_word.specs.declared.psw.Psw.{Psw}
 use Rattle.pg_word.specs.declared.psw.Mode.{Mode}
 use Rattle.pg_word.specs.declared.psw.Mode.TheVariants.{S, U}
 use Rattle.pg_ast.specs.declared.tree.Desc.{Desc}
 use Rattle.pg_meaning.specs.States.{State}
-use Rattle.pg_meaning.specs.Steps.{steps}
+use Rattle.pg_meaning.specs.Steps.{step, steps}
 use Rattle.pg_meaning.proofs.StepLaws.{steps-add}
 use Rattle.pg_valid.specs.Valid.{IsValid}
 use Rattle.pg_hw.specs.Bursts.{traps, is_user, one_if, untrapped_at, untrapped_among}
 use Rattle.pg_hw.proofs.BurstLaws.{one_if-most, untrapped_among-most}
+use Rattle.pg_routine.specs.Composing.{composed}
 use Rattle.pg_control.specs.declared.guest.Guest.{Guest}
 use Rattle.pg_control.specs.Guests.{virtual}
 use Rattle.pg_control.specs.Direct.{is_direct, direct_among}
@@ -18,6 +19,8 @@ use Rattle.pg_control.proofs.DirectLemmas.{IsAlikeIn, Runs-direct}
 use Rattle.pg_control.proofs.PlanLemmas.{AddsUp}
 use Rattle.pg_control.proofs.RunLemmas.{Directly, Directly-none, Directly-next}
 use Rattle.pg_hybrid.specs.UserTurns.{user_among, hybrid_among}
+use Rattle.pg_hybrid.specs.Leaving.{Left, left_by, left_among}
+use Rattle.pg_hybrid.proofs.LeavingLemmas.{of_four, left-direct, left_among-none, left_among-next}
 
 -- ---- turns after turns
 
@@ -94,6 +97,8 @@ pub record UserRun (d : Desc) (n : ℕ) (real : State) (g : Guest) : Type 0 wher
   pub mode : (steps d n (virtual real.cells g)).psw.mode ≡ U
   pub users : user_among d n (virtual real.cells g) ≡ n
   pub hybrid : hybrid_among d g.base n (virtual real.cells g) ≡ n
+  -- the guest stays the current one, and nothing is loaded
+  pub left : (k l w : ℕ) → left_among d k g.base n (virtual real.cells g) (of_four (Some k) l w real.psw) ≡ of_four (Some k) l w (steps d n real).psw
 
 not_trapped : (u t : Bool) → one_if (u && not t) ≡ 1 → t ≡ false
 not_trapped u false e = refl
@@ -102,7 +107,7 @@ not_trapped false true e = absurd (omega (arith, e))
 
 UserRun-next : (d : Desc) (n : ℕ) (real : State) (g : Guest) → IsAlikeIn d g.psw.mode → IsValid d → g.psw.mode ≡ U → UserRun d n real g → traps d (steps d n real) ≡ false →
     UserRun d (suc n) real g
-unfolding user_among hybrid_among
+unfolding user_among hybrid_among steps
 UserRun-next d n real g alike valid user before calm =
     let v = virtual real.cells g in
     let vn = steps d n v in
@@ -115,12 +120,18 @@ UserRun-next d n real g alike valid user before calm =
       users = ap (λ m. user_among d n v + one_if (is_user m)) before.mode ∙ omega (arith, before.users);
       hybrid = ap (λ m. hybrid_among d g.base n v + one_if (is_user m && is_direct d g.base vn)) before.mode
           ∙ ap (λ b. hybrid_among d g.base n v + one_if b) is ∙ omega (arith, before.hybrid);
+      left = λ k l w.
+          left_among-next d k g.base n v (of_four (Some k) l w real.psw)
+          ∙ ap (left_by d k g.base vn) (before.left k l w)
+          ∙ left-direct d k g.base vn l w (steps d n real).psw before.mode is
+          ∙ ap (λ x. of_four (Some k) l w (composed (step d vn).psw g.base x)) before.directly.length
+          ∙ ap (of_four (Some k) l w) (sym after.runs.under);
     }
 
 -- n steps of the hardware for a guest in user mode, all of which count as untrapped
 pub UserRun-all : (d : Desc) (n : ℕ) (real : State) (g : Guest) → IsAlikeIn d g.psw.mode → IsValid d → Runs d real g → g.psw.mode ≡ U → untrapped_among d n real ≡ n → UserRun d n real g
 unfolding steps untrapped_among user_among hybrid_among
-UserRun-all d zero real g alike valid r user all = record { directly = Directly-none d real g r; mode = user; users = refl; hybrid = refl }
+UserRun-all d zero real g alike valid r user all = record { directly = Directly-none d real g r; mode = user; users = refl; hybrid = refl; left = λ k l w. left_among-none d k g.base (virtual real.cells g) (of_four (Some k) l w real.psw) }
 UserRun-all d (suc n) real g alike valid r user all =
     let few = untrapped_among-most d n real in
     let last = steps d n real in

@@ -1,4 +1,5 @@
 pub mod UserTurns
+pub mod Leaving
 pub mod Turns
 pub mod Plans
 pub mod Current

@@ -19,7 +19,8 @@ ghost use Rattle.pg_control.specs.Current.{change_to, is_current as is_current_g
 ghost use Rattle.pg_control.specs.Direct.{is_direct};
 ghost use Rattle.pg_hybrid.specs.Current.{SteppedOnce};
 ghost use Rattle.pg_hybrid.specs.Hybrids.{desc_of};
-ghost use Rattle.pg_hybrid.specs.Turns.{HybridTurned, current_behind, loads_at, without as without_guest};
+ghost use Rattle.pg_hybrid.specs.Leaving.{current_behind, loads_at, without as without_guest};
+ghost use Rattle.pg_hybrid.specs.Turns.{HybridTurned};
 ghost use Rattle.pg_hybrid.specs.Plans.{HybridFollowed};
 
 use crate::hybrid::Hybrid;
@@ -46,7 +47,7 @@ impl<'m> Hybrid<'m> {
         requires stands { Stands (desc_of self.old) (H.machinery hw.old).state self.old.guests self.old.current }
         requires known { k < length self.old.guests }
         ensures stands { Stands (desc_of self.old) (H.machinery hw.new).state self.new.guests self.new.current }
-        ensures turned { HybridTurned (desc_of self.old) k 1 (H.machinery hw.old) (H.machinery hw.new) self.old.guests self.new.guests }
+        ensures turned { HybridTurned (desc_of self.old) k 1 (H.machinery hw.old) (H.machinery hw.new) self.old.guests self.new.guests self.old.current self.new.current }
         ensures machine { self.new.accepted.machine.now ≡ self.old.accepted.machine.now }
         ensures granted { self.new.granted ≡ self.old.granted }
         ensures fixed { H.fixed hw.new ≡ H.fixed hw.old }
@@ -71,7 +72,7 @@ impl<'m> Hybrid<'m> {
         requires stands { Stands (desc_of self.old) (H.machinery hw.old).state self.old.guests self.old.current }
         requires known { k < length self.old.guests }
         ensures stands { Stands (desc_of self.old) (H.machinery hw.new).state self.new.guests self.new.current }
-        ensures turned { HybridTurned (desc_of self.old) k n (H.machinery hw.old) (H.machinery hw.new) self.old.guests self.new.guests }
+        ensures turned { HybridTurned (desc_of self.old) k n (H.machinery hw.old) (H.machinery hw.new) self.old.guests self.new.guests self.old.current self.new.current }
         ensures machine { self.new.accepted.machine.now ≡ self.old.accepted.machine.now }
         ensures granted { self.new.granted ≡ self.old.granted }
         ensures fixed { H.fixed hw.new ≡ H.fixed hw.old }
@@ -91,7 +92,7 @@ impl<'m> Hybrid<'m> {
         // Each guest stands at the state of its own number of turns, whatever the others did.
         ensures own { (j : ℕ) → slice_get (virtuals (H.machinery hw.new).state.cells self.new.guests) j
             ≡ option_map (steps (desc_of self.old) (turns_for j plan.now)) (slice_get (virtuals (H.machinery hw.old).state.cells self.old.guests) j) }
-        ensures followed { HybridFollowed (desc_of self.old) plan.now (H.machinery hw.old) (H.machinery hw.new) self.old.guests self.new.guests }
+        ensures followed { HybridFollowed (desc_of self.old) plan.now (H.machinery hw.old) (H.machinery hw.new) self.old.guests self.new.guests self.old.current self.new.current }
         ensures machine { self.new.accepted.machine.now ≡ self.old.accepted.machine.now }
         ensures granted { self.new.granted ≡ self.old.granted }
         ensures fixed { H.fixed hw.new ≡ H.fixed hw.old }
@@ -111,7 +112,7 @@ impl<'m> Hybrid<'m> {
         ensures least { 1 ≤ result }
         ensures most { result ≤ most }
         ensures stands { Stands (desc_of self.old) (H.machinery hw.new).state self.new.guests self.new.current }
-        ensures turned { HybridTurned (desc_of self.old) k result (H.machinery hw.old) (H.machinery hw.new) self.old.guests self.new.guests }
+        ensures turned { HybridTurned (desc_of self.old) k result (H.machinery hw.old) (H.machinery hw.new) self.old.guests self.new.guests self.old.current self.new.current }
         ensures machine { self.new.accepted.machine.now ≡ self.old.accepted.machine.now }
         ensures granted { self.new.granted ≡ self.old.granted }
         ensures fixed { H.fixed hw.new ≡ H.fixed hw.old }
@@ -139,7 +140,7 @@ impl<'m> Hybrid<'m> {
         requires known { k < length self.old.guests }
         requires supervisor { (g : Guests) → slice_get self.old.guests k ≡ Some g → g.psw.mode ≡ S }
         ensures stands { Stands (desc_of self.old) (H.machinery hw.new).state self.new.guests self.new.current }
-        ensures turned { HybridTurned (desc_of self.old) k 1 (H.machinery hw.old) (H.machinery hw.new) self.old.guests self.new.guests }
+        ensures turned { HybridTurned (desc_of self.old) k 1 (H.machinery hw.old) (H.machinery hw.new) self.old.guests self.new.guests self.old.current self.new.current }
         ensures machine { self.new.accepted.machine.now ≡ self.old.accepted.machine.now }
         ensures granted { self.new.granted ≡ self.old.granted }
         ensures fixed { H.fixed hw.new ≡ H.fixed hw.old }
@@ -164,7 +165,7 @@ impl<'m> Hybrid<'m> {
         ensures least { 1 ≤ result }
         ensures most { result ≤ most }
         ensures stands { Stands (desc_of self.old) (H.machinery hw.new).state self.new.guests self.new.current }
-        ensures turned { HybridTurned (desc_of self.old) k result (H.machinery hw.old) (H.machinery hw.new) self.old.guests self.new.guests }
+        ensures turned { HybridTurned (desc_of self.old) k result (H.machinery hw.old) (H.machinery hw.new) self.old.guests self.new.guests self.old.current self.new.current }
         ensures machine { self.new.accepted.machine.now ≡ self.old.accepted.machine.now }
         ensures granted { self.new.granted ≡ self.old.granted }
         ensures fixed { H.fixed hw.new ≡ H.fixed hw.old }

@@ -8,7 +8,7 @@ ghost use Rattle.pg_control.specs.Direct.{direct_among};
 ghost use Rattle.pg_control.specs.Schedules.{schedule, each_count};
 ghost use Rattle.pg_hybrid.specs.UserTurns.{user_among, hybrid_among};
 ghost use Rattle.pg_hybrid.specs.Plans.{user_count, user_of, hybrid_of};
-ghost use Rattle.pg_hybrid.specs.WorkedTurns.{SixSteps, FourFromUserMode, TwoOfThemDirect, RtuIsDirectBesides, NoLoadBesideAnother, NotItself, DirectTurnLoadsOnce, TrapLeavesNone};
+ghost use Rattle.pg_hybrid.specs.WorkedTurns.{SixSteps, FourFromUserMode, TwoOfThemDirect, RtuIsDirectBesides, NoLoadBesideAnother, NotItself, DirectTurnLoadsOnce, TrapLeavesNone, TwoLoadsInSix, EachTurnLoads, EachSliceLoads, OtherOrder};
 
 /// Of a schedule as many turns begin in user mode, and as many of these are direct, as each guest's own steps say, whatever
 /// the slice is and whatever the other guests do.
@@ -34,4 +34,8 @@ pub fn worked_turns()
     ensures not_itself { NotItself }
     ensures direct_turn_loads_once { DirectTurnLoadsOnce }
     ensures trap_leaves_none { TrapLeavesNone }
+    ensures two_loads_in_six { TwoLoadsInSix }
+    ensures each_turn_loads { EachTurnLoads }
+    ensures each_slice_loads { EachSliceLoads }
+    ensures other_order { OtherOrder }
 {}

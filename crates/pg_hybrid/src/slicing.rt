@@ -27,7 +27,7 @@ impl<'m> Hybrid<'m> {
         ensures stands { Stands (desc_of self.old) (H.machinery hw.new).state self.new.guests self.new.current }
         // Each guest has had n turns, whatever the slice is.
         ensures states { virtuals (H.machinery hw.new).state.cells self.new.guests ≡ map (steps (desc_of self.old) n) (virtuals (H.machinery hw.old).state.cells self.old.guests) }
-        ensures followed { HybridFollowed (desc_of self.old) (schedule (length self.old.guests) slice n) (H.machinery hw.old) (H.machinery hw.new) self.old.guests self.new.guests }
+        ensures followed { HybridFollowed (desc_of self.old) (schedule (length self.old.guests) slice n) (H.machinery hw.old) (H.machinery hw.new) self.old.guests self.new.guests self.old.current self.new.current }
         ensures machine { self.new.accepted.machine.now ≡ self.old.accepted.machine.now }
         ensures granted { self.new.granted ≡ self.old.granted }
         ensures fixed { H.fixed hw.new ≡ H.fixed hw.old }
@@ -43,7 +43,7 @@ impl<'m> Hybrid<'m> {
         requires served { IsServed (H.serves (H.fixed hw.old)) (desc_of self.old) }
         requires stands { Stands (desc_of self.old) (H.machinery hw.old).state self.old.guests self.old.current }
         ensures stands { Stands (desc_of self.old) (H.machinery hw.new).state self.new.guests self.new.current }
-        ensures followed { HybridFollowed (desc_of self.old) (round_of 0 (length self.old.guests) turns) (H.machinery hw.old) (H.machinery hw.new) self.old.guests self.new.guests }
+        ensures followed { HybridFollowed (desc_of self.old) (round_of 0 (length self.old.guests) turns) (H.machinery hw.old) (H.machinery hw.new) self.old.guests self.new.guests self.old.current self.new.current }
         ensures number { length self.new.guests ≡ length self.old.guests }
         ensures machine { self.new.accepted.machine.now ≡ self.old.accepted.machine.now }
         ensures granted { self.new.granted ≡ self.old.granted }

@@ -1,9 +1,12 @@
 -- What the turns of guests leave, and what is told of them.
-use Rattle.std.proofs.Common.{◌≡◌, ℕ, ◌+◌, ◌*◌, ◌≤◌, List, length, map, sym, ◌∙◌, ap, subst, arith}
+use Rattle.std.proofs.Common.{◌≡◌, ℕ, ◌+◌, ◌*◌, ◌≤◌, List, length, map, None, slice_index, refl, sym, ◌∙◌, ap, subst, arith}
+use Rattle.pg_word.specs.Psw.{power_on_psw}
 use Rattle.pg_ast.specs.declared.tree.Desc.{Desc}
 use Rattle.pg_meaning.specs.States.{State}
 use Rattle.pg_meaning.specs.Steps.{steps}
+use Rattle.pg_hw.specs.Tallies.{raised_by}
 use Rattle.pg_hw.specs.Machinery.{Machinery}
+use Rattle.pg_hw.proofs.TallyLaws.{raised_by-zero}
 use Rattle.pg_control.specs.Guests.{virtuals}
 use Rattle.pg_control.specs.Plans.{turns_of, count_of, Count}
 use Rattle.pg_control.specs.Schedules.{schedule, each_count}
@@ -14,15 +17,17 @@ use Rattle.pg_control.proofs.ScheduleLemmas.{turns_of-schedule, count_of-schedul
 use Rattle.pg_hybrid.specs.declared.hybrid.Hybrid.{Hybrid}
 use Rattle.pg_hybrid.specs.Hybrids.{desc_of, kept_by}
 use Rattle.pg_hybrid.specs.UserTurns.{user_among, hybrid_among}
+use Rattle.pg_hybrid.specs.Leaving.{Left, left_of, left_behind}
 use Rattle.pg_hybrid.specs.Turns.{CountsHybrid}
 use Rattle.pg_hybrid.specs.Plans.{user_count, user_of, hybrid_of, HybridFollowed}
+use Rattle.pg_hybrid.proofs.LeavingLemmas.{raised, raised-behind, same-left}
 use Rattle.pg_hybrid.proofs.UserLemmas.{user-adds, hybrid-adds, user_among-most, hybrid_among-most}
 use Rattle.pg_shown.specs.Runs.{GuestRun, cells_in, guests_of, plan_of, reached_by, turns_in}
 use Rattle.pg_shown.specs.Begun.{IsBegun}
 use Rattle.pg_shown.proofs.SettingLemmas.{granted-same, guests-length}
-use Rattle.pg_shown.proofs.StartedLemmas.{IsLoaded, on-room, on-small, on-outside, on-steps, on-untrapped, on-loads, on-pokes, on-bottom, begun-count, begun-states, begun-reached}
+use Rattle.pg_shown.proofs.StartedLemmas.{IsLoaded, on-room, on-small, on-first, on-outside, on-psw, on-steps, on-untrapped, on-loads, on-pokes, on-bottom, begun-count, begun-states, begun-reached}
 use Rattle.pg_hybrid_guests.specs.declared.running.HybridRan.{HybridRan}
-use Rattle.pg_hybrid_guests.specs.Runs.{RanHybrid, user_turns_of, hybrid_direct_of}
+use Rattle.pg_hybrid_guests.specs.Runs.{RanHybrid, user_turns_of, hybrid_direct_of, left_in}
 use Rattle.pg_hybrid_guests.specs.Ended.{HaveRunHybrid}
 
 -- ---- what is counted of a run
@@ -60,7 +65,7 @@ module _ (r : GuestRun) (old on new : Machinery) (before : Hybrid) (ran : Hybrid
     pub each : ℕ
     pub had : ℕ
     pub states : virtuals new.state.cells after.guests ≡ map (steps (desc_of before) had) (virtuals on.state.cells before.guests)
-    pub followed : HybridFollowed (desc_of before) (schedule (length before.guests) each had) on new before.guests after.guests
+    pub followed : HybridFollowed (desc_of before) (schedule (length before.guests) each had) on new before.guests after.guests before.current after.current
     pub of_slice : each ≡ r.slice
     pub of_turns : had ≡ r.steps
     pub machine : desc_of after ≡ desc_of before
@@ -71,13 +76,17 @@ module _ (r : GuestRun) (old on new : Machinery) (before : Hybrid) (ran : Hybrid
     count : length before.guests ≡ length r.states
     count = begun-count r (kept_by before) on h.begun
 
-    followed : HybridFollowed d (plan_of r) on new (guests_of r) after.guests
+    as_asked : HybridFollowed (desc_of before) (schedule (length before.guests) r.slice r.steps) on new before.guests after.guests before.current after.current
+    as_asked =
+        subst (λ k. HybridFollowed (desc_of before) (schedule (length before.guests) k r.steps) on new before.guests after.guests before.current after.current) h.of_slice
+        (subst (λ k. HybridFollowed (desc_of before) (schedule (length before.guests) h.each k) on new before.guests after.guests before.current after.current) h.of_turns h.followed)
+
+    followed : HybridFollowed d (plan_of r) on new (guests_of r) after.guests None after.current
     followed =
-        subst (λ e. HybridFollowed e (plan_of r) on new (guests_of r) after.guests) h.desc
-        (subst (λ k. HybridFollowed (desc_of before) (schedule k r.slice r.steps) on new (guests_of r) after.guests) count
-        (subst (λ k. HybridFollowed (desc_of before) (schedule (length before.guests) k r.steps) on new (guests_of r) after.guests) h.of_slice
-        (subst (λ k. HybridFollowed (desc_of before) (schedule (length before.guests) h.each k) on new (guests_of r) after.guests) h.of_turns
-        (subst (λ gs. HybridFollowed (desc_of before) (schedule (length before.guests) h.each h.had) on new gs after.guests) h.begun.guests h.followed))))
+        subst (λ e. HybridFollowed e (plan_of r) on new (guests_of r) after.guests None after.current) h.desc
+        (subst (λ k. HybridFollowed (desc_of before) (schedule k r.slice r.steps) on new (guests_of r) after.guests None after.current) count
+        (subst (λ o. HybridFollowed (desc_of before) (schedule (length before.guests) r.slice r.steps) on new (guests_of r) after.guests o after.current) h.begun.current
+        (subst (λ gs. HybridFollowed (desc_of before) (schedule (length before.guests) r.slice r.steps) on new gs after.guests before.current after.current) h.begun.guests as_asked)))
 
     first : virtuals on.state.cells (guests_of r) ≡ r.states
     first = begun-states r (kept_by before) on h.begun
@@ -105,6 +114,18 @@ module _ (r : GuestRun) (old on new : Machinery) (before : Hybrid) (ran : Hybrid
         subst (λ k. BottomTurns k (hybrid_direct_of r) on.bottom new.bottom) users
         (subst (λ k. BottomTurns (user_of d (guests_of r) (plan_of r) (virtuals on.state.cells (guests_of r))) k on.bottom new.bottom) direct followed.bottom)
 
+    -- beside the guests: as from a hardware that was switched on, but for the loads before
+    left : left_of new after.current ≡ raised old.tally.loads (left_in r)
+    left =
+        followed.left
+        ∙ ap (λ ss. left_behind d (guests_of r) (plan_of r) ss (left_of on None)) first
+        ∙ ap (left_behind d (guests_of r) (plan_of r) r.states) begins
+        ∙ raised-behind d (guests_of r) (plan_of r) r.states old.tally.loads (record { current = None; loads = 0; cell_0 = 0; psw = power_on_psw d.size })
+      where
+        begins : left_of on None ≡ raised old.tally.loads (record { current = None; loads = 0; cell_0 = 0; psw = power_on_psw d.size })
+        begins = same-left None None on.tally.loads (raised_by 0 old.tally.loads) (slice_index on.state.cells 0) 0 on.state.psw (power_on_psw d.size)
+            refl (on-loads r old on h.loaded ∙ sym (raised_by-zero old.tally.loads)) (on-first r old on h.loaded) (on-psw r old on h.loaded)
+
     run-states : virtuals new.state.cells after.guests ≡ reached_by r
     run-states = begun-reached r (kept_by before) on new after.guests h.had h.desc h.begun h.of_turns h.states
 
@@ -121,7 +142,9 @@ module _ (r : GuestRun) (old on new : Machinery) (before : Hybrid) (ran : Hybrid
       size = run-stands.stands.size;
       control = run-stands.stands.control;
       grants = granted-same new.state.cells (guests_of r) after.guests followed.grants ∙ ap (map (λ (s : State). s.cells)) run-states;
+      cell_0 = ap (λ (x : Left). x.cell_0) left;
       outside = λ at some within out. followed.outside at (omega (arith, some)) out ∙ on-outside r old on h.loaded at some within out;
+      psw = ap (λ (x : Left). x.psw) left;
       steps = (let counted = tally.steps in let was = on-steps r old on h.loaded in let can = h.loaded.can_count.steps in let few = h.loaded.can_run.counted in let most = users-most in
           counted ∙ omega (arith, was, can, few, most));
       untrapped = run-untrapped ∙ ap (λ k. k + hybrid_direct_of r) (on-untrapped r old on h.loaded);
@@ -129,7 +152,9 @@ module _ (r : GuestRun) (old on new : Machinery) (before : Hybrid) (ran : Hybrid
           let low = on-small r old on h.loaded in omega (arith, counted, was, can, room, low));
       pokes_most = (let counted = tally.pokes.at_most in let was = on-pokes r old on h.loaded in let can = h.loaded.can_count.pokes in let room = on-room r old on h.loaded in
           let low = on-small r old on h.loaded in let few = h.loaded.can_run.counted in let most = direct-most in omega (arith, counted, was, can, room, low, few, most));
-      loads_least = (let counted = tally.loads.at_least in let was = on-loads r old on h.loaded in omega (arith, counted, was));
+      loads = (let counted : new.tally.loads ≡ raised_by (left_in r).loads old.tally.loads = ap (λ (x : Left). x.loads) left in
+          let most = tally.loads.at_most in let was = on-loads r old on h.loaded in let can = h.loaded.can_count.loads in let few = h.loaded.can_run.counted in let users = users-most in
+          omega (arith, counted, most, was, can, few, users));
       loads_most = (let counted = tally.loads.at_most in let was = on-loads r old on h.loaded in omega (arith, counted, was));
       bottom = subst (λ b. BottomTurns (user_turns_of r) (hybrid_direct_of r) b new.bottom) (on-bottom r old on h.loaded) bottom;
     }
@@ -139,6 +164,7 @@ module _ (r : GuestRun) (old on new : Machinery) (before : Hybrid) (ran : Hybrid
       machine = h.machine ∙ h.desc;
       stands = run-stands;
       states = run-states;
+      current = ap (λ (x : Left). x.current) left;
       turns = h.turns ∙ ap (λ k. k * h.had) count ∙ ap (λ k. length r.states * k) h.of_turns;
       direct = (let told = h.direct in let rose = run-untrapped in omega (arith, told, rose));
     }

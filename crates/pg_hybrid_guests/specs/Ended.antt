@@ -5,7 +5,7 @@ use Rattle.pg_control.specs.Guests.{virtuals}
 use Rattle.pg_control.specs.Standing.{Stands}
 use Rattle.pg_hybrid.specs.Hybrids.{desc_of}
 use Rattle.pg_shown.specs.Runs.{GuestRun, reached_by, turns_in}
-use Rattle.pg_hybrid_guests.specs.Runs.{hybrid_direct_of}
+use Rattle.pg_hybrid_guests.specs.Runs.{hybrid_direct_of, left_in}
 use Rattle.pg_hybrid_guests.specs.declared.running.HybridRan.{HybridRan}
 
 -- guests that ran: the hardware and their hybrid monitor stand for the states that are reached, and the turns are counted
@@ -13,5 +13,6 @@ pub record HaveRunHybrid (r : GuestRun) (ran : HybridRan) (h : Machinery) : Type
   pub machine : desc_of ran.hybrid ≡ r.desc
   pub stands : Stands r.desc h.state ran.hybrid.guests ran.hybrid.current
   pub states : virtuals h.state.cells ran.hybrid.guests ≡ reached_by r
+  pub current : ran.hybrid.current ≡ (left_in r).current
   pub turns : ran.turns ≡ turns_in r
   pub direct : ran.direct ≡ hybrid_direct_of r

@@ -102,7 +102,7 @@ fn run_on<'m, H: Hardware>(
     ensures machine { result.hybrid.accepted.machine.now ≡ hybrid.entry.accepted.machine.now }
     ensures stands { Stands (desc_of hybrid.entry) (H.machinery hw.new).state result.hybrid.guests result.hybrid.current }
     ensures states { virtuals (H.machinery hw.new).state.cells result.hybrid.guests ≡ map (stepped (desc_of hybrid.entry) steps) (virtuals (H.machinery hw.old).state.cells hybrid.entry.guests) }
-    ensures followed { HybridFollowed (desc_of hybrid.entry) (schedule (length hybrid.entry.guests) slice steps) (H.machinery hw.old) (H.machinery hw.new) hybrid.entry.guests result.hybrid.guests }
+    ensures followed { HybridFollowed (desc_of hybrid.entry) (schedule (length hybrid.entry.guests) slice steps) (H.machinery hw.old) (H.machinery hw.new) hybrid.entry.guests result.hybrid.guests hybrid.entry.current result.hybrid.current }
     ensures turns { result.turns ≡ length hybrid.entry.guests * steps }
     ensures direct { (H.machinery hw.old).tally.untrapped + result.direct ≡ (H.machinery hw.new).tally.untrapped }
     ensures fixed { H.fixed hw.new ≡ H.fixed hw.old }

@@ -66,7 +66,7 @@ text-only text within (Err (told_line.Twice name)) h = text-invalid text (told_l
 text-only text within (Err (told_line.Pattern instr)) h = text-invalid text (told_line.Pattern instr) within h
 text-only text within (Err (told_line.Overlap i j)) h = text-invalid text (told_line.Overlap i j) within h
 text-only text within (Err (told_line.Name instr name)) h = text-invalid text (told_line.Name instr name) within h
-text-only text within (Err (told_line.Width instr place)) h = text-invalid text (told_line.Width instr place) within h
+text-only text within (Err (told_line.Width instr place how)) h = text-invalid text (told_line.Width instr place how) within h
 
 abbrev pub desc_answer : Files → List ℕ → Result Desc Refusal
 desc_answer files name = lifted (of_file Description) (file_answer most_desc_bytes told_line.Long (λ text. read_answer (answer_due text)) (files name))

@@ -38,7 +38,7 @@ told_of_type (type_fault.Twice name) = Some (told_line.Twice name)
 told_of_type (type_fault.Pattern instr) = Some (told_line.Pattern instr)
 told_of_type (type_fault.Overlap i j) = Some (told_line.Overlap i j)
 told_of_type (type_fault.Name instr name) = Some (told_line.Name instr name)
-told_of_type (type_fault.Width instr place) = Some (told_line.Width instr place)
+told_of_type (type_fault.Width instr place how) = Some (told_line.Width instr place how)
 told_of_type type_fault.Memory = None
 
 -- bytes that read as a description which is not valid: its fault is the one that is told

@@ -54,7 +54,7 @@ fn told_of_type(fault: TypeFault) -> Option<DescriptionLine>
         TypeFault::Pattern(instr) => Some(DescriptionLine::Pattern(instr)),
         TypeFault::Overlap(first, second) => Some(DescriptionLine::Overlap(first, second)),
         TypeFault::Name(instr, name) => Some(DescriptionLine::Name(instr, name)),
-        TypeFault::Width(instr, place) => Some(DescriptionLine::Width(instr, place)),
+        TypeFault::Width(instr, place, how) => Some(DescriptionLine::Width(instr, place, how)),
         TypeFault::Memory => None,
     }
 }

@@ -4,7 +4,7 @@
 //! is run (`stepper`, and `fetch` for a single step). Code is a list of operations, which `pg_code` makes once of each body; it
 //! runs over a frame (`frame`): slots for numbers, the stores so far (`stores`), and the program status word that will be left.
 //! `operations` goes through them, one after another, and ends where the definitions of code end (`course` has how it may
-//! end); what it computes of single numbers stands in `numbers`.
+//! end); what it computes of single numbers stands in `numbers`, for others that execute, too.
 //!
 //! Nothing is written into the window meanwhile: stores are kept in the frame, in order, and a load looks through them first
 //! where there are any (`overlay`), and so does whoever compares what effects leave. What comes out is a trap of either kind,
@@ -30,6 +30,7 @@ pub use cells::Cells;
 pub use effect::{Effect, Ended, Outcome, Write};
 pub use fetch::{at, execute, step_in};
 pub use frame::Frame;
-pub use overlay::Overlay;
+pub use numbers::{cut, operate, sext};
+pub use overlay::{Overlay, overlaid};
 pub use stepper::Stepper;
 pub use stores::Stores;

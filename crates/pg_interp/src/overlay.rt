@@ -36,7 +36,7 @@ impl<'c, C: Cells> Cells for Overlay<'c, C> {
 
 /// What an address holds after stores, where it held `cell`.
 #[tactic(auto, unfolding(crate::specs::Writes::overlaid))]
-fn overlaid(writes: &[Write], a: u32, cell: u64) -> u64
+pub fn overlaid(writes: &[Write], a: u32, cell: u64) -> u64
     ensures { result ≡ overlaid writes.now a cell }
 {
     let mut held = cell;

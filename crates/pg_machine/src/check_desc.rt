@@ -1,8 +1,8 @@
 //! The check of a description.
 //!
 //! `check` is the one way from a description to a `Machine`. It tests the classes of validity, and makes what a machine keeps
-//! besides: the table of opcodes and decoders, when no pattern is longer than a word, and the codes of the bodies. A description is
-//! taken by value and comes back with its fault, so that it is never copied.
+//! besides: the table of opcodes and decoders, when no pattern is longer than a word, the codes of the bodies, and a table of no
+//! word. A description is taken by value and comes back with its fault, so that it is never copied.
 
 ghost use Rattle.std.specs.Prelude.{◌≡◌, IfOk, IfErr, OnOk};
 ghost use Rattle.pg_valid.specs.declared.fault.TypeFault.TheVariants.{Memory};
@@ -13,6 +13,7 @@ use crate::machine::Machine;
 use pg_ast::Desc;
 use pg_code::Codes;
 use pg_decode::DecodeTable;
+use pg_mach_short::WordTable;
 use pg_valid::{TypeFault, test_all};
 use std::alloc::Global;
 
@@ -30,7 +31,7 @@ pub fn check(alloc: Global, desc: Desc) -> Result<Machine, (Desc, TypeFault)>
             Err(_) => Err((desc, TypeFault::Memory)),
             Ok(table) => match Codes::of(alloc, &desc, table.decoders.as_slice()) {
                 Err(_) => Err((desc, TypeFault::Memory)),
-                Ok(codes) => Ok(Machine::of(desc, names, table, codes)),
+                Ok(codes) => Ok(Machine::of(desc, names, table, codes, WordTable::new(alloc))),
             },
         },
     }

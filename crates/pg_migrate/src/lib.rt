@@ -9,13 +9,16 @@
 //! # Modules
 //!
 //! - `logs`: the logs that stand in a text. `making`: one finding, of its mark and its log. `migrating`: all of a certificate.
-//! - `families`: the same of either family.
+//! - `families`: the same of either family. `reporting`: its text verified piece by piece. `watching`: who is told how far that is.
 #![tactic(auto)]
 
 mod families;
 mod logs;
 mod making;
 mod migrating;
+mod reporting;
+mod watching;
 
-pub use families::migrate_of;
+pub use families::{migrate_of, migrate_watched};
 pub use migrating::{Migrated, migrate};
+pub use watching::{ReadWatcher, Unwatched};

@@ -3,51 +3,83 @@
 //! A refusal with a place is told there. One that names an instruction, a name or a number is found anew in the tokens. Each
 //! error is want of memory.
 
-use crate::found::{At, Found, at_place, plain};
+use crate::found::{At, Found, Told, alone, at_place, plain};
 use crate::grammar::grammar;
 use crate::held::bytes_from;
 use crate::limits::{limit_found, shape};
 use crate::patterns::{overlap, pattern};
-use crate::widths::width;
+use crate::signs::no_token;
+use crate::widths::{broken_at, misfit_found, misfits_of};
 use pg_report::DescriptionLine;
 use pg_spot::{Placed, Sentence, find_twice, find_unknown, instruction, spot_at};
 use pg_text::{TextFault, TokList, tokens};
+use pg_valid::WidthClash;
 use sqlite_items::Items;
 use std::alloc::{AllocError, Global};
 
 /// What is wrong with a description, and where.
-pub fn description(
-    alloc: Global,
-    why: &DescriptionLine,
-    bytes: &[u8],
-) -> Result<Found, AllocError> {
+pub fn description(alloc: Global, why: &DescriptionLine, bytes: &[u8]) -> Result<Told, AllocError> {
     match why {
-        DescriptionLine::Long => plain(
+        DescriptionLine::Long => Ok(alone(
             alloc,
-            At::Whole,
-            "a description has at most 1,048,576 bytes",
-        ),
-        DescriptionLine::Token(place) => plain(
+            plain(
+                alloc,
+                At::Whole,
+                "a description has at most 1,048,576 bytes",
+            )?,
+        )),
+        DescriptionLine::Token(place) => Ok(alone(alloc, no_token(alloc, bytes, *place)?)),
+        DescriptionLine::Deep(place) => Ok(alone(
             alloc,
-            At::Place(*place),
-            no_token(bytes_from(bytes, *place)),
-        ),
-        DescriptionLine::Deep(place) => plain(
+            plain(
+                alloc,
+                At::Place(*place),
+                too_deep(bytes_from(bytes, *place)),
+            )?,
+        )),
+        DescriptionLine::Width(instr, stmt, how) => widths(alloc, bytes, *instr, *stmt, *how),
+        _ => Ok(alone(
             alloc,
-            At::Place(*place),
-            too_deep(bytes_from(bytes, *place)),
-        ),
-        _ => in_tokens(alloc, why, bytes, cut(alloc, bytes)?.as_slice()),
+            in_tokens(alloc, why, bytes, cut(alloc, bytes)?.as_slice())?,
+        )),
     }
 }
 
 /// The tokens of a text, or none where it has a fault.
-fn cut(alloc: Global, bytes: &[u8]) -> Result<TokList, AllocError> {
+pub fn cut(alloc: Global, bytes: &[u8]) -> Result<TokList, AllocError> {
     match tokens(alloc, bytes) {
         Ok(toks) => Ok(toks),
         Err(TextFault::Memory) => Err(AllocError),
         Err(_) => Ok(Items::new(alloc)),
     }
+}
+
+/// What is wrong with the widths of a description whose statement of this number, in this instruction, is refused for this; and
+/// the statements behind it that are at fault too.
+fn widths(
+    alloc: Global,
+    bytes: &[u8],
+    instr: usize,
+    stmt: usize,
+    how: WidthClash,
+) -> Result<Told, AllocError> {
+    let toks = cut(alloc, bytes)?;
+    let misfits = misfits_of(alloc, bytes)?;
+    let (first, others) = match misfits.found.as_slice() {
+        [first, others @ ..] if first.instr == instr && first.stmt == stmt => {
+            (misfit_found(alloc, toks.as_slice(), first)?, others)
+        }
+        others => (broken_at(alloc, toks.as_slice(), instr, stmt, how)?, others),
+    };
+    let mut more = Vec::new(alloc);
+    for misfit in others {
+        more.push(misfit_found(alloc, toks.as_slice(), misfit)?)?;
+    }
+    Ok(Told {
+        first,
+        more,
+        left: misfits.left,
+    })
 }
 
 /// What is wrong with a description of these tokens, and where.
@@ -58,36 +90,14 @@ fn in_tokens(
     toks: &[Placed],
 ) -> Result<Found, AllocError> {
     match why {
-        DescriptionLine::Grammar(place) => grammar(alloc, toks, *place),
+        DescriptionLine::Grammar(place) => grammar(alloc, bytes, toks, *place),
         DescriptionLine::Shape => shape(alloc, toks),
         DescriptionLine::Limit(which, instr) => limit_found(alloc, toks, *which, *instr),
         DescriptionLine::Twice(name) => twice(alloc, bytes, toks, name.as_slice()),
         DescriptionLine::Pattern(instr) => pattern(alloc, toks, *instr),
         DescriptionLine::Overlap(one, other) => overlap(alloc, bytes, toks, *one, *other),
         DescriptionLine::Name(instr, name) => unknown(alloc, bytes, toks, *instr, name.as_slice()),
-        DescriptionLine::Width(instr, stmt) => width(alloc, toks, *instr, *stmt),
-        DescriptionLine::Long | DescriptionLine::Token(_) | DescriptionLine::Deep(_) => plain(
-            alloc,
-            At::Whole,
-            "the description is refused",
-        ),
-    }
-}
-
-/// Why no token begins with these bytes.
-fn no_token(rest: &[u8]) -> &'static str {
-    match rest {
-        [0xef, 0xbb, 0xbf, ..] => "a byte order mark stands here: save the file without one",
-        [b'>', ..] => "`>` is no sign: exchange the sides, and write `<`",
-        [b'!', ..] => "`!` is no sign: turn an answer with `~`",
-        [b'/', ..] => "`/` is no sign: a comment begins with `#`",
-        [b'"', ..] =>
-            "this pattern is not closed, or has a byte other than `0`, `1`, `.`, `_` and small letters",
-        [b'0'..=b'9', ..] =>
-            "this is no number below 2^64: decimal digits, or `0x` and 1 to 16 hexadecimal ones",
-        [b'a'..=b'z', ..] | [b'A'..=b'Z', ..] => "a word has at most 32 bytes",
-        [0x80..=0xff, ..] => "this may stand in a comment alone",
-        _ => "this is no sign of the language",
+        _ => plain(alloc, At::Whole, "the description is refused"),
     }
 }
 

@@ -38,3 +38,23 @@ pub fn at_place(place: Option<usize>) -> At {
         Some(place) => At::Place(place),
     }
 }
+
+/// All that is told of a file.
+#[derive(Drop)]
+pub struct Told {
+    /// What is refused.
+    pub first: Found,
+    /// What is wrong beside it, of the same kind.
+    pub more: Vec<Found>,
+    /// How many more faults of that kind there are.
+    pub left: u64,
+}
+
+/// One fault alone.
+pub fn alone(alloc: Global, first: Found) -> Told {
+    Told {
+        first,
+        more: Vec::new(alloc),
+        left: 0,
+    }
+}

@@ -1,100 +1,146 @@
-//! Why a token cannot stand where it does.
+//! Why a token cannot stand where it does, and what to write.
 //!
-//! A few cases are told by the tokens before the wrong one; for all others it is said that this cannot stand here.
+//! It is told by the tokens before the wrong one and those behind it; where nothing is known, it is said that this cannot stand
+//! here. Each error is want of memory.
 
 use crate::found::{At, Found, plain};
-use pg_spot::{Placed, Sentence, is_sign, is_word, word_of};
+use crate::near::{Near, near_of, opened};
+use crate::writing::{bits_cut, named};
+use pg_spot::{Placed, Sentence, is_sign, is_word, operation, spot_at, word_of};
 use pg_token::{Sign, Tok, is_reserved};
 use std::alloc::{AllocError, Global};
 
-/// A token, and the two before it where there are such.
-#[derive(Clone, Copy)]
-struct Near<'t> {
-    two_before: Option<&'t Placed>,
-    before: Option<&'t Placed>,
-    here: &'t Placed,
-}
-
-/// Why the token at a place is wrong, or the text ends there too early. The error is want of memory.
-pub fn grammar(alloc: Global, toks: &[Placed], place: usize) -> Result<Found, AllocError> {
-    match near_of(toks, place) {
-        None => plain(alloc, At::Place(place), ended(toks)),
-        Some(near) => match unparenthesised(near) {
-            Some(sign) => Ok(Found {
-                at: At::Place(place),
-                what: Sentence::new(alloc)
-                    .words("`")?
-                    .words(sign_text(sign))?
-                    .words(
-                        "` cannot stand here: an operation with two sides stands in parentheses",
-                    )?,
-            }),
-            None => plain(alloc, At::Place(place), cause(near)),
-        },
-    }
-}
-
-/// The token at a place, and those before it.
-fn near_of(toks: &[Placed], place: usize) -> Option<Near<'_>> {
-    let mut two_before = None;
-    let mut before = None;
-    for here in toks {
-        if here.1.from == place {
-            return Some(Near {
-                two_before,
-                before,
-                here,
-            });
-        }
-        two_before = before;
-        before = Some(here);
-    }
-    None
-}
-
-/// How often a sign stands there.
-fn count_sign(toks: &[Placed], sign: Sign) -> u64 {
-    let mut count: u64 = 0;
-    for tok in toks {
-        if is_sign(tok, sign) {
-            count = count.saturating_add(1);
-        }
-    }
-    count
+/// Why the token at a place is wrong, or the text ends there too early.
+pub fn grammar(
+    alloc: Global,
+    bytes: &[u8],
+    toks: &[Placed],
+    place: usize,
+) -> Result<Found, AllocError> {
+    let what = match near_of(toks, place) {
+        None => ended(alloc, bytes, toks)?,
+        Some(near) => wrong(alloc, bytes, near)?,
+    };
+    Ok(Found {
+        at: At::Place(place),
+        what,
+    })
 }
 
 /// What is missing where a text ends too early.
-fn ended(toks: &[Placed]) -> &'static str {
+fn ended(alloc: Global, bytes: &[u8], toks: &[Placed]) -> Result<Sentence, AllocError> {
+    let what = Sentence::new(alloc);
     if toks.is_empty() {
-        "nothing stands here: a description begins with `machine {`"
-    } else if count_sign(toks, Sign::CloseBrace) < count_sign(toks, Sign::OpenBrace) {
-        "the text ends here, and a `}` is missing"
-    } else {
-        "the text ends here, and something is missing"
+        return what.words("nothing stands here: a description begins with `machine {`");
+    }
+    match opened(toks) {
+        None => what.words("the text ends here, and something is missing"),
+        Some(open) => unclosed(
+            what.words("the text ends here, and a `}` is missing: ")?,
+            bytes,
+            toks,
+            open,
+        ),
     }
 }
 
-/// The sign of an operation, if a token is one.
-fn operation(tok: &Placed) -> Option<Sign> {
-    match tok.0 {
-        Tok::Sign(
-            sign @ (Sign::Plus
-            | Sign::Minus
-            | Sign::Star
-            | Sign::Ampersand
-            | Sign::Bar
-            | Sign::Caret
-            | Sign::DoubleEquals
-            | Sign::LessThan
-            | Sign::DoubleLess
-            | Sign::DoubleGreater),
-        ) => Some(sign),
+/// And what it is that is not closed, and where it begins.
+fn unclosed(
+    what: Sentence,
+    bytes: &[u8],
+    toks: &[Placed],
+    open: usize,
+) -> Result<Sentence, AllocError> {
+    let line = spot_at(bytes, open).line;
+    let what = match last_instr(toks) {
+        [] => what.words("the head")?,
+        [name, ..] => match word_of(name) {
+            None => what.words("a body")?,
+            Some(name) => what.words("the body of ")?.name(name)?,
+        },
+    };
+    what.words(" begins on line ")?.number(line)
+}
+
+/// The tokens behind the last `instr`, or none.
+pub fn last_instr(toks: &[Placed]) -> &[Placed] {
+    match toks.iter().rposition(|tok| is_word(tok, b"instr")) {
+        None => &[],
+        Some(at) => &toks[at + 1..],
+    }
+}
+
+/// Why a token is wrong.
+fn wrong(alloc: Global, bytes: &[u8], near: Near<'_>) -> Result<Sentence, AllocError> {
+    let what = Sentence::new(alloc);
+    if let Some(words) = in_head(near) {
+        return what.words(words);
+    }
+    if is_word(near.here, b"instr") {
+        if let Some(open) = opened(near.before) {
+            let what = what.words("a `}` is missing before this: ")?;
+            return unclosed(what, bytes, near.before, open);
+        }
+    }
+    if let Some(sign) = unparenthesised(near) {
+        return what.words("`")?.words(sign_text(sign))?.words(
+            "` cannot stand here: an operation with two sides stands in parentheses",
+        );
+    }
+    if let Some(what) = bits_cut(alloc, near)? {
+        return Ok(what);
+    }
+    if let Some(what) = named(alloc, near)? {
+        return Ok(what);
+    }
+    what.words(cause(near))
+}
+
+/// Which part of the head is due, by how many stand before.
+fn head_due(count: u64) -> &'static str {
+    match count {
+        0 => "`word` is due here: the head has `word`, `address` and `size`, in this order",
+        1 => "`address` is due here: the head has `word`, `address` and `size`, in this order",
+        2 => "`size` is due here: the head has `word`, `address` and `size`, in this order",
+        3 => "`causes on;` or the `}` of the head is due here",
+        _ => "the `}` of the head is due here",
+    }
+}
+
+/// What is due in the head of a description, where the token stands there.
+fn in_head(near: Near<'_>) -> Option<&'static str> {
+    let [first, brace, parts @ ..] = near.before else {
+        return None;
+    };
+    if !is_word(first, b"machine")
+        || !is_sign(brace, Sign::OpenBrace)
+        || parts.iter().any(|tok| is_sign(tok, Sign::CloseBrace))
+    {
+        return None;
+    }
+    let count = parts
+        .iter()
+        .filter(|tok| is_sign(tok, Sign::Semicolon))
+        .count() as u64;
+    match parts {
+        [] => Some(head_due(count)),
+        [.., last] if is_sign(last, Sign::Semicolon) => {
+            if count >= 3 && is_word(near.here, b"instr") {
+                None
+            } else {
+                Some(head_due(count))
+            }
+        }
+        [.., last] if is_word(last, b"causes") => Some(
+            "`on` is due here: `causes on;` turns causes on, and a head without it has none",
+        ),
+        [.., last] if word_of(last).is_some() && count < 3 => Some("a number is due here"),
         _ => None,
     }
 }
 
 /// Whether an expression may end with a token.
-fn ends_expression(tok: &Placed) -> bool {
+pub fn ends_expression(tok: &Placed) -> bool {
     match tok.0 {
         Tok::Word(_) | Tok::Number(_) => true,
         Tok::Sign(Sign::CloseParen) | Tok::Sign(Sign::CloseBracket) => true,
@@ -102,20 +148,31 @@ fn ends_expression(tok: &Placed) -> bool {
     }
 }
 
+/// Whether a token is a word behind which an expression is due.
+fn awaits_expression(tok: &Placed) -> bool {
+    match word_of(tok) {
+        Some(b"if") => true,
+        _ => match tok.0 {
+            Tok::Sign(Sign::Equals | Sign::OpenParen | Sign::OpenBracket | Sign::Tilde) => true,
+            _ => operation(tok).is_some(),
+        },
+    }
+}
+
 /// The sign of an operation that stands behind an expression where none may.
 fn unparenthesised(near: Near<'_>) -> Option<Sign> {
     match near.before {
-        Some(before) if ends_expression(before) && !lacks_width(near) => operation(near.here),
+        [.., before] if ends_expression(before) && !lacks_width(near) => operation(near.here),
         _ => None,
     }
 }
 
 /// Whether the token before is a number of an expression, whose width is due.
 fn lacks_width(near: Near<'_>) -> bool {
-    match (near.two_before, near.before) {
-        (Some(two_before), Some((Tok::Number(_), _))) => !is_sign(two_before, Sign::Colon)
+    match near.before {
+        [.., two_before, (Tok::Number(_), _)] => !is_sign(two_before, Sign::Colon)
             && !is_sign(two_before, Sign::Comma)
-            && word_of(two_before).is_none(),
+            && (word_of(two_before).is_none() || is_word(two_before, b"if")),
         _ => false,
     }
 }
@@ -132,10 +189,10 @@ fn begins_next(tok: &Placed) -> bool {
 /// Whether two signs stand there one right behind the other.
 fn is_pair(near: Near<'_>, first: Sign, second: Sign) -> bool {
     match near.before {
-        None => false,
-        Some(before) => is_sign(before, first)
+        [.., before] => is_sign(before, first)
             && is_sign(near.here, second)
             && before.1.to == near.here.1.from,
+        [] => false,
     }
 }
 
@@ -156,12 +213,20 @@ fn other_sign(near: Near<'_>) -> Option<&'static str> {
 fn behind(near: Near<'_>, before: &Placed) -> &'static str {
     if lacks_width(near) {
         "the number before this has no width: write `:` and how many bits it has, as in `0:32`"
+    } else if is_word(before, b"else") && is_word(near.here, b"if") {
+        "`else` is followed by `{`: put this `if` into the braces, `else { if .. { .. } }`"
+    } else if is_word(before, b"else") {
+        "`else` is followed by `{`"
     } else if (is_word(before, b"let") || is_word(before, b"instr"))
         && word_of(near.here).is_some()
     {
         "this is a word of the language, and no name"
     } else if is_sign(before, Sign::CloseBrace) && is_sign(near.here, Sign::Semicolon) {
         "no `;` stands behind `}`"
+    } else if is_sign(near.here, Sign::Minus) && !ends_expression(before) {
+        "`-` stands between two sides: write `(0:32 - x)`, where x has 32 bits"
+    } else if awaits_expression(before) {
+        "an expression is due here"
     } else if ends_expression(before) && begins_next(near.here) {
         "a `;` is missing before this"
     } else {
@@ -175,8 +240,10 @@ fn cause(near: Near<'_>) -> &'static str {
         return words;
     }
     match near.before {
-        None => "a description begins with `machine {`",
-        Some(before) => behind(near, before),
+        [] => "a description begins with `machine {`",
+        [.., instr, _] if is_word(instr, b"instr") =>
+            "the pattern of this instruction is due here, in quotes: a place for each bit of a word",
+        [.., before] => behind(near, before),
     }
 }
 

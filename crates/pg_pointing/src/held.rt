@@ -9,12 +9,12 @@ use pg_text::len_before;
 /// The bytes of a refused file, or a part of them, and what is known beside them.
 #[derive(Clone, Copy)]
 pub struct Held<'t> {
-    /// The bytes: all of the file, or the last part that was read.
+    /// The bytes: all of the file, or the last of it that was read, from the begin of a line on.
     pub bytes: &'t [u8],
     /// How many line feeds stand in the file before them: 0 where they are its front.
     pub feeds: u64,
-    /// The bits of a word of the machine that the file is for, where they are known.
-    pub word: Option<u64>,
+    /// The description of the machine that the file is for, or no byte where it is not held.
+    pub description: &'t [u8],
 }
 
 /// A line of the bytes that are held.
@@ -33,7 +33,7 @@ pub fn bytes_from(bytes: &[u8], place: usize) -> &[u8] {
 
 /// The line of this number, from 1, of the file, where all of its front is held.
 pub fn line_of<'t>(held: &Held<'t>, line: u64) -> Option<HeldLine<'t>> {
-    if line <= held.feeds || (line == held.feeds.saturating_add(1) && held.feeds > 0) {
+    if line <= held.feeds {
         return None;
     }
     match place_of_line(held.bytes, line - held.feeds) {

@@ -1,7 +1,9 @@
 //! What is wrong with an image.
 
+use crate::description::cut;
 use crate::found::{At, Found, plain};
 use crate::held::{Held, bytes_from, line_of, part_offset};
+use crate::limits::head_of;
 use pg_image::{content, split_part};
 use pg_report::ImageLine;
 use pg_spot::Sentence;
@@ -143,9 +145,9 @@ fn line_fault(line: &[u8], digits: Option<u64>) -> Broken {
 
 /// A line of another form than a row.
 fn row(alloc: Global, held: &Held<'_>, line: u64) -> Result<Found, AllocError> {
-    let digits = match held.word {
+    let digits = match head_of(cut(alloc, held.description)?.as_slice()) {
         None => None,
-        Some(word) => Some(word / 4),
+        Some(head) => Some(head.word.value / 4),
     };
     match line_of(held, line) {
         None => plain(

@@ -1,10 +1,8 @@
-//! What is wrong with a certificate, a source of the assembler, and a saved guest: refusals that name a line.
+//! What is wrong with a certificate and a saved guest: refusals that name a line.
 
 use crate::found::{At, Found, plain};
-use crate::held::{Held, behind_part, bytes_from, first_part, line_of, part_offset};
-use crate::image::first_at;
-use pg_image::content;
-use pg_report::{CertificateLine, SavedLine, SourceLine};
+use crate::held::{Held, HeldLine, bytes_from, line_of};
+use pg_report::{CertificateLine, SavedLine};
 use pg_spot::Sentence;
 use pg_type::Kind;
 use std::alloc::{AllocError, Global};
@@ -133,25 +131,56 @@ fn foreign_words(rest: &[u8]) -> &'static str {
     }
 }
 
+/// Whether a line is a heading: this word, a blank, and a number with no zero before it.
+fn is_heading(line: &[u8], word: &[u8]) -> bool {
+    match line.strip_prefix(word) {
+        Some([b' ', b'0']) => true,
+        Some([b' ', b'1'..=b'9', digits @ ..]) => digits.iter().all(|byte| byte.is_ascii_digit()),
+        _ => false,
+    }
+}
+
+/// Whether a line begins with a word.
+fn begins_with(line: &[u8], word: &[u8]) -> bool {
+    match line.strip_prefix(word) {
+        None => false,
+        Some([]) => true,
+        Some([next, ..]) => !next.is_ascii_alphanumeric() && *next != b'_',
+    }
+}
+
 /// What a line is of another kind of file, if it is one's first line.
 fn other_file(line: &[u8]) -> Option<&'static str> {
-    if line.starts_with(b"pghybrid".as_slice()) {
+    if is_heading(line, b"pghybrid") {
         Some("this is a certificate of `hcheck`, for `hybrid` alone")
-    } else if line.starts_with(b"pgcert".as_slice()) {
+    } else if is_heading(line, b"pgcert") {
         Some("this is a certificate of `check`: one of `hcheck` is due")
-    } else if line.starts_with(b"pgguest".as_slice()) {
+    } else if is_heading(line, b"pgguest") {
         Some("this is a saved guest, and no certificate")
-    } else if line.starts_with(b"machine".as_slice()) || line.starts_with(b"instr".as_slice()) {
+    } else if begins_with(line, b"machine") || begins_with(line, b"instr") {
         Some("this is a description, and no certificate")
     } else {
         None
     }
 }
 
+/// Whether the text ends in a line that is not empty, and so without its LF.
+fn is_cut(held: &Held<'_>, line: &HeldLine<'_>) -> bool {
+    !line.bytes.is_empty() && held.bytes.len() <= line.start.saturating_add(line.bytes.len())
+}
+
+/// Whether a line is the heading of a certificate.
+fn has_heading(line: &[u8]) -> bool {
+    is_heading(line, b"pgcert") || is_heading(line, b"pghybrid")
+}
+
 /// A line that is none of a certificate, or may not stand where it does.
 fn no_line(alloc: Global, held: &Held<'_>, line: u64) -> Result<Found, AllocError> {
     let words = match line_of(held, line) {
         None => "the text ends too early, or this line may not stand there",
+        Some(found) if is_cut(held, &found) && (line > 1 || has_heading(found.bytes)) => {
+            "the text ends in this line: LF ends each line, and `end` is the last"
+        }
         Some(found) if line == 1 => match other_file(found.bytes) {
             None => "a certificate begins with `pgcert 2`, `pgcert 1` or `pghybrid 1`",
             Some(words) => words,
@@ -186,84 +215,5 @@ pub fn saved(alloc: Global, why: &SavedLine, held: &Held<'_>) -> Result<Found, A
             start_of(held, u64::from(*line)),
             "this is no line of a saved guest, or may not stand here; or the text ends before `end`",
         ),
-    }
-}
-
-/// What is wrong with a source, and where. The error is want of memory.
-pub fn source(alloc: Global, why: &SourceLine, held: &Held<'_>) -> Result<Found, AllocError> {
-    match why {
-        SourceLine::Long => plain(alloc, At::Whole, "a source has at most 1,048,576 bytes"),
-        SourceLine::Token(place) => plain(
-            alloc,
-            At::Place(*place),
-            source_byte(bytes_from(held.bytes, *place)),
-        ),
-        SourceLine::Grammar(line) => plain(
-            alloc,
-            first_at(held, *line as u64),
-            source_form(held, *line as u64),
-        ),
-        SourceLine::Name(line)
-        | SourceLine::Field(line)
-        | SourceLine::Label(line)
-        | SourceLine::Range(line)
-        | SourceLine::Place(line)
-        | SourceLine::Overlap(line) => plain(
-            alloc,
-            first_at(held, *line as u64),
-            source_words(why),
-        ),
-    }
-}
-
-/// Why a byte may not stand in a source.
-fn source_byte(rest: &[u8]) -> &'static str {
-    match rest {
-        [0xef, 0xbb, 0xbf, ..] => "a byte order mark stands here: save the file without one",
-        [b';', ..] =>
-            "`;` may not stand here: a line ends an instruction, and `#` begins a comment",
-        [b',', ..] => "`,` may not stand here: blanks stand between fields",
-        _ => "this may stand in a comment alone",
-    }
-}
-
-/// What is wrong with a line of a source that has an instruction or a word.
-fn source_words(why: &SourceLine) -> &'static str {
-    match why {
-        SourceLine::Name(_) => "the description has no instruction of this name",
-        SourceLine::Field(_) =>
-            "an instruction has each field of its pattern once, from the highest bit",
-        SourceLine::Label(_) => "a label is used that no line gives, or given twice",
-        SourceLine::Range(_) => "a value does not fit its field",
-        SourceLine::Place(_) => "the word of this line would stand at or past the size",
-        SourceLine::Overlap(_) => "an earlier line gives the cell of this line",
-        _ => "the source is refused",
-    }
-}
-
-/// Whether a part is no whole field: nothing stands behind its `=`, or it has none.
-fn is_half(part: &[u8]) -> bool {
-    match part {
-        [] => false,
-        [.., b'='] => true,
-        _ => !part.contains(&b'='),
-    }
-}
-
-/// What is wrong with the form of a line of a source.
-fn source_form(held: &Held<'_>, line: u64) -> &'static str {
-    let line = match line_of(held, line) {
-        None => return "this is no line of a source",
-        Some(found) => content(found.bytes),
-    };
-    let rest = behind_part(line);
-    match (first_part(line), first_part(rest)) {
-        ([.., b':'], [_, ..]) => "a label has a line to itself",
-        (b"word", _) =>
-            "`word` is followed by the digits of one word, as many as it has, and no more",
-        ([b'@', ..], _) => "`@` is followed by 1 to 7 decimal digits, and has a line to itself",
-        (_, second) if is_half(second) =>
-            "a field is written `LETTER=VALUE`, with no blank around `=`",
-        _ => "this is no line of a source: `NAME FIELD=VALUE ..`, `NAME:`, `@PLACE` or `word HEX`",
     }
 }

@@ -2,7 +2,7 @@
 
 use crate::found::{At, Found, plain};
 use crate::limits::head_of;
-use pg_spot::{Placed, Sentence, instruction, pattern_of, spot_at, word_of};
+use pg_spot::{Placed, Sentence, instruction, is_word, pattern_of, spot_at, word_of};
 use std::alloc::{AllocError, Global};
 
 /// A pattern and its place.
@@ -100,4 +100,58 @@ pub fn overlap(
             .number(spot_at(bytes, first.place).line)?
             .words(": fix a bit that tells them apart")?,
     })
+}
+
+/// The pattern of the instruction of this name.
+pub fn pattern_named<'t>(toks: &'t [Placed], name: &[u8]) -> Option<&'t [u8]> {
+    let mut is_behind = false;
+    let mut is_named = false;
+    for tok in toks {
+        if is_named {
+            return pattern_of(tok);
+        }
+        is_named = is_behind && is_word(tok, name);
+        is_behind = is_word(tok, b"instr");
+    }
+    None
+}
+
+/// How many bits of a pattern are this field's.
+pub fn field_width(pattern: &[u8], letter: u8) -> u64 {
+    let mut width: u64 = 0;
+    for byte in pattern {
+        if *byte == letter {
+            width = width.saturating_add(1);
+        }
+    }
+    width
+}
+
+/// The first field of a pattern, and what stands behind its run.
+pub fn next_field(pattern: &[u8]) -> Option<(u8, &[u8])> {
+    let behind = match pattern.iter().position(|byte| byte.is_ascii_lowercase()) {
+        None => return None,
+        Some(at) => &pattern[at..],
+    };
+    let letter = match behind.first() {
+        None => return None,
+        Some(letter) => *letter,
+    };
+    match behind.iter().position(|byte| *byte != letter) {
+        None => Some((letter, &[])),
+        Some(to) => Some((letter, &behind[to..])),
+    }
+}
+
+/// And the fields of a pattern, from the highest bit, as a source gives them.
+pub fn push_fields(what: Sentence, pattern: &[u8]) -> Result<Sentence, AllocError> {
+    let mut what = what;
+    let mut last = b'.';
+    for byte in pattern {
+        if *byte != last && byte.is_ascii_lowercase() {
+            what = what.words(" ")?.text([*byte].as_slice())?.words("=..")?;
+        }
+        last = *byte;
+    }
+    Ok(what)
 }

@@ -7,10 +7,11 @@ ghost use Rattle.std.specs.Prelude.{◌≡◌, is_some, IfOk};
 ghost use Rattle.pg_pointing.specs.Refusals.{is_of_file};
 
 use crate::description::description;
-use crate::found::{At, Found};
+use crate::found::{At, Found, Told, alone};
 use crate::held::Held;
 use crate::image::image;
-use crate::lines::{certificate, saved, source};
+use crate::lines::{certificate, saved};
+use crate::sources::source;
 use pg_report::RefusalLine;
 use pg_spot::{Sentence, Shown, show, spot_at};
 use pg_text::dec;
@@ -25,15 +26,26 @@ pub struct Place {
     pub column: u64,
 }
 
-/// What is wrong with a file, and where.
+/// What is wrong, and where.
 #[derive(Drop)]
-pub struct Pointed {
+pub struct Point {
     /// What is wrong.
     pub what: Sentence,
     /// Where; nothing where it is the file as a whole.
     pub place: Option<Place>,
     /// The line there, where it is held.
     pub shown: Option<Shown>,
+}
+
+/// What is wrong with a file.
+#[derive(Drop)]
+pub struct Pointed {
+    /// What it is refused for.
+    pub first: Point,
+    /// What else is wrong with it of the same kind.
+    pub more: Vec<Point>,
+    /// How many more faults of that kind it has.
+    pub left: u64,
 }
 
 /// What is wrong with a refused file, and where, found from the bytes of it that are held. Nothing where no file is refused,
@@ -45,27 +57,41 @@ pub fn point_out(
 ) -> Result<Option<Pointed>, AllocError>
     ensures told { IfOk result (λ pointed. is_some pointed ≡ is_of_file refusal.now) }
 {
-    let found = match refusal {
+    let told = match refusal {
         RefusalLine::Description(why) => description(alloc, why, held.bytes)?,
-        RefusalLine::Image(_, why) => image(alloc, why, held)?,
-        RefusalLine::Certificate(why) => certificate(alloc, why, held)?,
-        RefusalLine::Source(why) => source(alloc, why, held)?,
-        RefusalLine::Saved(why) => saved(alloc, why, held)?,
+        RefusalLine::Image(_, why) => alone(alloc, image(alloc, why, held)?),
+        RefusalLine::Certificate(why) => alone(alloc, certificate(alloc, why, held)?),
+        RefusalLine::Source(why) => alone(alloc, source(alloc, why, held)?),
+        RefusalLine::Saved(why) => alone(alloc, saved(alloc, why, held)?),
         RefusalLine::Room(_, _) => return Ok(None),
     };
-    Ok(Some(shown_at(alloc, found, held)?))
+    Ok(Some(all_shown(alloc, told, held)?))
+}
+
+/// All that is told, with the lines.
+fn all_shown(alloc: Global, told: Told, held: &Held<'_>) -> Result<Pointed, AllocError> {
+    let first = shown_at(alloc, told.first, held)?;
+    let mut more = Vec::new(alloc);
+    for found in told.more {
+        more.push(shown_at(alloc, found, held)?)?;
+    }
+    Ok(Pointed {
+        first,
+        more,
+        left: told.left,
+    })
 }
 
 /// What is found, with its line.
-fn shown_at(alloc: Global, found: Found, held: &Held<'_>) -> Result<Pointed, AllocError> {
+fn shown_at(alloc: Global, found: Found, held: &Held<'_>) -> Result<Point, AllocError> {
     let what = found.what;
     match found.at {
-        At::Whole => Ok(Pointed {
+        At::Whole => Ok(Point {
             what,
             place: None,
             shown: None,
         }),
-        At::Line(line) => Ok(Pointed {
+        At::Line(line) => Ok(Point {
             what,
             place: Some(Place { line, column: 1 }),
             shown: None,
@@ -73,7 +99,7 @@ fn shown_at(alloc: Global, found: Found, held: &Held<'_>) -> Result<Pointed, All
         At::Place(place) => {
             let spot = spot_at(held.bytes, place);
             let shown = show(alloc, &spot)?;
-            Ok(Pointed {
+            Ok(Point {
                 what,
                 place: Some(Place {
                     line: spot.line.saturating_add(held.feeds),
@@ -111,18 +137,43 @@ fn push_shown(text: &mut Vec<u8>, shown: &Shown) -> Result<(), AllocError> {
     Ok(())
 }
 
-/// The text for a file of this name: `NAME:LINE:COLUMN: WHAT`, and where the line is held that line, and `^` below the place.
-pub fn three_lines(alloc: Global, name: &[u8], pointed: &Pointed) -> Result<Vec<u8>, AllocError> {
-    let mut text = Vec::new(alloc);
-    push_name(&mut text, name)?;
-    if let Some(place) = pointed.place {
-        push_place(&mut text, place)?;
+/// Pushes what is wrong: `NAME:LINE:COLUMN: WHAT`, and where the line is held that line, and `^` below the place.
+fn push_point(text: &mut Vec<u8>, name: &[u8], point: &Point) -> Result<(), AllocError> {
+    push_name(text, name)?;
+    if let Some(place) = point.place {
+        push_place(text, place)?;
     }
     text.extend_from_slice(b": ")?;
-    text.extend_from_slice(pointed.what.as_bytes())?;
+    text.extend_from_slice(point.what.as_bytes())?;
     text.push(b'\n')?;
-    if let Some(shown) = &pointed.shown {
-        push_shown(&mut text, shown)?;
+    if let Some(shown) = &point.shown {
+        push_shown(text, shown)?;
+    }
+    Ok(())
+}
+
+/// Pushes how many more statements there are whose widths do not fit, which are the faults that are told of more than one.
+fn push_left(text: &mut Vec<u8>, name: &[u8], left: u64) -> Result<(), AllocError> {
+    push_name(text, name)?;
+    text.extend_from_slice(b": and ")?;
+    text.extend_from_slice(dec(left).as_slice())?;
+    text.extend_from_slice(if left == 1 {
+        b" more statement whose widths do not fit\n".as_slice()
+    } else {
+        b" more statements whose widths do not fit\n".as_slice()
+    })
+}
+
+/// The text for a file of this name, three lines for each fault whose line is held: `NAME:LINE:COLUMN: WHAT`, that line, and `^`
+/// below the place; and last how many more faults there are, if there are more.
+pub fn three_lines(alloc: Global, name: &[u8], pointed: &Pointed) -> Result<Vec<u8>, AllocError> {
+    let mut text = Vec::new(alloc);
+    push_point(&mut text, name, &pointed.first)?;
+    for point in pointed.more.as_slice() {
+        push_point(&mut text, name, point)?;
+    }
+    if pointed.left > 0 {
+        push_left(&mut text, name, pointed.left)?;
     }
     Ok(text)
 }

@@ -1,45 +1,84 @@
-//! Widths that do not fit.
+//! Widths that do not fit, of all statements of a description.
+//!
+//! A statement is found in the tree (`misfits`), and its place in the tokens, whose expressions are numbered alike.
 
-use crate::found::{At, Found, at_place, plain};
+use crate::found::{At, Found, at_place};
 use crate::grammar::sign_text;
-use crate::limits::head_of;
-use pg_spot::{Bits, Placed, Row, Sentence, Use, find_clash, first_place, instruction, statement};
+use crate::misfits::{Misfit, Misfits, Use, find_misfits};
+use pg_read::{DescFault, read_desc};
+use pg_spot::{
+    Placed, Sentence, expression, first_place, instruction, operation, operator, statement,
+};
+use pg_valid::WidthClash;
 use std::alloc::{AllocError, Global};
 
-/// Where the statement of this number breaks the table of widths, and how. The error is want of memory.
-pub fn width(
-    alloc: Global,
-    toks: &[Placed],
-    number: usize,
-    stmt: usize,
-) -> Result<Found, AllocError> {
-    let (instr, head) = match (instruction(toks, number), head_of(toks)) {
-        (Some(instr), Some(head)) => (instr, head),
-        _ => return plain(alloc, At::Whole, "the widths of a statement do not fit"),
-    };
-    let bits = Bits {
-        word: head.word.value,
-        address: head.address.value,
-    };
-    match find_clash(alloc, bits, instr)? {
-        Some(clash) => Ok(Found {
-            at: At::Place(clash.place),
-            what: row_words(Sentence::new(alloc), clash.row)?,
+/// The most statements that are told: the first, and 20 more.
+const MOST_TOLD: usize = 21;
+
+/// The statements of a description that break the table of widths; none where it cannot be read. The error is want of memory.
+pub fn misfits_of(alloc: Global, bytes: &[u8]) -> Result<Misfits, AllocError> {
+    match read_desc(alloc, bytes) {
+        Ok(desc) => find_misfits(alloc, &desc, MOST_TOLD),
+        Err(DescFault::Memory) => Err(AllocError),
+        Err(_) => Ok(Misfits {
+            found: Vec::new(alloc),
+            left: 0,
         }),
-        None => plain(
-            alloc,
-            at_place(place_of(instr, stmt)),
-            "the widths of this statement do not fit",
-        ),
     }
 }
 
-/// The place of a statement.
-fn place_of(instr: &[Placed], stmt: usize) -> Option<usize> {
-    match statement(instr, stmt) {
+/// The tokens of a statement, from its first one on.
+fn stmt_of(toks: &[Placed], instr: usize, stmt: usize) -> Option<&[Placed]> {
+    match instruction(toks, instr) {
         None => None,
-        Some(toks) => first_place(toks),
+        Some(instr) => statement(instr, stmt),
     }
+}
+
+/// The tokens from the part on that breaks the table.
+fn part_of<'t>(toks: &'t [Placed], misfit: &Misfit) -> &'t [Placed] {
+    match stmt_of(toks, misfit.instr, misfit.stmt) {
+        None => &[],
+        Some(stmt) => match expression(stmt, misfit.part.number) {
+            None => stmt,
+            Some(part) => part,
+        },
+    }
+}
+
+/// Where a statement breaks the table of widths, where it is the one of this number in this instruction. The error is want of
+/// memory.
+pub fn misfit_found(alloc: Global, toks: &[Placed], misfit: &Misfit) -> Result<Found, AllocError> {
+    let part = part_of(toks, misfit);
+    let what = Sentence::new(alloc);
+    match (misfit.how, operator(part)) {
+        (WidthClash::Sides(one, other), Some(sign)) => Ok(Found {
+            at: At::Place(sign.1.from),
+            what: sides_row(what, sign, one, other)?,
+        }),
+        _ => Ok(Found {
+            at: at_place(first_place(part)),
+            what: row_words(what, misfit.how, misfit.part.by)?,
+        }),
+    }
+}
+
+/// A statement that breaks the table in a way that is not found anew. The error is want of memory.
+pub fn broken_at(
+    alloc: Global,
+    toks: &[Placed],
+    instr: usize,
+    stmt: usize,
+    how: WidthClash,
+) -> Result<Found, AllocError> {
+    let place = match stmt_of(toks, instr, stmt) {
+        None => None,
+        Some(stmt) => first_place(stmt),
+    };
+    Ok(Found {
+        at: at_place(place),
+        what: row_words(Sentence::new(alloc), how, Use::Any)?,
+    })
 }
 
 /// And so many bits.
@@ -58,6 +97,21 @@ fn sides(what: Sentence, one: u64, other: u64) -> Result<Sentence, AllocError> {
     )
 }
 
+/// The sides of a sign that wants them alike.
+fn sides_row(what: Sentence, sign: &Placed, one: u64, other: u64) -> Result<Sentence, AllocError> {
+    let sign = match operation(sign) {
+        None => "",
+        Some(sign) => sign_text(sign),
+    };
+    sides(
+        what.words("the sides of `")?
+            .words(sign)?
+            .words("` have one width")?,
+        one,
+        other,
+    )
+}
+
 /// What an expression is for.
 fn use_text(by: Use) -> &'static str {
     match by {
@@ -68,27 +122,31 @@ fn use_text(by: Use) -> &'static str {
         Use::Bound => "`bound` takes ",
         Use::Mode => "`mode` takes ",
         Use::Condition => "a condition has ",
+        Use::Any => "due here are ",
     }
 }
 
-/// How a row of the table is broken.
-fn row_words(what: Sentence, row: Row) -> Result<Sentence, AllocError> {
-    match row {
-        Row::Number(value, width) => number_row(what, value, width),
-        Row::Wanted(by, wanted, width) => count_bits(what.words(use_text(by))?, wanted)?
+/// How a row of the table is broken, by an expression for this use.
+fn row_words(what: Sentence, how: WidthClash, by: Use) -> Result<Sentence, AllocError> {
+    match how {
+        WidthClash::Number(value, width) => number_row(what, value, width),
+        WidthClash::Unnamed => what.words("a name of this statement has no width"),
+        WidthClash::Wanted(wanted, width) => count_bits(what.words(use_text(by))?, wanted)?
             .words(", and this has ")?
             .number(width),
-        Row::Sides(sign, one, other) => sides(
-            what.words("the sides of `")?
-                .words(sign_text(sign))?
-                .words("` have one width")?,
+        WidthClash::Sides(one, other) => sides(
+            what.words("the sides of a sign have one width")?,
             one,
             other,
         ),
-        Row::Joined(one, other) => sides(what.words("`cat` joins at most 64 bits")?, one, other),
-        Row::Cut(width, high, low) => cut_row(what, width, high, low),
-        Row::Widened(width, to) => widened_row(what, width, to),
-        Row::Choices(one, other) => sides(
+        WidthClash::Joined(one, other) => sides(
+            what.words("`cat` joins at most 64 bits")?,
+            one,
+            other,
+        ),
+        WidthClash::Cut(width, high, low) => cut_row(what, width, high, low),
+        WidthClash::Widened(width, to) => widened_row(what, width, to),
+        WidthClash::Choices(one, other) => sides(
             what.words("the choices of `sel` have one width")?,
             one,
             other,

@@ -1,5 +1,5 @@
 -- What a checker keeps, from the start on and from step to step.
-use Rattle.std.proofs.Common.{◌≡◌, ℕ, ◌+◌, ◌*◌, ◌<◌, ◌≤◌, Bool, List, [], ◌∷◌, ◌++◌, length, get_or, map, Option, Some, None, sym, ap, subst, ◌∙◌, arith, ℤ}
+use Rattle.std.proofs.Common.{◌≡◌, ℕ, ◌+◌, ◌*◌, ◌^◌, ◌<◌, ◌≤◌, Bool, List, [], ◌∷◌, ◌++◌, length, map, Option, Some, None, sym, ap, subst, ◌∙◌, arith, ℤ}
 use Rattle.pg_proof.specs.declared.step.Step.{Step}
 use Rattle.pg_cnf.specs.Literals.{AreLiterals, AreClauses}
 use Rattle.pg_proof.specs.Places.{AreWithin}
@@ -7,9 +7,9 @@ use Rattle.pg_proof.specs.State.{AreHeldWithin, variables_of_clause, variables_o
 use Rattle.pg_proof.specs.Refutation.{fault_of}
 use Rattle.pg_proof.specs.Kept.{IsKept}
 use Rattle.pg_proof.proofs.WithinLemmas.{AreHeldWithin-push}
-use Rattle.std.proofs.lemmas.List.{length-append, length-set}
-use Rattle.pg_proof.specs.Covered.{home, with_hung, AreHung}
-use Rattle.pg_proof.proofs.CoverLemmas.{home-below, AreHung-added, AreHung-without}
+use Rattle.std.proofs.lemmas.List.{length-append}
+use Rattle.pg_proof.specs.Covered.{home, IsHung}
+use Rattle.pg_proof.proofs.CoverLemmas.{home-below, IsHung-without}
 use Rattle.pg_proof.specs.Removal.{without}
 use Rattle.pg_proof.proofs.RemovalLemmas.{AreHeldWithin-without, length-without}
 use Rattle.pg_proof.proofs.SoundLemmas.{valid_within}
@@ -27,35 +27,38 @@ pub AreHeldWithin-begun : (m : ℕ) (cs : List (List ℤ)) → AreClauses m cs �
 AreHeldWithin-begun m cs h = AreHeldWithin-most m (variables_of cs) cs h (omega arith)
 
 -- a valid step's clause has a list to hang in
-pub home_of_valid : (variables : ℕ) (held : List (Option (List ℤ))) (flags standing numbers : List Bool) (hung : List (List ℕ)) (step : Step) →
-    fault_of variables held step ≡ None → IsKept variables held flags standing numbers hung → home step.lits < length hung
-home_of_valid variables held flags standing numbers hung step valid k =
+pub home_of_valid : (variables : ℕ) (held : List (Option (List ℤ))) (flags standing numbers : List Bool) (heads links : List ℕ) (made : Bool) (step : Step) →
+    fault_of variables held step ≡ None → IsKept variables held flags standing numbers heads links made → home step.lits < length heads
+home_of_valid variables held flags standing numbers heads links made step valid k =
     subst (λ n. home step.lits < n) (sym k.lists) (home-below (2 * variables + 2) step.lits (omega arith) (valid_within variables held step valid))
 
-pub IsKept-added : (variables : ℕ) (held after : List (Option (List ℤ))) (flags marked standing numbers more : List Bool) (hung lists : List (List ℕ)) (step : Step) →
-    fault_of variables held step ≡ None → length marked ≡ length flags → length held < length more → after ≡ held ++ Some step.lits ∷ [] →
-    lists ≡ with_hung hung (home step.lits) (length held + 1) →
-    IsKept variables held flags standing numbers hung → IsKept variables after marked standing more lists
-IsKept-added variables held after flags marked standing numbers more hung lists step valid same room made hangs k =
+pub IsKept-added : (variables : ℕ) (held after : List (Option (List ℤ))) (flags marked standing numbers more : List Bool) (heads links heads' links' : List ℕ) (made made' : Bool)
+    (step : Step) → fault_of variables held step ≡ None → length marked ≡ length flags → length held < length more → length held + 1 < 2 ^ 32 →
+    after ≡ held ++ Some step.lits ∷ [] → length heads' ≡ length heads → IsHung heads' links' made' after → IsKept variables held flags standing numbers heads links made →
+    IsKept variables after marked standing more heads' links' made'
+IsKept-added variables held after flags marked standing numbers more heads links heads' links' made made' step valid same room few e places hung k =
+    let long : length after ≡ length held + 1 = ap length e ∙ length-append held (Some step.lits ∷ []) in
     record {
       places = same ∙ k.places;
       standing_places = k.standing_places;
-      lists = ap length hangs ∙ length-set hung (home step.lits) (get_or hung (home step.lits) [] ++ (length held + 1) ∷ []) ∙ k.lists;
-      hangs = subst (λ x. x) (λ i. AreHung (sym hangs i) (sym made i))
-          (AreHung-added hung held step.lits (home_of_valid variables held flags standing numbers hung step valid k) k.hangs);
-      numbered = omega (arith, room, ap length made, length-append held (Some step.lits ∷ []));
-      within = subst (AreHeldWithin (2 * variables + 2)) (sym made)
+      lists = places ∙ k.lists;
+      hangs = hung;
+      few = omega (arith, few, long);
+      numbered = omega (arith, room, long);
+      within = subst (AreHeldWithin (2 * variables + 2)) (sym e)
           (AreHeldWithin-push (2 * variables + 2) held step.lits k.within (valid_within variables held step valid));
     }
 
-pub IsKept-without : (variables : ℕ) (held after : List (Option (List ℤ))) (flags standing numbers seen : List Bool) (hung : List (List ℕ)) (ns : List ℕ) →
-    without held ns ≡ Some after → length seen ≡ length numbers → IsKept variables held flags standing numbers hung → IsKept variables after flags standing seen hung
-IsKept-without variables held after flags standing numbers seen hung ns e same k =
+pub IsKept-without : (variables : ℕ) (held after : List (Option (List ℤ))) (flags standing numbers seen : List Bool) (heads links : List ℕ) (made : Bool) (ns : List ℕ) →
+    without held ns ≡ Some after → length seen ≡ length numbers → IsKept variables held flags standing numbers heads links made →
+    IsKept variables after flags standing seen heads links made
+IsKept-without variables held after flags standing numbers seen heads links made ns e same k =
     record {
       places = k.places;
       standing_places = k.standing_places;
       lists = k.lists;
-      hangs = AreHung-without hung ns held after e k.hangs;
+      hangs = IsHung-without heads links made ns held after e k.hangs;
+      few = omega (arith, k.few, length-without ns held after e);
       numbered = omega (arith, same, k.numbered, length-without ns held after e);
       within = AreHeldWithin-without (2 * variables + 2) ns held after e k.within;
     }

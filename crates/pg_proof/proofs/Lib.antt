@@ -7,6 +7,8 @@ pub mod SoundLemmas
 pub mod KeptLemmas
 pub mod RemovalLemmas
 pub mod TightLemmas
+pub mod SpanLemmas
+pub mod LinkLemmas
 pub mod CoverLemmas
 pub mod NewLemmas
 pub mod UseLemmas

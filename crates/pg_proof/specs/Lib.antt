@@ -2,6 +2,7 @@ pub mod Flags
 pub mod Places
 pub mod Reading
 pub mod State
+pub mod Spans
 pub mod Refutation
 pub mod Tight
 pub mod Marked

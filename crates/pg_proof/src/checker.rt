@@ -1,24 +1,25 @@
 //! The checker: the clauses of a question, and those that valid steps add.
 //!
 //! Whoever has a log calls `new` with the question, and then `add` and `remove` act by act: a caller that reads a log from
-//! outside, or the one that made it and does not want to be trusted. The clauses lie here, each in a list of its own, so
+//! outside, or the one that made it and does not want to be trusted. The clauses lie here, copied into one list (`store`), so
 //! that nothing of the question is borrowed. Literals are marked in flags that each step takes down at once.
 
-ghost use Rattle.std.specs.Prelude.{◌≡◌, ◌+◌, ◌<◌, ◌≤◌, ◌≢◌, ◌^◌, ◌++◌, ◌∷◌, [], ◌||◌, List, ℤ, length, map, Some, None, IfOk, IfErr, OnOk, OnErr};
+ghost use Rattle.std.specs.Prelude.{◌≡◌, ◌+◌, ◌<◌, ◌≤◌, ◌≢◌, ◌^◌, ◌||◌, List, ℤ, length, Some, None, IfOk, IfErr, OnOk, OnErr};
 ghost use Rattle.pg_proof.specs.State.{State, begun, is_empty, with_clause};
 ghost use Rattle.pg_proof.specs.Refutation.{fault_of, told};
-ghost use Rattle.pg_proof.specs.Covered.{home, is_covered, with_hung};
+ghost use Rattle.pg_proof.specs.Covered.{is_covered};
 ghost use Rattle.pg_proof.specs.Tight.{is_tight};
 ghost use Rattle.pg_proof.specs.Log.{act_fault, after_act};
 ghost use Rattle.pg_proof.specs.Removal.{after_removal};
 ghost use Rattle.pg_proof.specs.Sound.{IsSound};
 
-use crate::cover::{hang, home, is_covered, lists_of};
+use crate::cover::{Hung, hold, is_covered, make_lists, no_lists};
 use crate::marks::Marks;
 use crate::propagation::fault_of;
 use crate::question::{copies, greatest_variable};
 use crate::removal::{are_held, make_room, take_away};
-use crate::step::{Act, HintList, LitList, ProofFault, Step};
+use crate::step::{Act, ProofFault, Step};
+use crate::store::Store;
 use crate::tight::is_tight;
 use pg_cnf::Cnf;
 use std::alloc::{AllocError, Global};
@@ -28,13 +29,12 @@ use std::marker::Model;
 #[derive(Drop)]
 pub struct Checker {
     variables: u32,
-    clauses: Vec<Option<LitList>>,
+    clauses: Store,
     closed: bool,
     literals: Marks,
     standing: Marks,
     numbers: Marks,
-    hung: Vec<HintList>,
-    alloc: Global,
+    hung: Hung,
 }
 
 impl Model for Checker {
@@ -45,9 +45,9 @@ impl Model for Checker {
 
     ghost use Rattle.pg_proof.specs.Kept.{IsKept, state_of};
 
-    ghost view = { λ c. state_of c.variables c.clauses.items c.closed };
+    ghost view = { λ c. state_of c.variables c.clauses c.closed };
 
-    ghost invariant = { λ c. IsKept c.variables c.clauses.items c.literals c.standing c.numbers c.hung.items };
+    ghost invariant = { λ c. IsKept c.variables c.clauses c.literals c.standing c.numbers c.hung.heads.items c.hung.links.items c.hung.made };
 }
 
 impl Checker {
@@ -62,8 +62,8 @@ impl Checker {
         let places = 2 * variables as usize + 2;
         let literals = Marks::new(alloc, places)?;
         let standing = Marks::new(alloc, places)?;
-        let hung = lists_of(alloc, places, clauses.as_slice())?;
         let numbers = Marks::new(alloc, clauses.len())?;
+        let hung = no_lists(alloc, places, clauses.len())?;
         Ok(Checker {
             variables,
             clauses,
@@ -72,7 +72,6 @@ impl Checker {
             standing,
             numbers,
             hung,
-            alloc,
         })
     }
 
@@ -97,12 +96,7 @@ impl Checker {
         ensures kept { OnErr result (self.new ≡ self.old) }
         ensures sound { (question : List (List ℤ)) → IsSound question self.old → IsSound question self.new }
     {
-        if let Some(fault) = fault_of(
-            &mut self.literals,
-            self.variables,
-            self.clauses.as_slice(),
-            step,
-        ) {
+        if let Some(fault) = fault_of(&mut self.literals, self.variables, &self.clauses, step) {
             return Err(fault);
         }
         let number = self.clauses.len() as u32 + 1;
@@ -111,7 +105,7 @@ impl Checker {
             Err(_) => return Err(ProofFault::Memory),
         }
         let literals = step.lits.as_slice();
-        match hold(self.alloc, &mut self.clauses, &mut self.hung, literals) {
+        match hold(&mut self.clauses, &mut self.hung, literals) {
             Ok(()) => {}
             Err(_) => return Err(ProofFault::Memory),
         }
@@ -119,7 +113,7 @@ impl Checker {
         Ok(number)
     }
 
-    /// Takes the clauses of these numbers away, which frees their memory and takes none. `UnknownClause`, the only fault, comes
+    /// Takes the clauses of these numbers away, which takes no memory; what they leave is freed as others come. `UnknownClause`, the only fault, comes
     /// exactly where one of the numbers is that of no clause held, or is there a second time; then all is as it was.
     ///
     /// It costs the length of the list.
@@ -129,7 +123,7 @@ impl Checker {
         ensures kept { OnErr result (self.new ≡ self.old) }
         ensures sound { (question : List (List ℤ)) → IsSound question self.old → IsSound question self.new }
     {
-        if !are_held(&mut self.numbers, self.clauses.as_slice(), numbers) {
+        if !are_held(&mut self.numbers, &self.clauses, numbers) {
             return Err(ProofFault::UnknownClause);
         }
         take_away(&mut self.clauses, numbers);
@@ -170,24 +164,20 @@ impl Checker {
             &mut self.literals,
             &mut self.standing,
             self.variables,
-            self.clauses.as_slice(),
+            &self.clauses,
             step,
         )
     }
 
     /// Whether some clause held has no literal but these, so that a clause of these says no more than it does.
     ///
-    /// It takes no memory, and walks the clauses that hang at these literals, not all that are held.
+    /// It takes no memory, and walks the clauses that hang at these literals, not all that are held; the first call hangs them.
     pub fn covered(&mut self, literals: &[i32]) -> bool
         ensures covered { result ≡ is_covered self.old.held literals.now }
         ensures kept { self.new ≡ self.old }
     {
-        is_covered(
-            &mut self.literals,
-            self.clauses.as_slice(),
-            self.hung.as_slice(),
-            literals,
-        )
+        make_lists(&mut self.hung, &self.clauses);
+        is_covered(&mut self.literals, &self.clauses, &self.hung, literals)
     }
 
     /// Whether the empty clause was added: then no assignment makes all clauses of the question true.
@@ -195,32 +185,6 @@ impl Checker {
         ensures { result ≡ self.now.closed }
     {
         self.closed
-    }
-}
-
-/// A clause of these literals more, at the end, which hangs at its home. The error is want of memory, and all stays.
-fn hold(
-    alloc: Global,
-    clauses: &mut Vec<Option<LitList>>,
-    hung: &mut Vec<HintList>,
-    literals: &[i32],
-) -> Result<(), AllocError>
-    requires room { length clauses.old.items + 1 < 2 ^ 32 }
-    requires home { home literals.now < length hung.old.items }
-    ensures held { OnOk result (clauses.new.items ≡ clauses.old.items ++ Some literals.now ∷ []) }
-    ensures hung { OnOk result (hung.new.items ≡ with_hung hung.old.items (home literals.now) (length clauses.old.items + 1)) }
-    ensures kept { OnErr result (clauses.new.items ≡ clauses.old.items) }
-    ensures kept_hung { OnErr result (hung.new.items ≡ hung.old.items) }
-{
-    let number = clauses.len() as u32 + 1;
-    let copy = LitList::from_slice(alloc, literals)?;
-    clauses.push(Some(copy))?;
-    match hang(hung, home(literals), number) {
-        Ok(()) => Ok(()),
-        Err(error) => {
-            let _ = clauses.pop();
-            Err(error)
-        }
     }
 }
 

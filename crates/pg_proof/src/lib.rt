@@ -8,7 +8,7 @@
 //!
 //! # Modules
 //!
-//! - `step`: what a log is made of, and why a step is refused. `question`: what is taken of a question.
+//! - `step`: what a log is made of, and why a step is refused. `question`: what is taken of a question. `store`: clauses by their numbers.
 //! - `checker`: the checker and its calls. `propagation`: whether a step is valid. `removal`: clauses that are taken away.
 //! - `tight`: whether a step is the resolvent of its hints' clauses. `cover`: whether a clause held is part of some literals.
 //! - `marks`: flags that are all taken down at once.
@@ -25,6 +25,7 @@ mod question;
 mod removal;
 mod replay;
 mod step;
+mod store;
 mod tidying;
 mod tight;
 mod trimming;

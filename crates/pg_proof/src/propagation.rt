@@ -5,7 +5,6 @@
 //! whatever the number of clauses held.
 
 ghost use Rattle.std.specs.Prelude.{◌≡◌, ◌+◌, ◌*◌, ◌<◌, ◌≤◌, ◌^◌, ℕ, length, false, true, slice_set, slice_get, neg_ℤ, IfSome};
-ghost use Rattle.std.specs.Option.{option_copied};
 ghost use Rattle.pg_proof.specs.Places.{place, is_marked, negations, IsWithin, AreWithin};
 ghost use Rattle.pg_proof.specs.Reading.{reading};
 ghost use Rattle.pg_proof.specs.State.{clause_at, AreHeldWithin};
@@ -13,8 +12,8 @@ ghost use Rattle.pg_proof.specs.Refutation.{are_ascending, fault_of};
 ghost use Rattle.pg_proof.specs.Marked.{with_literal, IsReadWithin, marked, walk_marked};
 
 use crate::marks::Marks;
-use crate::step::{LitList, ProofFault, Step};
-use sqlite_items::at;
+use crate::step::{ProofFault, Step};
+use crate::store::{Store, clause_at};
 
 /// What a clause says where some literals are true.
 #[derive(Clone, Copy)]
@@ -48,21 +47,6 @@ pub fn negation_place(literal: i32) -> usize
         2 * variable + 1
     } else {
         2 * variable
-    }
-}
-
-/// The literals of the clause with a number, if it is held.
-pub fn clause_at(clauses: &[Option<LitList>], number: u32) -> Option<&[i32]>
-    ensures clause { option_copied result ≡ clause_at clauses.now number }
-    ensures within { (places : ℕ) → AreHeldWithin places clauses.now → IfSome result (λ c. AreWithin places c.now) }
-{
-    if number == 0 {
-        return None;
-    }
-    match at(clauses, number as usize - 1) {
-        None => None,
-        Some(None) => None,
-        Some(Some(clause)) => Some(clause.as_slice()),
     }
 }
 
@@ -124,7 +108,7 @@ pub fn read(flags: &Marks, clause: &[i32]) -> Reading
 
 /// The first fault along the hints, where the marked literals are true: none where the last hint's clause is false then.
 /// What they set stays marked.
-fn walk(flags: &mut Marks, clauses: &[Option<LitList>], hints: &[u32]) -> Option<ProofFault>
+fn walk(flags: &mut Marks, clauses: &Store, hints: &[u32]) -> Option<ProofFault>
     requires { AreHeldWithin (length flags.old) clauses.now }
     ensures fault { result ≡ walk_marked clauses.now flags.old hints.now }
     ensures places { length flags.new ≡ length flags.old }
@@ -153,7 +137,7 @@ fn walk(flags: &mut Marks, clauses: &[Option<LitList>], hints: &[u32]) -> Option
 pub fn fault_of(
     flags: &mut Marks,
     variables: u32,
-    clauses: &[Option<LitList>],
+    clauses: &Store,
     step: &Step,
 ) -> Option<ProofFault>
     requires held { AreHeldWithin (length flags.old) clauses.now }

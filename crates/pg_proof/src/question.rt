@@ -3,18 +3,17 @@
 ghost use Rattle.std.specs.Prelude.{◌≡◌, ◌+◌, ◌<◌, ◌≤◌, ◌^◌, map, max, Some, IfOk};
 ghost use Rattle.pg_proof.specs.State.{variables_of_clause, variables_of};
 
-use crate::step::LitList;
+use crate::store::Store;
 use pg_cnf::Clause;
 use std::alloc::{AllocError, Global};
 
 /// A copy of each clause. The error is want of memory.
-pub fn copies(alloc: Global, clauses: &[Clause]) -> Result<Vec<Option<LitList>>, AllocError>
-    ensures { IfOk result (λ made. made.items ≡ map Some clauses.now) }
+pub fn copies(alloc: Global, clauses: &[Clause]) -> Result<Store, AllocError>
+    ensures { IfOk result (λ made. made ≡ map Some clauses.now) }
 {
-    let mut made = Vec::new(alloc);
+    let mut made = Store::new(alloc);
     for clause in clauses {
-        let literals = LitList::from_slice(alloc, clause.lits())?;
-        made.push(Some(literals))?;
+        made.push(clause.lits())?;
     }
     Ok(made)
 }

@@ -1,15 +1,14 @@
 //! Taking clauses away, all or none.
 //!
 //! `Checker::remove` asks `are_held` first, which flags each number that it has seen, so that a number given twice is found
-//! without memory; only then does `take_away` free the clauses. Both cost the length of the list of numbers.
+//! without memory; only then does `take_away` drop the clauses. Both cost the length of the list of numbers.
 
 ghost use Rattle.std.specs.Prelude.{◌≡◌, ◌+◌, ◌<◌, ◌≤◌, length, Some, is_some, slice_index_or, false, IsSome, IfOk, OnOk, OnErr};
 ghost use Rattle.pg_proof.specs.State.{clause_at};
 ghost use Rattle.pg_proof.specs.Removal.{without};
 
 use crate::marks::Marks;
-use crate::propagation::clause_at;
-use crate::step::LitList;
+use crate::store::{Store, clause_at};
 use std::alloc::AllocError;
 
 /// Sees to it that there is a flag for one clause more than there are. The error is want of memory; no flag is lost.
@@ -25,7 +24,7 @@ pub fn make_room(flags: &mut Marks, clauses: usize) -> Result<(), AllocError>
 }
 
 /// Whether the clause with a number is held.
-fn is_held(clauses: &[Option<LitList>], number: u32) -> bool
+fn is_held(clauses: &Store, number: u32) -> bool
     ensures { result ≡ is_some (clause_at clauses.now number) }
 {
     match clause_at(clauses, number) {
@@ -35,7 +34,7 @@ fn is_held(clauses: &[Option<LitList>], number: u32) -> bool
 }
 
 /// Whether each number is that of a clause held, and none is there twice. It leaves marks, and nothing else.
-pub fn are_held(flags: &mut Marks, clauses: &[Option<LitList>], numbers: &[u32]) -> bool
+pub fn are_held(flags: &mut Marks, clauses: &Store, numbers: &[u32]) -> bool
     requires { length clauses.now ≤ length flags.old }
     ensures held { result ≡ is_some (without clauses.now numbers.now) }
     ensures places { length flags.new ≡ length flags.old }
@@ -55,11 +54,11 @@ pub fn are_held(flags: &mut Marks, clauses: &[Option<LitList>], numbers: &[u32])
 }
 
 /// Takes the clauses of these numbers away, each of which is held.
-pub fn take_away(clauses: &mut Vec<Option<LitList>>, numbers: &[u32])
-    requires { IsSome (without clauses.old.items numbers.now) }
-    ensures { without clauses.old.items numbers.now ≡ Some clauses.new.items }
+pub fn take_away(clauses: &mut Store, numbers: &[u32])
+    requires { IsSome (without clauses.old numbers.now) }
+    ensures { without clauses.old numbers.now ≡ Some clauses.new }
 {
     for number in numbers {
-        clauses[*number as usize - 1] = None;
+        clauses.take(*number);
     }
 }

@@ -13,13 +13,12 @@ ghost use Rattle.pg_proof.specs.Tight.{literals_at, hint_clauses, is_tight};
 ghost use Rattle.pg_proof.specs.Marked.{marked, marked_all, sets_marked};
 
 use crate::marks::Marks;
-use crate::propagation::{
-    Reading, clause_at, fault_of, mark_negations, negation_place, place, read,
-};
-use crate::step::{LitList, Step};
+use crate::propagation::{Reading, fault_of, mark_negations, negation_place, place, read};
+use crate::step::Step;
+use crate::store::{Store, clause_at};
 
 /// The literals of the clause with a number, or none where it is not held.
-fn literals_at(clauses: &[Option<LitList>], number: u32) -> &[i32]
+fn literals_at(clauses: &Store, number: u32) -> &[i32]
     ensures literals { result.now ≡ literals_at clauses.now number }
     ensures within { (places : ℕ) → AreHeldWithin places clauses.now → AreWithin places result.now }
 {
@@ -41,7 +40,7 @@ fn mark_literals(flags: &mut Marks, literals: &[i32])
 }
 
 /// Marks the literals of all clauses that the hints name, and no other.
-fn mark_clauses(flags: &mut Marks, clauses: &[Option<LitList>], hints: &[u32])
+fn mark_clauses(flags: &mut Marks, clauses: &Store, hints: &[u32])
     requires { AreHeldWithin (length flags.old) clauses.now }
     ensures marked { flags.new ≡ marked_all (replicate (length flags.old) false) (hint_clauses clauses.now hints.now) }
     ensures places { length flags.new ≡ length flags.old }
@@ -66,12 +65,7 @@ pub fn are_marked(flags: &Marks, literals: &[i32]) -> bool
 }
 
 /// Whether the negation of each literal that a hint sets is marked among those that stand in clauses.
-fn sets_are_marked(
-    standing: &Marks,
-    flags: &mut Marks,
-    clauses: &[Option<LitList>],
-    hints: &[u32],
-) -> bool
+fn sets_are_marked(standing: &Marks, flags: &mut Marks, clauses: &Store, hints: &[u32]) -> bool
     requires held { AreHeldWithin (length flags.old) clauses.now }
     requires places { length standing.now ≡ length flags.old }
     ensures marked { result ≡ sets_marked standing.now flags.old (hint_clauses clauses.now hints.now) }
@@ -93,7 +87,7 @@ fn sets_are_marked(
 }
 
 /// Whether a step is valid. It leaves marks, and nothing else.
-fn is_valid(flags: &mut Marks, variables: u32, clauses: &[Option<LitList>], step: &Step) -> bool
+fn is_valid(flags: &mut Marks, variables: u32, clauses: &Store, step: &Step) -> bool
     requires held { AreHeldWithin (length flags.old) clauses.now }
     requires places { length flags.old ≡ 2 * variables + 2 }
     ensures valid { result ≡ is_none (fault_of variables clauses.now step.now) }
@@ -107,7 +101,7 @@ pub fn is_tight(
     flags: &mut Marks,
     standing: &mut Marks,
     variables: u32,
-    clauses: &[Option<LitList>],
+    clauses: &Store,
     step: &Step,
 ) -> bool
     requires held { AreHeldWithin (2 * variables + 2) clauses.now }

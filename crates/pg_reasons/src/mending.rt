@@ -6,7 +6,7 @@ ghost use Rattle.pg_cert.specs.Verdicts.{kind_count};
 ghost use Rattle.pg_reasons.specs.Mending.{IsMended};
 
 use crate::instr::push_instr;
-use crate::part::Part;
+use crate::part::Wish;
 use crate::push::{Text, push, push_name};
 use pg_cert::put::kind_name;
 use pg_cert::{Family, Verdict};
@@ -104,7 +104,14 @@ fn push_found(alloc: Global, text: &mut Text, found: &GuardedMachine) -> Result<
         Verdict::Refused(instr) => {
             push(text, b" the machine is still refused. ")?;
             if instr < found.machine.count() {
-                push_instr(alloc, text, &found.machine, &found.report, Part::All, instr)?;
+                push_instr(
+                    alloc,
+                    text,
+                    &found.machine,
+                    &found.report,
+                    Wish::all(),
+                    instr,
+                )?;
             }
             push(
                 text,

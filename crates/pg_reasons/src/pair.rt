@@ -33,6 +33,16 @@ pub(crate) fn push_pair(
 ) -> Result<(), AllocError> {
     push_name(text, m, pair.instr)?;
     push(text, headline(pair.kind, pair.told))?;
+    push_states(alloc, text, m, pair)
+}
+
+/// Pushes the states of a pair, and what is left behind a step from each.
+pub(crate) fn push_states(
+    alloc: Global,
+    text: &mut Text,
+    m: &Machine,
+    pair: &Pair<'_>,
+) -> Result<(), AllocError> {
     push_state(alloc, text, m, pair.kind, pair.first, pair.told.first.word)?;
     match pair.kind {
         Kind::Control | Kind::UControl => {

@@ -1,4 +1,4 @@
-//! What of a report is told.
+//! What of a report is told, and how.
 
 use pg_type::Kind;
 
@@ -11,6 +11,25 @@ pub enum Part {
     Instr(usize),
     /// One kind of it.
     Kind(usize, Kind),
+}
+
+/// What of a report is told, and how.
+#[derive(Clone, Copy, Debug, PartialEq, Eq)]
+pub struct Wish {
+    /// What is told.
+    pub part: Part,
+    /// Whether two states that are laid out for a reader are told beside those of the report.
+    pub is_readable: bool,
+}
+
+impl Wish {
+    /// All that is refused, by the states of the report.
+    pub(crate) fn all() -> Wish {
+        Wish {
+            part: Part::All,
+            is_readable: false,
+        }
+    }
 }
 
 impl Part {

@@ -3,11 +3,11 @@
 ghost use Rattle.std.specs.Prelude.{◌≡◌, ◌*◌, ◌≤◌, length, true, IfOk, IfSome};
 ghost use Rattle.pg_cert.specs.Lines.{most_budget};
 ghost use Rattle.pg_cert.specs.Verdicts.{kind_count};
-ghost use Rattle.pg_reasons.specs.Mending.{AreWanted, IsMendedBy};
+ghost use Rattle.pg_reasons.specs.Mending.{AreWanted, IsMended, IsMendedBy};
 
 use crate::instr::push_instr;
 use crate::mending::{push_guarded, push_hybrid};
-use crate::part::Part;
+use crate::part::{Part, Wish};
 use crate::push::{Text, push, push_name};
 use pg_cert::put::kind_name;
 use pg_cert::{Family, Report, Verdict};
@@ -21,10 +21,19 @@ pub struct Reasons {
     /// The text.
     pub text: Vec<u8>,
     /// The machine with guards, where it was asked and is accepted.
-    pub mended: Option<Machine>,
+    pub mended: Option<Mended>,
 }
 
-/// What is told of the part of a report of a machine, which has one mark for each instruction and each kind of its family. Where a
+/// A machine that guards mend.
+#[derive(Drop)]
+pub struct Mended {
+    /// The machine with guards.
+    pub machine: Machine,
+    /// For each instruction, whether it has one.
+    pub marks: Vec<bool>,
+}
+
+/// What is told of a report of a machine, which has one mark for each instruction and each kind of its family. Where a
 /// machine is refused, what would mend it is asked, with a budget of learned clauses for each question, from 1 to 1,000,000; but not
 /// where a kind alone is told.
 ///
@@ -34,20 +43,35 @@ pub fn tell_reasons(
     alloc: Global,
     m: &Machine,
     report: &Report,
-    part: Part,
+    wish: Wish,
     budget: u32,
 ) -> Result<Reasons, AllocError>
     requires whole { length report.now.marks ≡ length m.now.desc.instrs * kind_count report.now.family }
     requires least { 1 ≤ budget }
     requires most { budget ≤ most_budget }
-    ensures { IfOk result (λ told. IfSome told.mended (λ g. IsMendedBy m.now.desc report.now g.desc)) }
+    ensures mended { IfOk result (λ told. IfSome told.mended (λ g. IsMendedBy m.now.desc report.now g.machine.desc)) }
+    ensures marks { IfOk result (λ told. IfSome told.mended (λ g. IsMended g.marks.items m.now.desc g.machine.desc)) }
 {
     let mut text = Text::new(alloc);
     push_verdict(&mut text, m, report.verdict())?;
-    let marks = wanted(alloc, m, report, part)?;
-    push_instrs(alloc, &mut text, m, report, part, marks.as_slice())?;
-    let mended = push_mending(alloc, &mut text, m, report, part, marks.as_slice(), budget)?;
-    Ok(Reasons { text, mended })
+    let marks = wanted(alloc, m, report, wish.part)?;
+    push_instrs(alloc, &mut text, m, report, wish, marks.as_slice())?;
+    let mended = push_mending(
+        alloc,
+        &mut text,
+        m,
+        report,
+        wish.part,
+        marks.as_slice(),
+        budget,
+    )?;
+    match mended {
+        None => Ok(Reasons { text, mended: None }),
+        Some(machine) => Ok(Reasons {
+            text,
+            mended: Some(Mended { machine, marks }),
+        }),
+    }
 }
 
 /// Pushes the line of a verdict.
@@ -90,21 +114,21 @@ fn wanted(alloc: Global, m: &Machine, report: &Report, part: Part) -> Result<Vec
     Ok(marks)
 }
 
-/// Pushes the instructions of a part: those with a mark, or the one that is named.
+/// Pushes the instructions that are wished for: those with a mark, or the one that is named.
 fn push_instrs(
     alloc: Global,
     text: &mut Text,
     m: &Machine,
     report: &Report,
-    part: Part,
+    wish: Wish,
     marks: &[bool],
 ) -> Result<(), AllocError>
     requires whole { length report.now.marks ≡ length m.now.desc.instrs * kind_count report.now.family }
     requires each { length marks.now ≡ length m.now.desc.instrs }
 {
     for (instr, is_marked) in marks.iter().enumerate() {
-        if *is_marked || (part != Part::All && part.takes(instr)) {
-            push_instr(alloc, text, m, report, part, instr)?;
+        if *is_marked || (wish.part != Part::All && wish.part.takes(instr)) {
+            push_instr(alloc, text, m, report, wish, instr)?;
         }
     }
     Ok(())
@@ -123,7 +147,8 @@ fn push_mending(
     requires marked { AreWanted report.now (length m.now.desc.instrs) marks.now }
     requires least { 1 ≤ budget }
     requires most { budget ≤ most_budget }
-    ensures { IfOk result (λ mended. IfSome mended (λ g. IsMendedBy m.now.desc report.now g.desc)) }
+    ensures mended { IfOk result (λ mended. IfSome mended (λ g. IsMendedBy m.now.desc report.now g.desc)) }
+    ensures marks { IfOk result (λ mended. IfSome mended (λ g. IsMended marks.now m.now.desc g.desc)) }
 {
     if matches!(part, Part::Kind(..)) || !marks.iter().any(|is_marked| *is_marked) {
         return Ok(None);

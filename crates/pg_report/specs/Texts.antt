@@ -46,7 +46,7 @@ description_text (Twice name) = codes "twice " ++ name_text name
 description_text (Pattern instr) = codes "pattern " ++ decimal instr
 description_text (Overlap i j) = codes "overlap " ++ two_numbers i j
 description_text (Name instr name) = codes "name " ++ decimal instr ++ codes " " ++ name_text name
-description_text (Width instr place) = codes "width " ++ two_numbers instr place
+description_text (Width instr place how) = codes "width " ++ two_numbers instr place
 
 -- why an image is refused
 unfoldable pub image_text : ImageLine → List ℕ

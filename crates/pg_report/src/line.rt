@@ -5,7 +5,7 @@
 //! name is owned, since the description that it comes from is gone when the line is put: the one part that takes memory.
 
 use pg_type::Kind;
-use pg_valid::Limit;
+use pg_valid::{Limit, WidthClash};
 use sqlite_items::Items;
 
 /// A line that says why a command is refused.
@@ -49,8 +49,8 @@ pub enum DescriptionLine {
     Overlap(usize, usize),
     /// An instruction, and a name in it that is neither a field nor a visible let.
     Name(usize, Items<u8>),
-    /// An instruction, and the place of a statement of it that breaks the table of widths.
-    Width(usize, usize),
+    /// An instruction, the place of a statement of it that breaks the table of widths, and how, which its line does not tell.
+    Width(usize, usize, WidthClash),
 }
 
 /// Why an image is refused. Places are bytes of its text, counted from 0, and lines are numbered from 1.

@@ -124,7 +124,7 @@ fn push_description(text: &mut Line, why: &DescriptionLine)
             push(text, b" ");
             push_name(text, name.as_slice());
         }
-        DescriptionLine::Width(instr, place) => push_pair(
+        DescriptionLine::Width(instr, place, _) => push_pair(
             text,
             b"width ",
             *instr as u64,

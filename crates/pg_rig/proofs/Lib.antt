@@ -1,2 +1,4 @@
 pub mod StoreLemmas
 pub mod StepLemmas
+pub mod KeepLemmas
+pub mod GlideLemmas

@@ -1,3 +1,4 @@
 pub mod Placing
 pub mod Storing
 pub mod Spying
+pub mod Gliding

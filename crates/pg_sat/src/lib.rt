@@ -11,7 +11,7 @@
 //!
 //! # Modules
 //!
-//! - `solver`: the calls. `answer`: what they answer.
+//! - `solver`: the calls. `answer`: what they answer. `watching`: who is told how far a search has come.
 //! - `turn`: one turn of the search. `search`: a literal that is assigned, and what follows. `conflict`: what is done at a
 //!   conflict. `jump`: how far the trail is cut then.
 //! - `learn`: the step that a conflict teaches. `trace`: the conflict, traced back along the trail. `flags`: the literals that a
@@ -40,6 +40,7 @@ mod shrink;
 mod solver;
 mod trace;
 mod turn;
+mod watching;
 
 pub use answer::{Answer, Assignment, StepList};
 pub use conflict::clause_of;
@@ -47,4 +48,5 @@ pub use decide::{assignment_of, choose};
 pub use guide::Guide;
 pub use jump::{cut_place, last_assigned};
 pub use learn::{Learned, learn_at, refute};
-pub use solver::{Counts, solve, solve_counted};
+pub use solver::{Counts, solve, solve_counted, solve_watched};
+pub use watching::{SearchWatcher, Silent};

@@ -7,6 +7,7 @@ use crate::answer::{Answer, Assignment, StepList};
 use crate::guide::Guide;
 use crate::search::start;
 use crate::turn::{Turned, turn};
+use crate::watching::{SearchWatcher, Silent};
 use pg_cnf::Cnf;
 use pg_proof::Step;
 use pg_watch::Watches;
@@ -56,16 +57,31 @@ pub fn solve_counted(alloc: Global, cnf: &Cnf, budget: u32) -> Result<(Answer, C
     requires { budget < 2 ^ 31 }
     ensures { IfOk result (λ told. IsAnswer cnf.now.clauses cnf.now.variables budget told.0) }
 {
+    solve_watched(alloc, cnf, budget, &mut Silent)
+}
+
+/// The same as `solve_counted`, and the watcher is told at each turn how far the search has come. It answers as it does with any other
+/// watcher.
+pub fn solve_watched<W: SearchWatcher>(
+    alloc: Global,
+    cnf: &Cnf,
+    budget: u32,
+    watcher: &mut W,
+) -> Result<(Answer, Counts), AllocError>
+    requires { budget < 2 ^ 31 }
+    ensures { IfOk result (λ told. IsAnswer cnf.now.clauses cnf.now.variables budget told.0) }
+{
     let mut watches = Watches::new(alloc, cnf)?;
-    search(alloc, cnf, &mut watches, budget)
+    search(alloc, cnf, &mut watches, budget, watcher)
 }
 
 /// Searches with watches that are new, and says what it took. The error is want of memory.
-fn search(
+fn search<W: SearchWatcher>(
     alloc: Global,
     cnf: &Cnf,
     watches: &mut Watches,
     budget: u32,
+    watcher: &mut W,
 ) -> Result<(Answer, Counts), AllocError>
     requires clauses { watches.old.clauses ≡ cnf.now.clauses }
     requires variables { watches.old.trail.variables ≡ cnf.now.variables }
@@ -75,19 +91,20 @@ fn search(
 {
     let mut guide = Guide::new(alloc, cnf.variables)?;
     let mut steps = Vec::new(alloc);
-    let ended = turns(alloc, cnf, watches, &mut steps, &mut guide, budget)?;
+    let ended = turns(alloc, cnf, watches, &mut steps, &mut guide, budget, watcher)?;
     let counts = counts_of(watches, &guide, steps.len());
     Ok((answer_of(ended, steps), counts))
 }
 
 /// Goes from turn to turn until one is the last. The error is want of memory.
-fn turns(
+fn turns<W: SearchWatcher>(
     alloc: Global,
     cnf: &Cnf,
     watches: &mut Watches,
     steps: &mut Vec<Step>,
     guide: &mut Guide,
     budget: u32,
+    watcher: &mut W,
 ) -> Result<Ended, AllocError>
     requires clauses { watches.old.clauses ≡ cnf.now.clauses }
     requires variables { watches.old.trail.variables ≡ cnf.now.variables }
@@ -104,6 +121,7 @@ fn turns(
             Turned::Refuted => return Ok(Ended::Refuted),
             Turned::Exhausted => return Ok(Ended::Exhausted),
         }
+        watcher.goes_on(steps.len(), budget);
     }
 }
 

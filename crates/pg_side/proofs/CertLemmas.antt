@@ -7,6 +7,7 @@ use Rattle.pg_cert.specs.declared.report.Report.{Report}
 use Rattle.pg_cert.specs.declared.report.Verdict.{Verdict}
 use Rattle.pg_cert.specs.declared.report.Verdict.TheVariants as verdict
 use Rattle.pg_cert.specs.Verdicts.{verdict_of, kind_count}
+use Rattle.pg_edge.specs.Count.{Rose}
 use Rattle.pg_edge.specs.Shelf.{Files}
 use Rattle.pg_judged.specs.Certificates.{CertDue}
 use Rattle.pg_judged.specs.Judged.{Judged, verdict_on, verdict_status}
@@ -34,6 +35,12 @@ comes-later view step before mid after (Ok x) earlier h = h
 comes-later view step before mid after (Err (stop.Refused why)) earlier h = h
 comes-later view step before mid after (Err stop.ReadFault) earlier h = (h.0, rose-within before mid after after earlier (omega arith) h.1)
 comes-later view step before mid after (Err stop.Memory) earlier h = tt
+
+-- the first bytes of a certificate that could not be read: a read that failed, where one may
+pub unread-comes : (d : Desc) (family : Family) (told : Option Files) (name : List ℕ) (before after : ℕ) → Rose before after →
+    Comes {T = Report} (λ report. report) (CertDue d family told name) before after (Err stop.ReadFault)
+unfolding CertDue
+unread-comes d family told name before after rose = (tt, rose)
 
 pub read-due : (d : Desc) (family : Family) (told : Option Files) (name : List ℕ) (before after : ℕ) (r : Result Report Stop) → IsValid d →
     Comes (λ report. report) (CertDue d family told name) before after r → IfOk r (λ report. CertDue d report.family told name (Came report))

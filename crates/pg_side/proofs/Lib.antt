@@ -1,3 +1,4 @@
+pub mod MendedLemmas
 pub mod Undone
 pub mod RunTexts
 pub mod RunLemmas

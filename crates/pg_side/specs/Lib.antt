@@ -2,4 +2,5 @@ pub mod Plans
 pub mod Judging
 pub mod Done
 pub mod Saved
+pub mod Mended
 pub mod Exported

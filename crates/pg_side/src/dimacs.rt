@@ -14,12 +14,14 @@ ghost use Rattle.pg_formula.specs.Dimacs.{IsQuestionText};
 mod request;
 
 use crate::dimacs::request::{Request, asked_by};
-use crate::files::{find, machine, put};
+use crate::files::{file_name, find, machine, put};
 use crate::stop::{Stop, ended};
 use pg_ask::ask;
+use pg_cli_says::{Lacking, WordsWatcher};
 use pg_edge::{Shelf, Sink};
 use pg_formula::text_of;
 use pg_machine::Machine;
+use pg_steps::StopWatcher;
 use std::alloc::{AllocError, Global};
 
 /// How the program is called.
@@ -27,9 +29,15 @@ pub const USAGE: &[u8] = b"usage: pg_dimacs DESC INSTR KIND\n";
 
 /// Puts the clauses of the question that the words ask for, the program's name first, and gives the status 0; else puts a line, and
 /// gives another status.
-pub fn run<F: Shelf, S: Sink>(alloc: Global, words: &[String], shelf: &mut F, out: &mut S) -> u8 {
+pub fn run<F: Shelf, S: Sink, W: StopWatcher + WordsWatcher>(
+    alloc: Global,
+    words: &[String],
+    shelf: &mut F,
+    out: &mut S,
+    watcher: &mut W,
+) -> u8 {
     let shown = show(alloc, words, shelf, out);
-    ended(alloc, USAGE, shown, out)
+    ended(alloc, USAGE, shown, out, watcher)
 }
 
 /// Puts the clauses of the question that the words ask for. The answer is the status.
@@ -40,8 +48,9 @@ fn show<F: Shelf, S: Sink>(
     out: &mut S,
 ) -> Result<u8, Stop> {
     let request = asked_by(words).ok_or(Stop::Words)?;
-    let machine = machine(alloc, shelf, request.names.file)?;
-    let instr = find(&machine, request.names.instr).ok_or(Stop::Words)?;
+    let name = file_name(alloc, request.names.file)?;
+    let machine = machine(alloc, shelf, &name)?;
+    let instr = find(&machine, request.names.instr).ok_or(Stop::Lacking(Lacking::Instr))?;
     let text = written(alloc, &machine, instr, &request)?;
     put(out, text.as_slice())?;
     Ok(0)

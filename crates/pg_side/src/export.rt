@@ -14,19 +14,27 @@ mod request;
 
 use crate::export::making::{Texts, texts_at};
 use crate::export::request::{Request, asked_by};
-use crate::files::{certificate, machine, put, save};
+use crate::files::{certificate, file_name, machine, put, save};
 use crate::stop::{Stop, ended};
+use pg_cli_says::{Lacking, WordsWatcher};
 use pg_edge::{Shelf, Sink};
 use pg_imported::place_of;
+use pg_steps::StopWatcher;
 use std::alloc::Global;
 
 /// How the program is called.
 pub const USAGE: &[u8] = b"usage: pg_export DESC CERT INSTR KIND [--cnf FILE]\n";
 
 /// Puts the log that the words ask for, the program's name first, and gives the status 0; else puts a line, and gives another status.
-pub fn run<F: Shelf, S: Sink>(alloc: Global, words: &[String], shelf: &mut F, out: &mut S) -> u8 {
+pub fn run<F: Shelf, S: Sink, W: StopWatcher + WordsWatcher>(
+    alloc: Global,
+    words: &[String],
+    shelf: &mut F,
+    out: &mut S,
+    watcher: &mut W,
+) -> u8 {
     let told = export(alloc, words, shelf, out);
-    ended(alloc, USAGE, told, out)
+    ended(alloc, USAGE, told, out, watcher)
 }
 
 /// Puts the log that the words ask for, and saves the clauses before it, where they ask for it. The answer is the status.
@@ -47,14 +55,18 @@ fn export<F: Shelf, S: Sink>(
 
 /// The texts of the finding that the words ask for.
 fn load<F: Shelf>(alloc: Global, shelf: &mut F, request: &Request<'_>) -> Result<Texts, Stop> {
-    let machine = machine(alloc, shelf, request.names.file)?;
-    let migrated = match certificate(alloc, shelf, &machine, request.cert) {
+    let desc = file_name(alloc, request.names.file)?;
+    let cert = file_name(alloc, request.cert)?;
+    let machine = machine(alloc, shelf, &desc)?;
+    let migrated = match certificate(alloc, shelf, &machine, &cert) {
         Ok(migrated) => migrated,
         Err(stop) => return Err(stop),
     };
-    let instr = machine.find(request.names.instr).ok_or(Stop::Words)?;
+    let instr = machine
+        .find(request.names.instr)
+        .ok_or(Stop::Lacking(Lacking::Instr))?;
     match place_of(&migrated.cert, instr, request.kind) {
         Some(place) => texts_at(alloc, &machine, &migrated.cert, place, &request.names),
-        None => Err(Stop::Words),
+        None => Err(Stop::Lacking(Lacking::Kind)),
     }
 }

@@ -1,6 +1,7 @@
 //! Files to machines and certificates, and what is put and saved.
 
-ghost use Rattle.std.specs.Prelude.{◌<◌, length, IfOk, IfSome};
+ghost use Rattle.std.specs.Prelude.{◌<◌, length, IfOk, IfSome, IsErrOf};
+ghost use Rattle.pg_edge.specs.Count.{Rose};
 ghost use Rattle.pg_imported.specs.Imported.{IsOfText};
 ghost use Rattle.pg_steps.specs.Answering.{OnlyReads};
 
@@ -23,9 +24,8 @@ pub fn file_name(alloc: Global, name: &str) -> Result<FileName, AllocError> {
 }
 
 /// The machine that a file describes.
-pub fn machine<F: Shelf>(alloc: Global, shelf: &mut F, name: &str) -> Result<Machine, Stop> {
-    let name = file_name(alloc, name)?;
-    load_machine(alloc, &name, shelf).map_err(|stop| Stop::Told(stop))
+pub fn machine<F: Shelf>(alloc: Global, shelf: &mut F, name: &FileName) -> Result<Machine, Stop> {
+    load_machine(alloc, name, shelf).map_err(|stop| Stop::Told(stop))
 }
 
 /// The certificate of a machine that a file holds, made anew.
@@ -33,15 +33,23 @@ pub fn certificate<F: Shelf>(
     alloc: Global,
     shelf: &mut F,
     machine: &Machine,
-    name: &str,
+    name: &FileName,
 ) -> Result<Migrated, Stop>
     ensures { IfOk result (λ m. IsOfText machine.now.desc m.cert) }
 {
-    let name = file_name(alloc, name)?;
-    match load_certificate(alloc, machine, &name, shelf) {
+    match load_certificate(alloc, machine, name, shelf) {
         Ok(migrated) => Ok(migrated),
         Err(stop) => Err(Stop::Told(stop)),
     }
+}
+
+/// Why the family of a certificate is not known.
+#[derive(Debug, Clone, Copy, PartialEq, Eq)]
+pub enum FamilyFault {
+    /// Its first bytes could not be read.
+    Failed,
+    /// Memory was refused for them.
+    Memory,
 }
 
 /// The family that a certificate's first bytes say. What is no certificate, or is not there, is taken for one of the plain family,
@@ -50,14 +58,16 @@ pub fn family_of<F: Shelf>(
     alloc: Global,
     name: &FileName,
     shelf: &mut F,
-) -> Result<Family, AllocError>
-    ensures { OnlyReads F.Shelf shelf.old shelf.new }
+) -> Result<Family, FamilyFault>
+    ensures failed { IsErrOf result FamilyFault.Failed → Rose (F.reads shelf.old) (F.reads shelf.new) }
+    ensures reads { OnlyReads F.Shelf shelf.old shelf.new }
 {
     let mut bytes = Vec::new(alloc);
     match shelf.part(name.as_str(), 0, HYBRID.len() as u64, &mut bytes) {
         Ok(()) if bytes.as_slice() == HYBRID => Ok(Family::Hybrid),
-        Ok(()) | Err(LoadFault::Missing | LoadFault::Long | LoadFault::Failed) => Ok(Family::Plain),
-        Err(LoadFault::Memory) => Err(AllocError),
+        Ok(()) | Err(LoadFault::Missing | LoadFault::Long) => Ok(Family::Plain),
+        Err(LoadFault::Failed) => Err(FamilyFault::Failed),
+        Err(LoadFault::Memory) => Err(FamilyFault::Memory),
     }
 }
 

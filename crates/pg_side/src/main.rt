@@ -7,7 +7,8 @@
 //! does. Where neither does, a line on standard error names the six, and the status is 3. `--help` and `--version` as the first
 //! word behind the name are answered on standard output.
 //!
-//! - `side`: the programs and their names. `words`: the words of the command line, and which program they mean.
+//! - `side`: the programs and their names. `words`: which program the words of the command line mean. `forms`: how each takes its
+//!   words, and what is wrong with words that are not taken.
 //! - `explain`: why a machine is refused. `trace`: what each step of a run does. `dimacs`: the clauses of a question. `solve`: the
 //!   solver on clauses. `import`, `export`: findings of other solvers, logs for other checkers.
 //! - `files`: files to machines and certificates, and what is put and saved. `stop`: why a program goes no further.
@@ -19,6 +20,7 @@ mod dimacs;
 mod explain;
 mod export;
 mod files;
+mod forms;
 mod import;
 mod side;
 mod solve;
@@ -26,14 +28,22 @@ mod stop;
 mod trace;
 mod words;
 
+use crate::forms::{complaint, named_by};
 use crate::side::{Call, Side};
-use crate::words::{Asked, asks_for, called, own, words};
+use crate::words::{Asked, asks_for, called, own};
+use pg_cli_says::{
+    Beside, Ended, Holding, LastRead, Lines, Reading, Seen, Ticker, Watching, WordsWatcher,
+    say_no_text, say_why, words,
+};
 use pg_cli_version::VERSION;
-use pg_edge::Failed;
-use pg_host::{DirShelf, StdSink};
+use pg_edge::{Failed, Shelf, Sink};
+use pg_host::streams::write_whole;
+use pg_host::{DirShelf, Progress, StdSink};
 use pg_report::put_text;
 use pg_rig::Rig;
-use pg_steps::Status;
+use pg_steps::{Status, StopWatcher};
+use std::cell::RefCell;
+use std::io::IsTerminal;
 use std::process::ExitCode;
 
 /// Runs the program that is meant, and ends with its status.
@@ -62,6 +72,7 @@ fn starved(rt: &HostRuntime, side: Side) -> u8 {
     match side {
         Side::Solve => solve::starved(rt),
         Side::Explain | Side::Trace | Side::Dimacs | Side::Import | Side::Export => {
+            say_why(&mut rt.stderr(), side.program(), Status::Memory, None, None);
             Status::Memory.code()
         }
     }
@@ -75,9 +86,21 @@ fn answer(rt: &HostRuntime, side: Side, words: &[String]) -> u8 {
         Some(Asked::Version) => VERSION,
         None => return run_on(rt, side, words),
     };
-    match put_text(&mut StdSink::new(rt.stdout()), told) {
+    let line = RefCell::new(Progress::new(rt.stderr(), false));
+    let mut out = StdSink::new(Beside::new(rt.stdout(), &line));
+    match put_text(&mut out, told) {
         Ok(()) => 0,
-        Err(Failed) => Status::WriteFault.code(),
+        Err(Failed) => {
+            let failed = out.writer().failed();
+            say_why(
+                &mut rt.stderr(),
+                side.program(),
+                Status::WriteFault,
+                failed,
+                None,
+            );
+            Status::WriteFault.code()
+        }
     }
 }
 
@@ -93,20 +116,116 @@ fn usage(side: Side) -> &'static [u8] {
     }
 }
 
-/// Runs a program on its own words, its name first: on real files and standard output, and on a hardware in memory.
+/// Runs a program on its own words, its name first, and says on standard error what is to be said.
 fn run_on(rt: &HostRuntime, side: Side, words: &[String]) -> u8 {
-    let alloc = rt.alloc();
-    let mut shelf = DirShelf::new(rt);
-    let mut out = StdSink::new(rt.stdout());
+    if words.is_empty() {
+        say_no_text(rt, &mut rt.stderr(), side.program());
+    }
+    let status = match unwatched(rt, side, words) {
+        Some(status) => status,
+        None => run_watched(rt, side, words),
+    };
+    if status == Status::Words.code() {
+        say_complaint(rt, side, words);
+    }
+    status
+}
+
+/// The status of a program that needs no watcher: one that reads no description, and one whose words would have it write over what it
+/// reads. None of any other.
+fn unwatched(rt: &HostRuntime, side: Side, words: &[String]) -> Option<u8> {
     match side {
-        Side::Explain => explain::run(alloc, words, &mut shelf, &mut out),
+        Side::Solve => Some(solve::run(rt, words)),
+        Side::Explain => explain::refused(rt, words),
+        Side::Trace | Side::Dimacs | Side::Import | Side::Export => None,
+    }
+}
+
+/// Runs a program on its own words: on real files and standard output, and on a hardware in memory.
+fn run_watched(rt: &HostRuntime, side: Side, words: &[String]) -> u8 {
+    let alloc = rt.alloc();
+    let is_terminal = rt.stderr().is_terminal();
+    let line = RefCell::new(Progress::new(rt.stderr(), is_terminal));
+    let lines = Lines {
+        program: side.program(),
+        line: &line,
+        is_terminal,
+        error: rt.stderr(),
+    };
+    let ticker = RefCell::new(Ticker::new(alloc, rt, lines));
+    let held = RefCell::new(LastRead::new(alloc));
+    let files = Reading::new(DirShelf::new(rt), &ticker);
+    let mut shelf = Holding::new(alloc, files, &held);
+    let mut out = StdSink::new(Beside::new(rt.stdout(), &line));
+    let seen = Seen {
+        files: rt,
+        ticker: &ticker,
+        held: &held,
+    };
+    let named = named_by(side, words);
+    let mut watching = Watching::new(
+        alloc,
+        seen,
+        (rt.stderr(), rt.stderr()),
+        side.program(),
+        named,
+    );
+    let status = carry(rt, side, words, &mut shelf, &mut out, &mut watching);
+    watching.ends(&Ended {
+        status: told_status(status),
+        output: out.writer().failed().filter(|_| out.faults() > 0),
+        refused: shelf.shelf().shelf().refused(),
+        last: out.writer().last(),
+        saved: shelf.saved(),
+    });
+    status
+}
+
+/// Carries out a program: files are of the shelf, its text goes to the sink, and the hardware is one in memory.
+fn carry<F: Shelf, S: Sink, W: StopWatcher + WordsWatcher>(
+    rt: &HostRuntime,
+    side: Side,
+    words: &[String],
+    shelf: &mut F,
+    out: &mut S,
+    watcher: &mut W,
+) -> u8 {
+    let alloc = rt.alloc();
+    match side {
+        Side::Explain => {
+            let mut layout = None;
+            let status = explain::run(alloc, words, shelf, out, &mut layout, watcher);
+            explain::say_layout(rt, layout);
+            status
+        }
         Side::Trace => {
             let mut hw = Rig::new(alloc);
-            trace::run(alloc, words, &mut shelf, &mut out, &mut hw)
+            trace::run(alloc, words, shelf, out, &mut hw, watcher)
         }
-        Side::Dimacs => dimacs::run(alloc, words, &mut shelf, &mut out),
+        Side::Dimacs => dimacs::run(alloc, words, shelf, out, watcher),
         Side::Solve => solve::run(rt, words),
-        Side::Import => import::run(alloc, words, &mut shelf, &mut out),
-        Side::Export => export::run(alloc, words, &mut shelf, &mut out),
+        Side::Import => import::run(alloc, words, shelf, out, watcher),
+        Side::Export => export::run(alloc, words, shelf, out, watcher),
+    }
+}
+
+/// Says what is wrong with words that are not taken.
+fn say_complaint(rt: &HostRuntime, side: Side, words: &[String]) {
+    if let Ok(Some(line)) = complaint(rt.alloc(), side, words) {
+        let _ = write_whole(&mut rt.stderr(), line.as_slice());
+    }
+}
+
+/// The status of a program as that of `pgv`, where it is one of which standard error says something; else that of a program that is
+/// done.
+fn told_status(status: u8) -> Status {
+    match status {
+        1 => Status::Refused,
+        2 => Status::Unsettled,
+        8 => Status::ReadFault,
+        9 => Status::WriteFault,
+        10 => Status::Memory,
+        11 => Status::Missing,
+        _ => Status::Done,
     }
 }

@@ -1,5 +1,7 @@
 //! The programs and their names.
 
+use pg_cli_says::Program;
+
 /// A program beside `pgv`.
 #[derive(Clone, Copy)]
 pub enum Side {
@@ -27,6 +29,18 @@ pub struct Call {
 }
 
 impl Side {
+    /// The program, as one that speaks on standard error.
+    pub fn program(self) -> Program {
+        match self {
+            Side::Explain => Program::Explain,
+            Side::Trace => Program::Trace,
+            Side::Dimacs => Program::Dimacs,
+            Side::Solve => Program::Solve,
+            Side::Import => Program::Import,
+            Side::Export => Program::Export,
+        }
+    }
+
     /// The program of a name.
     pub fn of_name(name: &[u8]) -> Option<Side> {
         match name {

@@ -12,8 +12,11 @@ mod request;
 use crate::solve::formula::{DimacsFault, read};
 use crate::solve::log::is_taken;
 use crate::solve::request::{Request, asked_by};
+use pg_cli_says::Program;
 use pg_cnf::Cnf;
 use pg_forget::solve_counted;
+use pg_host::telling::tell_refused;
+use pg_host::{Cause, Deed, Refused};
 use pg_proof::Step;
 use pg_sat::{Answer, Counts};
 use std::alloc::{AllocError, Global};
@@ -34,9 +37,12 @@ enum Fault {
     /// No file has the name.
     #[error("no such file")]
     Missing,
-    /// The file could not be read, or it is no text.
+    /// The file could not be read.
     #[error("the file could not be read")]
-    Unread,
+    Unread(ErrorKind),
+    /// The file is not UTF-8.
+    #[error("the file is no text")]
+    NoText,
     /// The text is no formula.
     #[error("{0}")]
     Text(DimacsFault),
@@ -48,7 +54,7 @@ enum Fault {
     Memory,
     /// A line could not be written.
     #[error("standard output could not be written")]
-    Output,
+    Output(ErrorKind),
 }
 
 impl From<AllocError> for Fault {
@@ -69,32 +75,44 @@ impl From<DimacsFault> for Fault {
 /// Writes the answer, and gives the status 10 where the formula can be true, 20 where it cannot, and 0 where the budget was too
 /// small to know; else 1, and a line on standard error. The program's name is the first word.
 pub fn run(rt: &HostRuntime, words: &[String]) -> u8 {
-    told(rt, solve(rt, words))
+    match asked_by(words) {
+        Some(asked) => told(rt, asked.file, solve(rt, &asked)),
+        None => told(rt, "", Err(Fault::Usage)),
+    }
 }
 
 /// The status of the program where there is no memory for its words.
 pub fn starved(rt: &HostRuntime) -> u8 {
-    told(rt, Err(Fault::Memory))
+    told(rt, "", Err(Fault::Memory))
 }
 
-/// The status, or 1 and a line on standard error.
-fn told(rt: &HostRuntime, answer: Result<u8, Fault>) -> u8 {
+/// The status, or 1 and a line on standard error, where the file of this name was asked for.
+fn told(rt: &HostRuntime, file: &str, answer: Result<u8, Fault>) -> u8 {
     match answer {
-        Ok(status) => status,
+        Ok(status) => return status,
+        Err(Fault::Missing) => say_refused(rt, Deed::Read, Cause::Missing, file),
+        Err(Fault::Unread(kind)) => say_refused(rt, Deed::Read, Cause::System(kind), file),
+        Err(Fault::Output(ErrorKind::BrokenPipe)) => {}
+        Err(Fault::Output(kind)) => {
+            say_refused(rt, Deed::Save, Cause::System(kind), "standard output")
+        }
         Err(fault) => {
             let _ = eprintln!(rt; "pg_solve: {fault}");
-            1
         }
     }
+    1
+}
+
+/// Says what was not done, and why, as `pgv` says it.
+fn say_refused(rt: &HostRuntime, deed: Deed, cause: Cause, name: &str) {
+    let refused = Refused::new(deed, cause, name);
+    let _ = tell_refused(&mut rt.stderr(), Program::Solve.name(), &refused);
 }
 
 /// Solves the formula of the file that the words name, writes the answer, and gives the status.
-fn solve(rt: &HostRuntime, words: &[String]) -> Result<u8, Fault> {
-    let Some(asked) = asked_by(words) else {
-        return Err(Fault::Usage);
-    };
+fn solve(rt: &HostRuntime, asked: &Request<'_>) -> Result<u8, Fault> {
     let cnf = load(rt, asked.file)?;
-    answer(rt, &cnf, &asked)
+    answer(rt, &cnf, asked)
 }
 
 /// The formula of a file.
@@ -103,7 +121,8 @@ fn load(rt: &HostRuntime, file: &str) -> Result<Cnf, Fault> {
         Ok(text) => text,
         Err(error) if error.kind() == ErrorKind::NotFound => return Err(Fault::Missing),
         Err(error) if error.kind() == ErrorKind::OutOfMemory => return Err(Fault::Memory),
-        Err(_) => return Err(Fault::Unread),
+        Err(error) if error.kind() == ErrorKind::InvalidData => return Err(Fault::NoText),
+        Err(error) => return Err(Fault::Unread(error.kind())),
     };
     match read(rt.alloc(), text.as_str()) {
         Ok(cnf) => Ok(cnf),
@@ -140,7 +159,7 @@ fn show_counts(rt: &HostRuntime, counts: Counts) -> Result<(), Fault> {
         "c conflicts {} propagations {}",
         counts.conflicts, counts.set
     )
-    .map_err(|_| Fault::Output)
+    .map_err(|error| Fault::Output(error.kind()))
 }
 
 /// Lets a checker take the steps, where that is asked: it has to take all, and to be closed or not by them.
@@ -179,5 +198,5 @@ fn values(alloc: Global, assignment: &[bool]) -> Result<String, Fault> {
 
 /// Writes a line.
 fn show(rt: &HostRuntime, line: &str) -> Result<(), Fault> {
-    println!(rt; "{line}").map_err(|_| Fault::Output)
+    println!(rt; "{line}").map_err(|error| Fault::Output(error.kind()))
 }

@@ -1,6 +1,7 @@
 //! Why a program goes no further: the line that tells it, and the status. Those of files are those of `pgv`.
 
 use crate::import::fault::ProofFault;
+use pg_cli_says::{Lacking, WordsWatcher};
 use pg_edge::{Failed, Sink};
 use pg_foreign::ForeignFault;
 use pg_report::put_text;
@@ -11,9 +12,10 @@ use std::alloc::{AllocError, Global};
 /// Why a program goes no further.
 #[derive(Drop)]
 pub enum Stop {
-    /// The words are none that the program takes, or they name an instruction that the description has not, or a kind that the
-    /// certificate has not.
+    /// The words are none that the program takes.
     Words,
+    /// They name an instruction that the description has not, or a kind that the certificate has not.
+    Lacking(Lacking),
     /// The words ask for a log that the certificate has not: two states show the kind.
     Shown,
     /// The same: the question is open.
@@ -52,20 +54,18 @@ impl From<RupFault> for Stop {
     }
 }
 
-/// Nobody is told why a program goes no further, but by its text.
-#[derive(Clone, Copy, Debug)]
-pub struct Unwatched;
-
-impl StopWatcher for Unwatched {
-    fn stops(&mut self, _stop: &pg_steps::Stop) {}
-}
-
 /// The status that a program ends with: its own, or that of why it goes no further, which is told. `usage` is the line for words that
-/// are not taken.
-pub fn ended<S: Sink>(alloc: Global, usage: &[u8], answer: Result<u8, Stop>, out: &mut S) -> u8 {
+/// are not taken. The watcher is told of a stop of `pgv`'s, and of what words name that is not there.
+pub fn ended<S: Sink, W: StopWatcher + WordsWatcher>(
+    alloc: Global,
+    usage: &[u8],
+    answer: Result<u8, Stop>,
+    out: &mut S,
+    watcher: &mut W,
+) -> u8 {
     match answer {
         Ok(status) => status,
-        Err(stop) => stop.tell(alloc, usage, out),
+        Err(stop) => stop.tell(alloc, usage, out, watcher),
     }
 }
 
@@ -75,12 +75,22 @@ impl Stop {
     ///
     /// A finding without a log has 3 as well: the certificate is right, and the words ask for what it does not have, as those do
     /// that name no instruction.
-    fn tell<S: Sink>(&self, alloc: Global, usage: &[u8], out: &mut S) -> u8 {
+    fn tell<S: Sink, W: StopWatcher + WordsWatcher>(
+        &self,
+        alloc: Global,
+        usage: &[u8],
+        out: &mut S,
+        watcher: &mut W,
+    ) -> u8 {
         match self {
             Stop::Words => status(put_text(out, usage), 3),
+            Stop::Lacking(lacking) => {
+                watcher.lacks(*lacking);
+                status(put_text(out, usage), 3)
+            }
             Stop::Shown => status(put_text(out, b"no log: the finding is shown\n"), 3),
             Stop::Open => status(put_text(out, b"no log: the finding is spent\n"), 3),
-            Stop::Told(stop) => stopped(stop, out, &mut Unwatched).code(),
+            Stop::Told(stop) => stopped(stop, out, watcher).code(),
             Stop::Proof(fault) => match fault.line(alloc) {
                 Ok(line) => status(put_text(out, line.as_bytes()), 6),
                 Err(AllocError) => 10,

@@ -1,6 +1,6 @@
 //! Runs an image on a bare machine, and shows each step.
 //!
-//!     pg_trace DESC IMAGE --grant G --steps N [--cert CERT] [--only-traps] [--counts]
+//!     pg_trace DESC IMAGE --grant G --steps N [--cert CERT] [--only-traps] [--counts] [--json]
 //!
 //! A line for each step: its number, the mode and P before it, the word that was fetched, the instruction with its fields, and
 //! what it changed. That is each cell that it stored into, with its new word; P where it is not the address behind; mode and R
@@ -15,6 +15,7 @@
 //!   would do the step, or the monitor that may run the machine. Behind the counts stand `direct N` and `emulated N`.
 //! - `--only-traps`: only the steps that trap have a line.
 //! - `--counts`: no step has a line, and there is no state: the counts are all that is written.
+//! - `--json`: the same as one JSON object (`json`); not beside `--only-traps` or `--counts`.
 //!
 //! Refusals have the lines and statuses of `pgv`, in the order of `pgv bare`: the words (3), the description (4), the room (7),
 //! the image (5). With `--cert` they are those of `pgv run`: the room is beside the cells that a monitor keeps, and behind the
@@ -23,42 +24,46 @@
 //! What was put before a fault stays. Where the status is 0 the state is the one that `pgv bare` reaches (`carry`).
 //!
 //! - `request`: the words. `prepare`: the files, to a `plan`. `certificate`: a certificate of either family. `carry`: the run and
-//!   its text.
+//!   its text. `json`: the same as JSON.
 
 ghost use Rattle.pg_steps.specs.Able.{IsAble};
 
 mod carry;
-mod certificate;
+pub mod certificate;
+mod json;
 mod plan;
 mod prepare;
 mod request;
 
 use crate::trace::carry::carry;
+use crate::trace::json::carry_json;
 use crate::trace::request::asked_by;
 use pg_edge::{Shelf, Sink};
 use pg_hw::Hardware;
 use pg_report::put_text;
-use pg_steps::Status;
+use pg_steps::{Status, StopWatcher};
 use std::alloc::Global;
 
 /// How the program is called.
 pub const USAGE: &[u8] =
-    b"usage: pg_trace DESC IMAGE --grant G --steps N [--cert CERT] [--only-traps] [--counts]\n";
+    b"usage: pg_trace DESC IMAGE --grant G --steps N [--cert CERT] [--only-traps] [--counts] [--json]\n";
 
 /// Runs what the words ask for, the program's name first, and gives the number of the status.
-pub fn run<F: Shelf, S: Sink, H: Hardware>(
+pub fn run<F: Shelf, S: Sink, H: Hardware, W: StopWatcher>(
     alloc: Global,
     words: &[String],
     shelf: &mut F,
     out: &mut S,
     hw: &mut H,
+    watcher: &mut W,
 ) -> u8
     requires able { IsAble H.Hardware hw.old }
 {
     let status = match asked_by(alloc, words) {
         Err(_) => Status::Memory,
         Ok(None) => put_usage(out),
-        Ok(Some(words)) => carry(alloc, &words, shelf, out, hw),
+        Ok(Some(words)) if words.is_json => carry_json(alloc, &words, shelf, out, hw, watcher),
+        Ok(Some(words)) => carry(alloc, &words, shelf, out, hw, watcher),
     };
     status.code()
 }

@@ -1,9 +1,6 @@
 //! The words of the command line.
 
 use crate::side::{Call, Side, last_part};
-use std::alloc::AllocError;
-use std::env;
-use std::io::ErrorKind;
 use std::rt::Env;
 
 /// The most bytes of a name that the program is called by; a longer one is none of the programs'.
@@ -33,16 +30,6 @@ fn word<'a, R: Env>(rt: &R, place: usize, bytes: &'a mut [u8]) -> &'a [u8] {
     match rt.arg(place, bytes) {
         Ok(length) => &bytes[..length],
         Err(_) => &[],
-    }
-}
-
-/// The words of the command line, the program's name first. One that is not UTF-8 makes the line one without words, which is
-/// refused.
-pub fn words<R: Env + AllocGlobal>(rt: &R) -> Result<Vec<String>, AllocError> {
-    match env::args(rt) {
-        Ok(args) => args.collect(rt.alloc()),
-        Err(error) if error.kind() == ErrorKind::OutOfMemory => Err(AllocError),
-        Err(_) => Ok(Vec::new(rt.alloc())),
     }
 }
 

@@ -7,18 +7,21 @@
 //! - `chars`: characters of a text. `places`: lines and columns.
 //! - `shown`: a line, and the caret below it. `sentence`: a sentence that says what is wrong.
 //! - `tokens`: the tokens of a description, instruction by instruction. `names`: where names stand.
-//! - `widths`: which widths meet where a statement breaks the table of widths.
+//! - `parts`: where the expressions of a statement stand. `near`: names that are near to another.
 #![tactic(auto)]
 
 mod chars;
 mod names;
+mod near;
+mod parts;
 mod places;
 mod sentence;
 mod shown;
 mod tokens;
-mod widths;
 
 pub use names::{Twice, Unknown, find_twice, find_unknown};
+pub use near::is_near;
+pub use parts::{expression, operation, operator};
 pub use places::{Spot, place_of_line, spot_at};
 pub use sentence::Sentence;
 pub use shown::{Shown, show};
@@ -26,4 +29,3 @@ pub use tokens::{
     Placed, count_statements, count_word, first_place, instruction, is_sign, is_word, nth_word,
     number_of, pattern_of, statement, word_of,
 };
-pub use widths::{Bits, Clash, Row, Use, find_clash};

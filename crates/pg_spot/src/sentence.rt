@@ -37,6 +37,15 @@ impl Sentence {
         Ok(self)
     }
 
+    /// And these bytes, `?` for each that is no letter, digit, sign or blank.
+    pub fn text(mut self, text: &[u8]) -> Result<Sentence, AllocError> {
+        for byte in text {
+            let is_shown = byte.is_ascii_graphic() || *byte == b' ';
+            self.bytes.push(if is_shown { *byte } else { b'?' })?;
+        }
+        Ok(self)
+    }
+
     /// And a name of letters, digits and `_`, between backticks.
     pub fn name(mut self, name: &[u8]) -> Result<Sentence, AllocError> {
         self.bytes.push(b'`')?;

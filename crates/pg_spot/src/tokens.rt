@@ -148,13 +148,3 @@ pub fn first_place(toks: &[Placed]) -> Option<usize> {
         Some(tok) => Some(tok.1.from),
     }
 }
-
-/// The first pattern among the tokens, or no byte.
-pub fn first_pattern(toks: &[Placed]) -> &[u8] {
-    for tok in toks {
-        if let Some(pattern) = pattern_of(tok) {
-            return pattern;
-        }
-    }
-    &[]
-}

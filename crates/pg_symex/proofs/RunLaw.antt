@@ -17,7 +17,7 @@ use Rattle.pg_ast.specs.declared.tree.Stmt.{Stmt}
 use Rattle.pg_ast.specs.declared.tree.Instr.{Instr}
 use Rattle.pg_ast.specs.declared.tree.Desc.{Desc}
 use Rattle.pg_meaning.specs.Bodies.{Course, MemTrapped, Trapped, Going, then_do, Run, in_order, deed_of, entry_of, begun, body}
-use Rattle.pg_valid.specs.Widths.{LetWidths, Keeps, fares_in_order, fare_of, setting_of, width_broken_in, placed_at, width_broken}
+use Rattle.pg_valid.specs.Widths.{Broken, LetWidths, Keeps, fares_in_order, fare_of, setting_of, width_broken_in, placed_at, width_broken}
 use Rattle.pg_valid.specs.Valid.{IsValid, as_width}
 use Rattle.pg_valid.proofs.ValidFacts.{IsWidth-word, IsWidth-address}
 use Rattle.pg_valid.proofs.PatternFacts.{valid-length}
@@ -39,11 +39,11 @@ use Rattle.pg_symex.proofs.StmtLaw.{stmt_right, in_order-right}
 
 -- ---- what a valid description says of an instruction
 
-placed_none : (k : ℕ) (o : Option ℕ) (later : Option (ℕ × ℕ)) → placed_at k o later ≡ None → (o ≡ None) × (later ≡ None)
+placed_none : (k : ℕ) (o : Option Broken) (later : Option (ℕ × Broken)) → placed_at k o later ≡ None → (o ≡ None) × (later ≡ None)
 placed_none k None later h = (refl, h)
 placed_none k (Some place) later h = absurd (cc h)
 
-pub as_width_none : (o : Option (ℕ × ℕ)) → as_width o ≡ None → o ≡ None
+pub as_width_none : (o : Option (ℕ × Broken)) → as_width o ≡ None → o ≡ None
 as_width_none None h = refl
 as_width_none (Some x) h = absurd (cc h)
 

@@ -16,7 +16,7 @@ use Rattle.pg_ast.specs.declared.tree.Stmt.TheViews.{roll-Stmt}
 use Rattle.pg_meaning.specs.Values.{value}
 use Rattle.pg_meaning.specs.Bodies.{Course, Trapped, Going, with_bits, Run, let_deed, store_deed, with_p, with_mode, with_l, with_b, in_order, block_deed, else_deed, deed_of}
 use Rattle.pg_meaning.proofs.DeedEquations as deeds
-use Rattle.pg_valid.specs.Widths.{LetWidths, width_of, Keeps, wants, then_fares, fares_in_order, fares_if_any, after_block, fare_of}
+use Rattle.pg_valid.specs.Widths.{LetWidths, judged_of, width_of, Keeps, wants, then_fares, fares_in_order, fares_if_any, after_block, fare_of}
 use Rattle.pg_valid.proofs.DeedSound.{wants_keeps, then_fares_keeps, after_block_keeps, binds_keeps}
 use Rattle.pg_valid.proofs.FareEquations as fares
 use Rattle.pg_symex.specs.declared.regs.Next.{Next}
@@ -43,7 +43,7 @@ expr-is at r ws n e entry is w = expr_right e at r.lets ws r.writes r.flow n ent
 
 right-let : (m : Names) (e : Expr) → IsRightStmt (Let m e)
 right-let m e at r place ws next after entry is h =
-    let b = binds_keeps m.bytes (width_of (sym_setting at) e ws) place ws next after (sym (fares.fare_of-let m e (sym_setting at) place ws) ∙ h) in
+    let b = binds_keeps m.bytes (sym_setting at) e place ws next after (sym (fares.fare_of-let m e (sym_setting at) place ws) ∙ h) in
     let p = expr-is at r ws b.0 e entry is b.1 in
     let part = expr_made e at r.lets r.writes r.flow in
     let s = record r { flow = part.1 } in
@@ -65,9 +65,9 @@ right-let m e at r place ws next after entry is h =
 
 right-store : (a e : Expr) → IsRightStmt (Store a e)
 right-store a e at r place ws next after entry is h =
-    let f = then_fares_keeps (wants at.a (width_of (sym_setting at) a ws) place ws) (λ n same. wants at.w (width_of (sym_setting at) e ws) place ws) next after (sym (fares.fare_of-store a e (sym_setting at) place ws) ∙ h) in
-    let wa = wants_keeps at.a (width_of (sym_setting at) a ws) place ws f.0 f.1 f.2 in
-    let we = wants_keeps at.w (width_of (sym_setting at) e ws) place ws next after f.3 in
+    let f = then_fares_keeps (wants at.a (judged_of (sym_setting at) a ws) place ws) (λ n same. wants at.w (judged_of (sym_setting at) e ws) place ws) next after (sym (fares.fare_of-store a e (sym_setting at) place ws) ∙ h) in
+    let wa = wants_keeps at.a (sym_setting at) a place ws f.0 f.1 f.2 in
+    let we = wants_keeps at.w (sym_setting at) e place ws next after f.3 in
     let p = expr-is at r ws at.a a entry is wa.is in
     let part = expr_made a at r.lets r.writes r.flow in
     let s = record r { flow = part.1 } in
@@ -87,11 +87,11 @@ right-store a e at r place ws next after entry is h =
 -- ---- assignments
 
 assign-right : (at : SymEntry) (r : SymRun) (place : ℕ) (ws : LetWidths) (next : ℕ) (after : LetWidths) (width : ℕ) (e : Expr) (old : List Gate) (put : List Gate → Next) (set_of : Run → ℕ → Run) → IsSymEntry (length r.flow.nodes) at → IsSymRun at r ws →
-    wants width (width_of (sym_setting at) e ws) place ws ≡ Keeps next after → Puts at r width old put set_of →
+    wants width (judged_of (sym_setting at) e ws) place ws ≡ Keeps next after → Puts at r width old put set_of →
     Does at r (assigned (expr_made e at r.lets r.writes r.flow).0 old put (record r { flow = (expr_made e at r.lets r.writes r.flow).1 })) after
     (λ values q. with_bits (value e (entry_value values at) q.lets q.window) (λ x. Going (set_of q x)))
 assign-right at r place ws next after width e old put set_of entry is h puts =
-    let w = wants_keeps width (width_of (sym_setting at) e ws) place ws next after h in
+    let w = wants_keeps width (sym_setting at) e place ws next after h in
     let p = expr-is at r ws width e entry is w.is in
     let part = expr_made e at r.lets r.writes r.flow in
     let s = record r { flow = part.1 } in
@@ -186,11 +186,11 @@ tested false t x y e = ap (λ k. if k == 1 then x else y) e
 
 right-if : (c : Expr) (held : List ((s : Stmt) × IsRightStmt s)) (o : Option (List ((s : Stmt) × IsRightStmt s))) → IsRightStmt (If c (map (λ p. p.0) held) (option_map (map (λ p. p.0)) o))
 right-if c held o at r place ws next after entry is h =
-    let f = then_fares_keeps (wants 1 (width_of (sym_setting at) c ws) place ws)
+    let f = then_fares_keeps (wants 1 (judged_of (sym_setting at) c ws) place ws)
     (λ n same. then_fares (after_block ws (fares_in_order (map (fare_of (sym_setting at)) (map (λ p. p.0) held)) n ws)) (λ later inner.
     after_block ws (fares_if_any (option_map (map (fare_of (sym_setting at))) (option_map (map (λ p. p.0)) o)) later ws))) next after
     (sym (fares.fare_of-if c (map (λ p. p.0) held) (option_map (map (λ p. p.0)) o) (sym_setting at) place ws) ∙ h) in
-    let w = wants_keeps 1 (width_of (sym_setting at) c ws) place ws f.0 f.1 f.2 in
+    let w = wants_keeps 1 (sym_setting at) c place ws f.0 f.1 f.2 in
     let g = then_fares_keeps (after_block ws (fares_in_order (map (fare_of (sym_setting at)) (map (λ p. p.0) held)) f.0 ws)) (λ later inner.
     after_block ws (fares_if_any (option_map (map (fare_of (sym_setting at))) (option_map (map (λ p. p.0)) o)) later ws)) next after f.3 in
     let k = after_block_keeps ws (fares_if_any (option_map (map (fare_of (sym_setting at))) (option_map (map (λ p. p.0)) o)) g.0 ws) next after g.3 in

@@ -14,7 +14,7 @@ use Rattle.pg_ast.specs.declared.tree.Expr.{Expr}
 use Rattle.pg_ast.specs.declared.tree.Stmt.{Stmt}
 use Rattle.pg_ast.specs.declared.tree.Stmt.TheVariants.{Let, Store, Pc, Mode, Rel, Bound, If}
 use Rattle.pg_meaning.specs.Bodies.{Course, Run as Runs}
-use Rattle.pg_valid.specs.Widths.{LetWidths, width_of, Keeps, wants, then_fares, Faring, fares_in_order, fares_if_any, after_block, fare_of}
+use Rattle.pg_valid.specs.Widths.{LetWidths, judged_of, width_of, Keeps, wants, then_fares, Faring, fares_in_order, fares_if_any, after_block, fare_of}
 use Rattle.pg_valid.proofs.DeedSound.{wants_keeps, then_fares_keeps, binds_keeps}
 use Rattle.pg_valid.proofs.FareEquations as fares
 use Rattle.pg_symex.specs.declared.guards.Guards.{Guards}
@@ -125,7 +125,7 @@ as_form at s form r e h = subst (λ z. Fares (fare_of (sym_setting at) z) r) e h
 pub let_typed : (at : SymEntry) (s : Stmt) (r : Run) (m : Names) (e : Expr) → s ≡ Let m e → Fares (fare_of (sym_setting at) s) r → IsTyped at r.lets e
 let_typed at s r m e is h =
     let f = as_form at s (Let m e) r is h in
-    let b = binds_keeps m.bytes (width_of (sym_setting at) e (widths_of r.lets)) f.place (widths_of r.lets) f.then_place f.after (sym (fares.fare_of-let m e (sym_setting at) f.place (widths_of r.lets)) ∙ f.keeps) in
+    let b = binds_keeps m.bytes (sym_setting at) e f.place (widths_of r.lets) f.then_place f.after (sym (fares.fare_of-let m e (sym_setting at) f.place (widths_of r.lets)) ∙ f.keeps) in
     is_typed at r.lets e b.0 b.1
 
 -- an expression of a width
@@ -134,26 +134,26 @@ HasWidth at r e n = width_of (sym_setting at) e (widths_of r.lets) ≡ Some n
 
 pub pc_width : (at : SymEntry) (s : Stmt) (r : Run) (e : Expr) → s ≡ Pc e → Fares (fare_of (sym_setting at) s) r → HasWidth at r e at.a
 pc_width at s r e is h = let f = as_form at s (Pc e) r is h in
-    (wants_keeps at.a _ f.place (widths_of r.lets) f.then_place f.after (sym (fares.fare_of-pc e (sym_setting at) f.place (widths_of r.lets)) ∙ f.keeps)).is
+    (wants_keeps at.a _ _ f.place (widths_of r.lets) f.then_place f.after (sym (fares.fare_of-pc e (sym_setting at) f.place (widths_of r.lets)) ∙ f.keeps)).is
 
 pub mode_width : (at : SymEntry) (s : Stmt) (r : Run) (e : Expr) → s ≡ Mode e → Fares (fare_of (sym_setting at) s) r → HasWidth at r e 1
 mode_width at s r e is h = let f = as_form at s (Mode e) r is h in
-    (wants_keeps 1 _ f.place (widths_of r.lets) f.then_place f.after (sym (fares.fare_of-mode e (sym_setting at) f.place (widths_of r.lets)) ∙ f.keeps)).is
+    (wants_keeps 1 _ _ f.place (widths_of r.lets) f.then_place f.after (sym (fares.fare_of-mode e (sym_setting at) f.place (widths_of r.lets)) ∙ f.keeps)).is
 
 pub rel_width : (at : SymEntry) (s : Stmt) (r : Run) (e : Expr) → s ≡ Rel e → Fares (fare_of (sym_setting at) s) r → HasWidth at r e at.a
 rel_width at s r e is h = let f = as_form at s (Rel e) r is h in
-    (wants_keeps at.a _ f.place (widths_of r.lets) f.then_place f.after (sym (fares.fare_of-rel e (sym_setting at) f.place (widths_of r.lets)) ∙ f.keeps)).is
+    (wants_keeps at.a _ _ f.place (widths_of r.lets) f.then_place f.after (sym (fares.fare_of-rel e (sym_setting at) f.place (widths_of r.lets)) ∙ f.keeps)).is
 
 pub bound_width : (at : SymEntry) (s : Stmt) (r : Run) (e : Expr) → s ≡ Bound e → Fares (fare_of (sym_setting at) s) r → HasWidth at r e at.a
 bound_width at s r e is h = let f = as_form at s (Bound e) r is h in
-    (wants_keeps at.a _ f.place (widths_of r.lets) f.then_place f.after (sym (fares.fare_of-bound e (sym_setting at) f.place (widths_of r.lets)) ∙ f.keeps)).is
+    (wants_keeps at.a _ _ f.place (widths_of r.lets) f.then_place f.after (sym (fares.fare_of-bound e (sym_setting at) f.place (widths_of r.lets)) ∙ f.keeps)).is
 
 pub store_widths : (at : SymEntry) (s : Stmt) (r : Run) (a e : Expr) → s ≡ Store a e → Fares (fare_of (sym_setting at) s) r → HasWidth at r a at.a × HasWidth at r e at.w
 store_widths at s r a e is h =
     let f = as_form at s (Store a e) r is h in
     let ws = widths_of r.lets in
-    let k = then_fares_keeps (wants at.a (width_of (sym_setting at) a ws) f.place ws) (λ n same. wants at.w (width_of (sym_setting at) e ws) f.place ws) f.then_place f.after (sym (fares.fare_of-store a e (sym_setting at) f.place ws) ∙ f.keeps) in
-    ((wants_keeps at.a _ f.place ws k.0 k.1 k.2).is, (wants_keeps at.w _ f.place ws f.then_place f.after k.3).is)
+    let k = then_fares_keeps (wants at.a (judged_of (sym_setting at) a ws) f.place ws) (λ n same. wants at.w (judged_of (sym_setting at) e ws) f.place ws) f.then_place f.after (sym (fares.fare_of-store a e (sym_setting at) f.place ws) ∙ f.keeps) in
+    ((wants_keeps at.a _ _ f.place ws k.0 k.1 k.2).is, (wants_keeps at.w _ _ f.place ws f.then_place f.after k.3).is)
 
 pub typed_of : (at : SymEntry) (r : Run) (e : Expr) (n : ℕ) → HasWidth at r e n → IsTyped at r.lets e
 typed_of at r e n h = is_typed at r.lets e n h
@@ -177,12 +177,12 @@ pub if_fares : (at : SymEntry) (s : Stmt) (r : Run) (c : Expr) (held : List Stmt
 if_fares at s r c held other is h =
     let f = as_form at s (If c held other) r is h in
     let ws = widths_of r.lets in
-    let k = then_fares_keeps (wants 1 (width_of (sym_setting at) c ws) f.place ws)
+    let k = then_fares_keeps (wants 1 (judged_of (sym_setting at) c ws) f.place ws)
     (λ n same. then_fares (after_block ws (fares_in_order (map (fare_of (sym_setting at)) held) n ws)) (λ later inner. after_block ws (fares_if_any (option_map (map (fare_of (sym_setting at))) other) later ws)))
     f.then_place f.after (sym (fares.fare_of-if c held other (sym_setting at) f.place ws) ∙ f.keeps) in
     let g = then_fares_keeps (after_block ws (fares_in_order (map (fare_of (sym_setting at)) held) k.0 ws)) (λ later inner. after_block ws (fares_if_any (option_map (map (fare_of (sym_setting at))) other) later ws)) f.then_place f.after k.3 in
     record {
-      test = (wants_keeps 1 _ f.place ws k.0 k.1 k.2).is;
+      test = (wants_keeps 1 _ _ f.place ws k.0 k.1 k.2).is;
       held_fares = record { place = k.0; then_place = g.0; after = g.1; keeps = g.2 };
       other_fares = record { place = g.0; then_place = f.then_place; after = f.after; keeps = g.3 };
     }

@@ -1,7 +1,7 @@
 //! What is said on standard error: the line of a refused call, and the line of progress, over a writer in memory.
 
 use pg_edge::Shelf;
-use pg_host::telling::{tell, tell_refused};
+use pg_host::telling::{note, tell, tell_refused};
 use pg_host::{Cause, Deed, DirShelf, Progress, Refused};
 use std::io;
 use std::io::{ErrorKind, Write};
@@ -114,20 +114,37 @@ fn the_last_refusal_is_kept(rt: HostRuntime) -> Result<(), Fail> {
 fn progress_is_written_over(rt: HostRuntime) -> Result<(), Fail> {
     let mut line = Progress::new(blank_paper(&rt, 0), true);
     line.erase();
-    line.tell("pgv", b"add", b"mode", 12);
-    line.tell("pgv", b"r\x1bt", b"bound", 0);
+    line.show("pgv", b"add mode");
+    line.show("pgv", b"r\x1bt bound");
     line.erase();
     line.erase();
-    let want = "\rpgv: add mode, 12 left\x1b[K\rpgv: r?t bound, 0 left\x1b[K\r\x1b[K";
+    let want =
+        "\r\x1b[?7lpgv: add mode\x1b[K\x1b[?7h\r\x1b[?7lpgv: r?t bound\x1b[K\x1b[?7h\r\x1b[K";
     assert!(rt; line.writer().taken.as_slice() == want.as_bytes());
     let mut off = Progress::new(blank_paper(&rt, 0), false);
-    off.tell("pgv", b"add", b"mode", 1);
+    off.show("pgv", b"add mode");
     off.erase();
     assert!(rt; off.writer().taken.is_empty());
     let mut torn = Progress::new(blank_paper(&rt, 2), true);
-    torn.tell("pgv", b"add", b"mode", 2);
-    torn.tell("pgv", b"add", b"bound", 1);
+    torn.show("pgv", b"add mode");
+    torn.show("pgv", b"add bound");
     torn.erase();
-    assert!(rt; torn.writer().taken.as_slice() == b"\rpg".as_slice());
+    assert!(rt; torn.writer().taken.as_slice() == b"\r\x1b[".as_slice());
+    Ok(())
+}
+
+#[test]
+fn long_texts_are_cut(rt: HostRuntime) -> Result<(), Fail> {
+    let long = vec![in rt.alloc(); b'x'; 200]?;
+    let mut line = Progress::new(blank_paper(&rt, 0), true);
+    line.show("pgv", long.as_slice());
+    // what keeps the terminal from wrapping, 79 columns, and what ends the line
+    assert!(rt; line.writer().taken.len() == 6 + 79 + 8);
+    let mut to = blank_paper(&rt, 0);
+    assert!(rt; note(&mut to, "pgv", long.as_slice()).is_ok());
+    assert!(rt; to.taken.len() == 5 + 160 + 1 && to.taken.as_slice().ends_with(b"x\n"));
+    let mut short = blank_paper(&rt, 0);
+    assert!(rt; note(&mut short, "pgv", b"a\nb").is_ok());
+    assert!(rt; short.taken.as_slice() == b"pgv: a?b\n".as_slice());
     Ok(())
 }

@@ -8,7 +8,7 @@ use crate::texts::{IDLE, LOOP, M0, OPEN, PAST, RTU};
 use pg_edge::{MemShelf, MemSink};
 use pg_hw::Hardware;
 use pg_rig::{Rig, Spy};
-use pg_tool::{Silent, Status, StopWatcher, VerdictWatcher, Watcher, tool_watched};
+use pg_tool::{ReadWatcher, Silent, Status, StopWatcher, VerdictWatcher, Watcher, tool_watched};
 use std::alloc::{AllocError, Global};
 use std::test::Fail;
 
@@ -79,8 +79,8 @@ impl Setting {
         self.run_watched(line, puts, &mut Silent)
     }
 
-    /// The same, and a watcher is told of questions, stops and verdicts.
-    pub(crate) fn run_watched<W: Watcher + StopWatcher + VerdictWatcher>(
+    /// The same, and a watcher is told of questions, of what was verified, of stops and of verdicts.
+    pub(crate) fn run_watched<W: Watcher + ReadWatcher + StopWatcher + VerdictWatcher>(
         &mut self,
         line: &str,
         puts: Failing<'_>,

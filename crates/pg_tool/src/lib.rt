@@ -3,7 +3,8 @@
 //! `tool` reads the words and does what they ask for: it loads the files that they name, works on the hardware that it is
 //! given, and puts the text of it into the sink that it is given. It makes no file, stream or hardware itself: what it is
 //! given is seen through the traits `Shelf`, `Sink` and `Hardware` alone. The program `pgv` makes one call, `tool_watched`, which
-//! tells a watcher besides of each question that is asked, why a command stops, and of a verdict that could not be saved.
+//! tells a watcher besides of each question that is asked, how far long work has come, why a command stops, and of a verdict that could
+//! not be saved.
 //!
 //! What a command is, and how its steps join, stands in `pg_steps`; the commands stand in families, crates of their own
 //! (`pg_tool_plain`, `pg_tool_asm`, `pg_tool_judging`, `pg_tool_run`, `pg_tool_nest`, `pg_tool_gen`, `pg_tool_save`). Here a command
@@ -28,11 +29,12 @@ mod silent;
 
 use pg_asked::{Fault, Request};
 use pg_cert::Family;
-pub use pg_classify::Watcher;
+pub use pg_classify::{SearchWatcher, Watcher};
 use pg_command::request;
 use pg_edge::{Shelf, Sink};
 use pg_hw::Hardware;
 pub use pg_judged::{JudgedMachine, VerdictWatcher};
+pub use pg_migrate::ReadWatcher;
 use pg_steps::stopped;
 pub use pg_steps::{Refusal, Status, Stop, StopWatcher};
 use pg_tool_asm::{carry_asm, carry_disasm};
@@ -82,9 +84,15 @@ pub fn tool<F: Shelf, S: Sink, H: Hardware>(
     tool_watched(alloc, words, shelf, out, hw, &mut Silent)
 }
 
-/// As [`tool`], with a watcher, who is told of each question while a description is classified, why a command goes no further,
-/// and of a verdict whose certificate could not be saved. It answers nothing.
-pub fn tool_watched<F: Shelf, S: Sink, H: Hardware, W: Watcher + StopWatcher + VerdictWatcher>(
+/// As [`tool`], with a watcher, who is told of each question while a description is classified, and how far its search has come; how
+/// far a certificate has been verified that is made anew; why a command goes no further; and of a verdict whose certificate could not
+/// be saved. It answers nothing.
+pub fn tool_watched<
+    F: Shelf,
+    S: Sink,
+    H: Hardware,
+    W: Watcher + ReadWatcher + StopWatcher + VerdictWatcher,
+>(
     alloc: Global,
     words: &[String],
     shelf: &mut F,
@@ -118,7 +126,7 @@ pub fn tool_watched<F: Shelf, S: Sink, H: Hardware, W: Watcher + StopWatcher + V
 }
 
 /// Carries out what was asked for.
-fn carry<F: Shelf, S: Sink, H: Hardware, W: Watcher + StopWatcher + VerdictWatcher>(
+fn carry<F: Shelf, S: Sink, H: Hardware, W: Watcher + ReadWatcher + StopWatcher + VerdictWatcher>(
     alloc: Global,
     request: &Request,
     shelf: &mut F,

@@ -1,7 +1,8 @@
 //! A watcher that says nothing of what it is told.
 
-use pg_classify::Watcher;
+use pg_classify::{SearchWatcher, Watcher};
 use pg_judged::{JudgedMachine, VerdictWatcher};
+use pg_migrate::ReadWatcher;
 use pg_steps::{Stop, StopWatcher};
 use pg_type::Kind;
 
@@ -9,8 +10,16 @@ use pg_type::Kind;
 #[derive(Clone, Copy, Debug)]
 pub struct Silent;
 
+impl SearchWatcher for Silent {
+    fn goes_on(&mut self, _learned: usize, _budget: u32) {}
+}
+
 impl Watcher for Silent {
     fn asks(&mut self, _name: &[u8], _kind: Kind, _left: usize) {}
+}
+
+impl ReadWatcher for Silent {
+    fn reads(&mut self, _done: usize, _all: usize) {}
 }
 
 impl StopWatcher for Silent {

@@ -17,21 +17,22 @@ ghost use Rattle.pg_tool_judging.specs.Migrate.{IsMigratedText, MigratesFile, mi
 
 use crate::saving::save_and_tell;
 use pg_asked::{FileName, MigrateWords};
-use pg_cert::write;
+use pg_cert::{Family, write};
 use pg_cmd_saving::WrittenCert;
 use pg_edge::{Shelf, Sink};
 use pg_hw::Hardware;
 use pg_inputs::load_machine;
 use pg_judged::{JudgedMachine, VerdictWatcher, stop_of_text};
 use pg_machine::Machine;
-use pg_migrate::{Migrated, migrate};
+use pg_migrate::{Migrated, ReadWatcher, migrate_watched};
 use pg_report::{CertificateLine, RefusalLine};
 use pg_steps::{Status, Stop, StopWatcher, load_file, stop_of, stopped};
 use pg_verify::CERT_BYTES;
 use std::alloc::Global;
 
-/// Carries out `migrate`. The hardware is lent, and stays as it is.
-pub fn carry_migrate<F: Shelf, S: Sink, H: Hardware, W: StopWatcher + VerdictWatcher>(
+/// Carries out `migrate`. The hardware is lent, and stays as it is. The watcher is told how far the certificate has been verified, why the
+/// command stops, and of a verdict that could not be saved.
+pub fn carry_migrate<F: Shelf, S: Sink, H: Hardware, W: ReadWatcher + StopWatcher + VerdictWatcher>(
     alloc: Global,
     words: &MigrateWords,
     shelf: &mut F,
@@ -44,17 +45,18 @@ pub fn carry_migrate<F: Shelf, S: Sink, H: Hardware, W: StopWatcher + VerdictWat
     ensures keeps { Keeps (migrate_command words.now).saved (around F.Shelf S.Sink H.Hardware shelf.old out.old hw.now)
         (around F.Shelf S.Sink H.Hardware shelf.new out.new hw.now) }
 {
-    match prepare_migrate(alloc, words, shelf) {
+    match prepare_migrate(alloc, words, shelf, watcher) {
         Ok(made) => save_and_tell(shelf, out, hw, &words.file, &made, watcher),
         Err(stop) => stopped(&stop, out, watcher),
     }
 }
 
 /// The certificate that is to be saved, and whose verdict is to be put; or why there is none.
-fn prepare_migrate<F: Shelf>(
+fn prepare_migrate<F: Shelf, W: ReadWatcher>(
     alloc: Global,
     words: &MigrateWords,
     shelf: &mut F,
+    watcher: &mut W,
 ) -> Result<WrittenCert, Stop>
     ensures comes { Comes written (JudgedDue Plain words.now.desc words.now.cert (F.files shelf.old)) (F.reads shelf.old)
         (F.reads shelf.new) result }
@@ -66,7 +68,7 @@ fn prepare_migrate<F: Shelf>(
         Ok(machine) => machine,
         Err(stop) => return Err(stop),
     };
-    let made = match load_migrated(alloc, &machine, &words.cert, shelf) {
+    let made = match load_migrated(alloc, &machine, &words.cert, shelf, watcher) {
         Ok(made) => made,
         Err(stop) => return Err(stop),
     };
@@ -84,11 +86,12 @@ fn prepare_migrate<F: Shelf>(
 
 /// The certificate of a machine that a file holds, made anew, with what is kept of it; or why there is none. The file is held
 /// whole.
-fn load_migrated<F: Shelf>(
+fn load_migrated<F: Shelf, W: ReadWatcher>(
     alloc: Global,
     machine: &Machine,
     name: &FileName,
     shelf: &mut F,
+    watcher: &mut W,
 ) -> Result<Migrated, Stop>
     ensures comes { Comes (λ m. m.report) (CertDue machine.now.desc Plain (F.files shelf.old) name.now) (F.reads shelf.old)
         (F.reads shelf.new) result }
@@ -103,7 +106,7 @@ fn load_migrated<F: Shelf>(
             return Err(stop_of(fault, RefusalLine::Certificate(CertificateLine::Long)));
         }
     };
-    match migrate(alloc, machine, &bytes) {
+    match migrate_watched(alloc, machine, Family::Plain, &bytes, watcher) {
         Ok(migrated) => Ok(migrated),
         Err(fault) => Err(stop_of_text(alloc, machine, fault)),
     }

@@ -2,8 +2,9 @@
 //!
 //! The description is loaded, the room is tried and the image is loaded (`prepare_bare`), in the order of its definition
 //! (`BareDue`, `specs/Bare.antt`): the first step that refuses gives the answer, so the order says which of several faults is
-//! told. Then the machine runs on the hardware (`run_bare`), and the state that it reached is put. Memory is taken for the
-//! machine's cells and none from the first step on, so that nothing but the sink can still refuse.
+//! told. The machine learns words of the image, as many as pay for so many steps. Then it runs on the hardware (`run_bare`), and
+//! the state that it reached is put. Memory is taken for the machine's cells and none from the first step on, so that nothing but
+//! the sink can still refuse.
 
 ghost use Rattle.std.specs.Prelude.{◌≡◌, None, OnOk, OnErr};
 ghost use Rattle.pg_edge.specs.Sink.{Puts};
@@ -21,6 +22,7 @@ use pg_asked::BareWords;
 use pg_edge::{Failed, Shelf, Sink};
 use pg_hw::{Hardware, bare, power_on};
 use pg_inputs::{load_image, load_machine};
+use pg_mach_words::{learned, most_learned};
 use pg_report::put_state;
 use pg_steps::{Status, Stop, StopWatcher, no_room, stopped};
 use plan::BarePlan;
@@ -70,12 +72,17 @@ fn prepare_bare<F: Shelf>(alloc: Global, words: &BareWords, shelf: &mut F) -> Re
         return Err(no_room(grant, most));
     }
     match load_image(alloc, 0, &words.image, machine.shape(), grant, shelf) {
-        Ok(image) => Ok(BarePlan {
-            machine,
-            image,
-            grant,
-            steps: words.steps.count(),
-        }),
+        Ok(image) => {
+            let steps = words.steps.count();
+            let known = most_learned(steps, image.len());
+            let machine = learned(alloc, machine, image.as_slice(), known);
+            Ok(BarePlan {
+                machine,
+                image,
+                grant,
+                steps,
+            })
+        }
         Err(stop) => Err(stop),
     }
 }

@@ -8,7 +8,7 @@ use Rattle.pg_ast.specs.declared.tree.Desc.{Desc}
 use Rattle.pg_meaning.specs.Patterns.{matches, matching}
 use Rattle.pg_meaning.specs.States.{shape_of}
 use Rattle.pg_valid.specs.Overlaps.{has_split_letter, is_well_formed, pattern_broken}
-use Rattle.pg_valid.specs.Widths.{width_broken, width_broken_in, placed_at}
+use Rattle.pg_valid.specs.Widths.{Broken, width_broken, width_broken_in, placed_at}
 use Rattle.pg_valid.specs.Valid.{IsValid, as_pattern, as_width}
 use Rattle.pg_valid.proofs.ShapeLemmas.{shape_valid}
 use Rattle.pg_valid.proofs.CheckLemmas.{and_both}
@@ -21,11 +21,11 @@ pub as_pattern_none : (o : Option ℕ) → as_pattern o ≡ None → o ≡ None
 as_pattern_none None h = refl
 as_pattern_none (Some k) h = absurd (cc h)
 
-as_width_none : (o : Option (ℕ × ℕ)) → as_width o ≡ None → o ≡ None
+as_width_none : (o : Option (ℕ × Broken)) → as_width o ≡ None → o ≡ None
 as_width_none None h = refl
 as_width_none (Some k) h = absurd (cc h)
 
-placed_none : (k : ℕ) (o : Option ℕ) (later : Option (ℕ × ℕ)) → placed_at k o later ≡ None → (o ≡ None) × (later ≡ None)
+placed_none : (k : ℕ) (o : Option Broken) (later : Option (ℕ × Broken)) → placed_at k o later ≡ None → (o ≡ None) × (later ≡ None)
 placed_none k None later h = (refl, h)
 placed_none k (Some x) later h = absurd (cc h)
 

@@ -6,7 +6,7 @@ use Rattle.pg_valid.specs.Widths.{Fare, Breaks, Keeps, LetWidths}
 
 -- what the code answers, with the lets that it leaves visible
 abbrev pub fare_as : Fares → LetWidths → Fare
-fare_as (BreaksAt place) lets = Breaks place
+fare_as (BreaksAt place how) lets = Breaks place how
 fare_as (KeepsTo next) lets = Keeps next lets
 
 -- lets that are visible still, under those that came since

@@ -9,7 +9,7 @@ use Rattle.pg_valid.specs.Limits.{limit_broken}
 use Rattle.pg_valid.specs.Twice.{name_twice, first_of_two}
 use Rattle.pg_valid.specs.Overlaps.{pattern_broken, overlap}
 use Rattle.pg_valid.specs.Scopes.{name_unknown}
-use Rattle.pg_valid.specs.Widths.{width_broken}
+use Rattle.pg_valid.specs.Widths.{Broken, width_broken}
 
 -- the head gives the numbers of a machine that there can be
 abbrev pub has_shape : ℕ → ℕ → ℕ → Bool → Bool
@@ -55,9 +55,9 @@ as_name (Some x) = Some (Name x.0 x.1)
 abbrev pub name_fault : Desc → Option TypeFault
 name_fault d = as_name (name_unknown 0 d.instrs)
 
-abbrev pub as_width : Option (ℕ × ℕ) → Option TypeFault
+abbrev pub as_width : Option (ℕ × Broken) → Option TypeFault
 as_width None = None
-as_width (Some x) = Some (Width x.0 x.1)
+as_width (Some x) = Some (Width x.0 x.1.0 x.1.1)
 
 abbrev pub width_fault : Desc → Option TypeFault
 width_fault d = as_width (width_broken d 0 d.instrs)

@@ -1,5 +1,5 @@
 -- The seventh class of validity: widths of expressions.
-use Rattle.std.specs.Prelude.{ℕ, ◌+◌, ◌-◌, ◌^◌, Bool, ◌&&◌, ◌==◌, nat_le, nat_lt, if◌then◌else◌, List, [], ◌∷◌, map, Option, None, Some, bytes_eq}
+use Rattle.std.specs.Prelude.{ℕ, ◌+◌, ◌-◌, ◌^◌, Bool, ◌&&◌, ◌==◌, nat_le, nat_lt, if◌then◌else◌, List, [], ◌∷◌, map, Option, None, Some, Result, Ok, Err, bytes_eq}
 use Rattle.pg_ast.specs.declared.tree.Op.{Op}
 use Rattle.pg_ast.specs.declared.tree.Op.TheVariants.{Add, Sub, Mul, And, Or, Xor, Eq, Lt, Shl, Shr}
 use Rattle.pg_ast.specs.declared.tree.Expr.{Expr}
@@ -11,6 +11,8 @@ use Rattle.pg_ast.specs.declared.tree.Stmt.TheFolds.{fold-Stmt}
 use Rattle.pg_ast.specs.declared.tree.Instr.{Instr}
 use Rattle.pg_ast.specs.declared.tree.Desc.{Desc}
 use Rattle.pg_meaning.specs.Patterns.{Field, field_of}
+use Rattle.pg_valid.specs.declared.fault.WidthClash.{WidthClash}
+use Rattle.pg_valid.specs.declared.fault.WidthClash.TheVariants as clash
 
 -- what widths depend on: the widths of words and addresses, and the pattern
 pub record Setting : Type 0 where
@@ -36,11 +38,6 @@ field_or_let_width (Some f) lets name = Some f.width
 -- a width where a test holds; None: the table of widths is broken
 abbrev pub where_holds : Bool → ℕ → Option ℕ
 where_holds test width = (if test then Some width else None)
-
--- goes on with a width
-abbrev pub with_width : Option ℕ → (ℕ → Option ℕ) → Option ℕ
-with_width None go = None
-with_width (Some n) go = go n
 
 -- a literal v:n has 1 to 64 bits, and v fits them
 abbrev pub literal_width : ℕ → ℕ → Option ℕ
@@ -71,49 +68,87 @@ widened_width n to = where_holds (nat_le n to && nat_le to 64) to
 abbrev pub choice_width : ℕ → ℕ → ℕ → Option ℕ
 choice_width c x y = where_holds ((c == 1) && (x == y)) x
 
+-- a width, or how the table of widths is broken
+abbrev pub Judged : Type 0
+Judged = Result ℕ WidthClash
+
+-- what a row of the table gives, or that it is broken so
+abbrev pub judged : Option ℕ → WidthClash → Judged
+judged None how = Err how
+judged (Some n) how = Ok n
+
+-- goes on with a width
+abbrev pub with_judged : Judged → (ℕ → Judged) → Judged
+with_judged (Err how) go = Err how
+with_judged (Ok n) go = go n
+
+abbrev pub joined_width : ℕ → ℕ → Option ℕ
+joined_width x y = where_holds (nat_le (x + y) 64) (x + y)
+
+-- how a choice breaks the table
+abbrev pub choice_clash : ℕ → ℕ → ℕ → WidthClash
+choice_clash c x y = (if c == 1 then clash.Choices x y else clash.Wanted 1 c)
+
+abbrev pub Judging : Type 0
+Judging = LetWidths → Judged
+
+abbrev pub judge_step : Setting → Expr-F Judging → Judging
+judge_step at (Lit v n) lets = judged (literal_width v n) (clash.Number v n)
+judge_step at (Name n) lets = judged (field_or_let_width (field_of at.pattern n.bytes) lets n.bytes) clash.Unnamed
+judge_step at Pc lets = Ok at.a
+judge_step at Mode lets = Ok 1
+judge_step at Rel lets = Ok at.a
+judge_step at Bound lets = Ok at.a
+judge_step at (Load e) lets = with_judged (e lets) (λ n. judged (where_holds (n == at.a) at.w) (clash.Wanted at.a n))
+judge_step at (Not e) lets = e lets
+judge_step at (Bin op l r) lets = with_judged (l lets) (λ x. with_judged (r lets) (λ y. judged (op_width op x y) (clash.Sides x y)))
+judge_step at (Cat l r) lets = with_judged (l lets) (λ x. with_judged (r lets) (λ y. judged (joined_width x y) (clash.Joined x y)))
+judge_step at (Cut e h k) lets = with_judged (e lets) (λ n. judged (cut_width n h k) (clash.Cut n h k))
+judge_step at (Ext e to) lets = with_judged (e lets) (λ n. judged (widened_width n to) (clash.Widened n to))
+judge_step at (Sext e to) lets = with_judged (e lets) (λ n. judged (widened_width n to) (clash.Widened n to))
+judge_step at (Sel c l r) lets =
+    with_judged (c lets) (λ n. with_judged (l lets) (λ x. with_judged (r lets) (λ y. judged (choice_width n x y) (choice_clash n x y))))
+
+-- the width of an expression, or how the first part of it that breaks the table does; parts come before what they are of
+unfoldable pub judged_of : Setting → Expr → Judging
+judged_of at = fold-Expr Judging (judge_step at)
+
+-- a width, if there is one
+abbrev pub width_in : Judged → Option ℕ
+width_in (Err how) = None
+width_in (Ok n) = Some n
+
 abbrev pub Width : Type 0
 Width = LetWidths → Option ℕ
 
-abbrev pub width_step : Setting → Expr-F Width → Width
-width_step at (Lit v n) lets = literal_width v n
-width_step at (Name n) lets = field_or_let_width (field_of at.pattern n.bytes) lets n.bytes
-width_step at Pc lets = Some at.a
-width_step at Mode lets = Some 1
-width_step at Rel lets = Some at.a
-width_step at Bound lets = Some at.a
-width_step at (Load e) lets = with_width (e lets) (λ n. where_holds (n == at.a) at.w)
-width_step at (Not e) lets = e lets
-width_step at (Bin op l r) lets = with_width (l lets) (λ x. with_width (r lets) (λ y. op_width op x y))
-width_step at (Cat l r) lets = with_width (l lets) (λ x. with_width (r lets) (λ y. where_holds (nat_le (x + y) 64) (x + y)))
-width_step at (Cut e h k) lets = with_width (e lets) (λ n. cut_width n h k)
-width_step at (Ext e to) lets = with_width (e lets) (λ n. widened_width n to)
-width_step at (Sext e to) lets = with_width (e lets) (λ n. widened_width n to)
-width_step at (Sel c l r) lets =
-    with_width (c lets) (λ n. with_width (l lets) (λ x. with_width (r lets) (λ y. choice_width n x y)))
-
 -- the width of an expression; None where it, or a part, breaks the table of widths
 unfoldable pub width_of : Setting → Expr → Width
-width_of at = fold-Expr Width (width_step at)
+width_of at e lets = width_in (judged_of at e lets)
 
--- how statements fare in the order of the text: the first that breaks the table, by its place; or the place and the
--- lets after them
+-- goes on with a width
+abbrev pub with_width : Option ℕ → (ℕ → Option ℕ) → Option ℕ
+with_width None go = None
+with_width (Some n) go = go n
+
+-- how statements fare in the order of the text: the first that breaks the table, by its place, and how; or the place and
+-- the lets after them
 pub data Fare : Type 0 where
-  Breaks : (place : ℕ) → Fare
+  Breaks : (place : ℕ) (how : WidthClash) → Fare
   Keeps : (next : ℕ) (lets : LetWidths) → Fare
 
 -- the expression of a statement has the width that is wanted
-abbrev pub wants : ℕ → Option ℕ → ℕ → LetWidths → Fare
-wants width None place lets = Breaks place
-wants width (Some n) place lets = (if n == width then Keeps (place + 1) lets else Breaks place)
+abbrev pub wants : ℕ → Judged → ℕ → LetWidths → Fare
+wants width (Err how) place lets = Breaks place how
+wants width (Ok n) place lets = (if n == width then Keeps (place + 1) lets else Breaks place (clash.Wanted width n))
 
 -- a let may have any width
-abbrev pub binds : List ℕ → Option ℕ → ℕ → LetWidths → Fare
-binds name None place lets = Breaks place
-binds name (Some n) place lets = Keeps (place + 1) ((name, n) ∷ lets)
+abbrev pub binds : List ℕ → Judged → ℕ → LetWidths → Fare
+binds name (Err how) place lets = Breaks place how
+binds name (Ok n) place lets = Keeps (place + 1) ((name, n) ∷ lets)
 
 -- goes on with the statements that follow
 abbrev pub then_fares : Fare → (ℕ → LetWidths → Fare) → Fare
-then_fares (Breaks place) go = Breaks place
+then_fares (Breaks place how) go = Breaks place how
 then_fares (Keeps next lets) go = go next lets
 
 abbrev pub Faring : Type 0
@@ -129,20 +164,20 @@ fares_if_any (Some ss) place lets = fares_in_order ss place lets
 
 -- the lets of a block end with it
 abbrev pub after_block : LetWidths → Fare → Fare
-after_block lets (Breaks place) = Breaks place
+after_block lets (Breaks place how) = Breaks place how
 after_block lets (Keeps next inner) = Keeps next lets
 
 abbrev pub fare_step : Setting → Stmt-F Faring → Faring
-fare_step at (Let n e) place lets = binds n.bytes (width_of at e lets) place lets
+fare_step at (Let n e) place lets = binds n.bytes (judged_of at e lets) place lets
 fare_step at (Store a e) place lets =
-    then_fares (wants at.a (width_of at a lets) place lets) (λ next same. wants at.w (width_of at e lets) place lets)
-fare_step at (ToPc e) place lets = wants at.a (width_of at e lets) place lets
-fare_step at (ToMode e) place lets = wants 1 (width_of at e lets) place lets
-fare_step at (ToRel e) place lets = wants at.a (width_of at e lets) place lets
-fare_step at (ToBound e) place lets = wants at.a (width_of at e lets) place lets
+    then_fares (wants at.a (judged_of at a lets) place lets) (λ next same. wants at.w (judged_of at e lets) place lets)
+fare_step at (ToPc e) place lets = wants at.a (judged_of at e lets) place lets
+fare_step at (ToMode e) place lets = wants 1 (judged_of at e lets) place lets
+fare_step at (ToRel e) place lets = wants at.a (judged_of at e lets) place lets
+fare_step at (ToBound e) place lets = wants at.a (judged_of at e lets) place lets
 fare_step at Trap place lets = Keeps (place + 1) lets
 fare_step at (If c held other) place lets =
-    then_fares (wants 1 (width_of at c lets) place lets) (λ next same.
+    then_fares (wants 1 (judged_of at c lets) place lets) (λ next same.
     then_fares (after_block lets (fares_in_order held next lets)) (λ later inner.
     after_block lets (fares_if_any other later lets)))
 
@@ -150,19 +185,23 @@ fare_step at (If c held other) place lets =
 unfoldable pub fare_of : Setting → Stmt → Faring
 fare_of at = fold-Stmt Faring (fare_step at)
 
-abbrev pub broken_place : Fare → Option ℕ
-broken_place (Breaks place) = Some place
+-- the place of a statement that breaks the table, and how it does
+abbrev pub Broken : Type 0
+Broken = ℕ × WidthClash
+
+abbrev pub broken_place : Fare → Option Broken
+broken_place (Breaks place how) = Some (place, how)
 broken_place (Keeps next lets) = None
 
 -- the first statement of an instruction whose own expressions break the table
-abbrev pub width_broken_in : Desc → Instr → Option ℕ
+abbrev pub width_broken_in : Desc → Instr → Option Broken
 width_broken_in d i = broken_place (fares_in_order (map (fare_of (setting_of d i)) i.body) 0 [])
 
-abbrev pub placed_at : ℕ → Option ℕ → Option (ℕ × ℕ) → Option (ℕ × ℕ)
+abbrev pub placed_at : ℕ → Option Broken → Option (ℕ × Broken) → Option (ℕ × Broken)
 placed_at k None later = later
-placed_at k (Some place) later = Some (k, place)
+placed_at k (Some broken) later = Some (k, broken)
 
 -- the first instruction with such a statement; the first here has number k
-unfoldable pub width_broken : Desc → ℕ → List Instr → Option (ℕ × ℕ)
+unfoldable pub width_broken : Desc → ℕ → List Instr → Option (ℕ × Broken)
 width_broken d k [] = None
 width_broken d k (i ∷ others) = placed_at k (width_broken_in d i) (width_broken d (k + 1) others)

@@ -168,6 +168,6 @@ pub fn test_widths(alloc: Global, desc: &Desc) -> Result<(), TypeFault>
     match width_broken(alloc, desc) {
         Err(_) => Err(TypeFault::Memory),
         Ok(None) => Ok(()),
-        Ok(Some((k, place))) => Err(TypeFault::Width(k, place)),
+        Ok(Some((k, (place, how)))) => Err(TypeFault::Width(k, place, how)),
     }
 }

@@ -21,6 +21,28 @@ pub enum Limit {
     Expressions,
 }
 
+/// How the table of widths is broken: its row, with the widths that meet there, as what is wanted and what is found. Bits are
+/// counted.
+#[derive(Clone, Copy, Debug, PartialEq, Eq)]
+pub enum WidthClash {
+    /// A number, and of how many bits it is said to be: it does not fit them, or they are not 1 to 64.
+    Number(u64, u64),
+    /// A name that has no width. A description whose names all mean something has none.
+    Unnamed,
+    /// How many bits are wanted, and how many are found: of an address, of a condition, of what is stored or assigned.
+    Wanted(u64, u64),
+    /// The bits of the two sides of an operation that wants them alike.
+    Sides(u64, u64),
+    /// The bits of two sides that are joined, more than 64 together.
+    Joined(u64, u64),
+    /// Of how many bits some are cut out, the highest of them and the lowest.
+    Cut(u64, u64, u64),
+    /// How many bits are widened, and to how many: to fewer, or to more than 64.
+    Widened(u64, u64),
+    /// The bits of two choices, which are not alike.
+    Choices(u64, u64),
+}
+
 /// Why a description is not valid: the first class of validity that fails, and what it names. Instructions are numbered
 /// from 0.
 #[derive(Debug, Drop, Error)]
@@ -44,10 +66,10 @@ pub enum TypeFault {
     /// The first instruction with a name that is neither a field nor a visible let, and its first such name.
     #[error("instruction {0} has a name that is neither a field nor a visible let")]
     Name(usize, Items<u8>),
-    /// The first instruction with a statement whose own expressions break the table of widths, and the place of its
-    /// first such statement, counted from 0 in the order of the text.
-    #[error("statement {1} of instruction {0} breaks the table of widths")]
-    Width(usize, usize),
+    /// The first instruction with a statement whose own expressions break the table of widths, the place of its first
+    /// such statement, counted from 0 in the order of the text, and how the first part of that breaks the table.
+    #[error("statement {1} of instruction {0} breaks the table of widths: {2:?}")]
+    Width(usize, usize, WidthClash),
     /// Memory was refused while the description was tested or its machine made. It says nothing of the description.
     #[error("memory was refused")]
     Memory,

@@ -4,32 +4,27 @@
 //! forms are made, of `pg_host` and `pg_rig`, and lent to `tool_watched`. Where there is no memory for the words, it is not
 //! called, and the program ends with the same status, 10, as it does where the call has none.
 //!
-//! Standard error says why the program ends so, where it is because of the words, of a file, of standard output or of memory
-//! (`why`), and where a refused file is at fault (`watching`, over what `held` keeps of it). While it asks questions the program
-//! shows on a terminal which is next (`screen`); before the first it warns where the certificate could not be saved (`warning`).
+//! What standard error says is of `pg_cli_says`, but for what is wrong with the words (`complaining`): why the program ends so,
+//! where a refused file is at fault, which question is next, what is to be done, and a warning where the certificate could not be
+//! saved. What the words name for that stands in `naming`.
 #![tactic(auto)]
 
-mod held;
-mod screen;
-mod warning;
-mod watching;
-mod why;
+mod complaining;
+mod naming;
 
-use held::{Holding, LastRead};
+use complaining::say_complaint;
+use naming::named_by;
+use pg_cli_says::{
+    Beside, Ended, Holding, LastRead, Lines, Program, Reading, Seen, Ticker, Watching, say_no_text,
+    say_why, words,
+};
 use pg_command::request;
-use pg_host::streams::write_whole;
 use pg_host::{DirShelf, Progress, StdSink};
 use pg_rig::Rig;
 use pg_tool::{Status, tool_watched};
-use screen::{Beside, clear};
-use std::alloc::AllocError;
 use std::cell::RefCell;
-use std::env;
-use std::io::{ErrorKind, IsTerminal};
+use std::io::IsTerminal;
 use std::process::ExitCode;
-use std::rt::Env;
-use watching::{Seen, Watching};
-use why::{say_complaint, say_why};
 
 /// Runs the command that the words ask for on real files, standard output and a hardware in memory, and ends with the
 /// number of its status.
@@ -37,7 +32,7 @@ fn main(rt: HostRuntime) -> ExitCode {
     match words(&rt) {
         Ok(words) => ExitCode::from(run(&rt, &words).code()),
         Err(_) => {
-            say_why(&mut rt.stderr(), Status::Memory, None, None);
+            say_why(&mut rt.stderr(), Program::Pgv, Status::Memory, None, None);
             ExitCode::from(Status::Memory.code())
         }
     }
@@ -45,19 +40,29 @@ fn main(rt: HostRuntime) -> ExitCode {
 
 /// Runs the command that the words ask for, and says on standard error what is to be said.
 fn run(rt: &HostRuntime, words: &[String]) -> Status {
-    let line = RefCell::new(Progress::new(rt.stderr(), rt.stderr().is_terminal()));
+    let is_terminal = rt.stderr().is_terminal();
+    let line = RefCell::new(Progress::new(rt.stderr(), is_terminal));
+    let lines = Lines {
+        program: Program::Pgv,
+        line: &line,
+        is_terminal,
+        error: rt.stderr(),
+    };
+    let ticker = RefCell::new(Ticker::new(rt.alloc(), rt, lines));
     let held = RefCell::new(LastRead::new(rt.alloc()));
-    let mut shelf = Holding::new(rt.alloc(), DirShelf::new(rt), &held);
+    let files = Reading::new(DirShelf::new(rt), &ticker);
+    let mut shelf = Holding::new(rt.alloc(), files, &held);
     let mut out = StdSink::new(Beside::new(rt.stdout(), &line));
     let mut hw = Rig::new(rt.alloc());
     let seen = Seen {
         files: rt,
-        line: &line,
+        ticker: &ticker,
         held: &held,
     };
     let asked = request(rt.alloc(), words).ok();
     let errors = (rt.stderr(), rt.stderr());
-    let mut watching = Watching::new(rt.alloc(), seen, errors, asked);
+    let named = named_by(asked.as_ref());
+    let mut watching = Watching::new(rt.alloc(), seen, errors, Program::Pgv, named);
     let status = tool_watched(
         rt.alloc(),
         words,
@@ -66,23 +71,24 @@ fn run(rt: &HostRuntime, words: &[String]) -> Status {
         &mut hw,
         &mut watching,
     );
-    clear(&line);
-    let _ = write_whole(&mut rt.stderr(), watching.pointed());
+    watching.ends(&Ended {
+        status,
+        output: out.writer().failed().filter(|_| out.faults() > 0),
+        refused: shelf.shelf().shelf().refused(),
+        last: out.writer().last(),
+        saved: shelf.saved(),
+    });
     if status == Status::Words {
-        say_complaint(rt.alloc(), &mut rt.stderr(), words);
+        complain(rt, words);
     }
-    let failed = out.writer().failed().filter(|_| out.faults() > 0);
-    let refused = shelf.shelf().refused();
-    say_why(&mut rt.stderr(), status, failed, refused);
     status
 }
 
-/// The words of the command line, the program's name first. One that is not UTF-8 makes the line one without words, which
-/// no command takes.
-fn words<R: Env + AllocGlobal>(rt: &R) -> Result<Vec<String>, AllocError> {
-    match env::args(rt) {
-        Ok(args) => args.collect(rt.alloc()),
-        Err(error) if error.kind() == ErrorKind::OutOfMemory => Err(AllocError),
-        Err(_) => Ok(Vec::new(rt.alloc())),
+/// Says what is wrong with words that are not taken.
+fn complain(rt: &HostRuntime, words: &[String]) {
+    if words.is_empty() {
+        say_no_text(rt, &mut rt.stderr(), Program::Pgv);
+    } else {
+        say_complaint(rt.alloc(), &mut rt.stderr(), words);
     }
 }

@@ -9,6 +9,7 @@ use crate::import::request::Request;
 use crate::stop::Stop;
 use pg_ask::ask;
 use pg_cert::{Cert, Finding};
+use pg_cli_says::Lacking;
 use pg_imported::{Imported, place_of, replaced};
 use pg_judged::JudgedMachine;
 use pg_machine::Machine;
@@ -48,7 +49,7 @@ pub fn new_certificate(
     ensures { IfOk result (λ w. IsSavedText machine.desc cert instr request.now.kind w.text.items) }
 {
     let Some(place) = place_of(&cert, instr, request.kind) else {
-        return Err(Stop::Words);
+        return Err(Stop::Lacking(Lacking::Kind));
     };
     let taken = match taken_finding(alloc, &machine, &cert, instr, place, request, bytes) {
         Ok(taken) => taken,

@@ -13,7 +13,6 @@ ghost use Rattle.pg_tool_plain.specs.Bare.{reached};
 ghost use Rattle.pg_side.specs.Done.{IsShown, PutsText, PutsJudged, has_state, ended_as, reached_text, end_text, all_counts, handled_text};
 ghost use Rattle.pg_side.specs.Plans.{kept_beside, planned_run};
 
-use crate::stop::Unwatched;
 use crate::trace::certificate::{load_either, monitor_of};
 use crate::trace::plan::Plan;
 use crate::trace::prepare::prepare;
@@ -26,34 +25,35 @@ use pg_hw::Hardware;
 use pg_judged::{JudgedMachine, is_accepted, tell_verdict};
 use pg_machine::Machine;
 use pg_report::{put_state, put_text};
-use pg_steps::{Status, stopped};
+use pg_steps::{Status, StopWatcher, stopped};
 use pg_traced::{Monitor, Shows, Tally, Telling, TraceFault, push_counts, push_shares, trace_bare};
 use std::alloc::{AllocError, Global};
 
 /// Runs what the words ask for, and puts its text; or the verdict of the certificate that they name, where it does not accept the
 /// machine.
-pub fn carry<F: Shelf, S: Sink, H: Hardware>(
+pub fn carry<F: Shelf, S: Sink, H: Hardware, W: StopWatcher>(
     alloc: Global,
     words: &TraceWords,
     shelf: &mut F,
     out: &mut S,
     hw: &mut H,
+    watcher: &mut W,
 ) -> Status
     requires able { IsAble H.Hardware hw.old }
     ensures done { result ≡ status.Done → IsShown words.now (F.files shelf.old) (H.machinery hw.new).state (S.written out.old) (S.written out.new) }
 {
     let plan = match prepare(alloc, kept_beside(words), &words.bare, shelf) {
         Ok(plan) => plan,
-        Err(stop) => return stopped(&stop, out, &mut Unwatched),
+        Err(stop) => return stopped(&stop, out, watcher),
     };
     match &words.cert {
         None => ended(put_run(alloc, &plan, hw, out, told_of(words.shows, None))),
-        Some(cert) => carry_judged(alloc, plan, words.shows, cert, shelf, out, hw),
+        Some(cert) => carry_judged(alloc, plan, words.shows, cert, shelf, out, hw, watcher),
     }
 }
 
 /// How many cells a monitor keeps beside the run.
-fn kept_beside(words: &TraceWords) -> u32
+pub fn kept_beside(words: &TraceWords) -> u32
     ensures { result ≡ kept_beside words.now.cert }
 {
     match words.cert {
@@ -71,7 +71,7 @@ fn told_of(shows: Shows, monitor: Option<Monitor>) -> Telling
 
 /// Runs a plan where a certificate says that a monitor may run its machine, and puts its text with what the monitor would do; else
 /// puts the verdict.
-fn carry_judged<F: Shelf, S: Sink, H: Hardware>(
+fn carry_judged<F: Shelf, S: Sink, H: Hardware, W: StopWatcher>(
     alloc: Global,
     plan: Plan,
     shows: Shows,
@@ -79,6 +79,7 @@ fn carry_judged<F: Shelf, S: Sink, H: Hardware>(
     shelf: &mut F,
     out: &mut S,
     hw: &mut H,
+    watcher: &mut W,
 ) -> Status
     requires able { IsAble H.Hardware hw.old }
     requires room { kept_cells + plan.grant ≤ plan.machine.desc.size }
@@ -88,7 +89,7 @@ fn carry_judged<F: Shelf, S: Sink, H: Hardware>(
 {
     let report = match load_either(alloc, &plan.machine, cert, shelf) {
         Ok(report) => report,
-        Err(stop) => return stopped(&stop, out, &mut Unwatched),
+        Err(stop) => return stopped(&stop, out, watcher),
     };
     if !is_accepted(report.verdict()) {
         return tell_verdict(out, &judged(plan.machine, report));
@@ -98,7 +99,7 @@ fn carry_judged<F: Shelf, S: Sink, H: Hardware>(
 }
 
 /// A machine, and what is kept of a certificate of it.
-fn judged(machine: Machine, report: Report) -> JudgedMachine
+pub fn judged(machine: Machine, report: Report) -> JudgedMachine
     requires whole { length report.marks ≡ length machine.desc.instrs * kind_count report.family }
     requires fit { All (DoMarkWordsFit machine.desc.word) report.marks }
     ensures { judged result ≡ record { desc = machine.desc; report = report } }
@@ -107,7 +108,7 @@ fn judged(machine: Machine, report: Report) -> JudgedMachine
 }
 
 /// How the program ends, by how the text was put.
-fn ended(put: Result<(), TraceFault>) -> Status
+pub fn ended(put: Result<(), TraceFault>) -> Status
     ensures { result ≡ ended_as put }
 {
     match put {

@@ -11,7 +11,7 @@ ghost use Rattle.pg_steps.specs.Answering.{Comes, OnlyReads};
 ghost use Rattle.pg_steps.specs.Steps.{Came};
 ghost use Rattle.pg_side.specs.Judging.{monitor_of};
 
-use crate::files::family_of;
+use crate::files::{FamilyFault, family_of};
 use pg_asked::FileName;
 use pg_cert::{Family, Report};
 use pg_edge::Shelf;
@@ -39,7 +39,8 @@ pub fn load_either<F: Shelf>(
 {
     match family_of(alloc, name, shelf) {
         Ok(family) => load_certificate(alloc, family, machine, name, shelf),
-        Err(_) => Err(Stop::Memory),
+        Err(FamilyFault::Failed) => Err(Stop::ReadFault),
+        Err(FamilyFault::Memory) => Err(Stop::Memory),
     }
 }
 

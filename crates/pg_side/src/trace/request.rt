@@ -16,6 +16,8 @@ pub struct TraceWords {
     pub shows: Shows,
     /// The name of the file with the certificate of the machine, where the words name one.
     pub cert: Option<FileName>,
+    /// Whether the run is asked for as JSON.
+    pub is_json: bool,
 }
 
 /// What words have said so far.
@@ -28,6 +30,7 @@ struct Draft<'a> {
     cert: Option<&'a str>,
     only_traps: bool,
     counts: bool,
+    is_json: bool,
 }
 
 /// What the words ask for, the program's name first; none where they are others. The error is want of memory.
@@ -38,8 +41,11 @@ pub fn asked_by(alloc: Global, words: &[String]) -> Result<Option<TraceWords>, A
     }
 }
 
-/// What a draft asks for, where nothing is left out.
+/// What a draft asks for, where nothing is left out. JSON is of all steps.
 fn whole(alloc: Global, draft: Draft<'_>) -> Result<Option<TraceWords>, AllocError> {
+    if draft.is_json && (draft.counts || draft.only_traps) {
+        return Ok(None);
+    }
     let shows = match (draft.counts, draft.only_traps) {
         (true, _) => Shows::Counts,
         (false, true) => Shows::Traps,
@@ -58,6 +64,7 @@ fn whole(alloc: Global, draft: Draft<'_>) -> Result<Option<TraceWords>, AllocErr
                 Some(cert) => Some(file_name(alloc, cert)?),
                 None => None,
             },
+            is_json: draft.is_json,
         })),
         _ => Ok(None),
     }
@@ -76,6 +83,7 @@ fn draft_of(words: &[String]) -> Option<Draft<'_>> {
         cert: None,
         only_traps: false,
         counts: false,
+        is_json: false,
     };
     let mut left = words;
     while let [word, behind @ ..] = left {
@@ -117,6 +125,10 @@ impl<'a> Draft<'a> {
             }
             "--counts" if !self.counts => {
                 self.counts = true;
+                Some(behind)
+            }
+            "--json" if !self.is_json => {
+                self.is_json = true;
                 Some(behind)
             }
             _ => {

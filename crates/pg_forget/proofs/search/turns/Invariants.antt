@@ -3,7 +3,7 @@ use Rattle.pg_forget.specs.Turns.{IsSearching}
 use Rattle.pg_forget.proofs.search.turns.Given as goal
 
 abbrev pub invariant-turns : goal.invariant-turns
-invariant-turns l = IsSearching l.cnf.clauses l.cnf.variables l.budget l.held.watches l.held.numbers.items l.steps.items l.fix
+invariant-turns g l = IsSearching l.cnf.clauses l.cnf.variables l.budget l.held.watches l.held.numbers.items l.steps.items l.fix
 
 abbrev pub decreases-turns : goal.decreases-turns
-decreases-turns l = work_left l.cnf.variables l.budget l.held.watches l.steps.items
+decreases-turns g l = work_left l.cnf.variables l.budget l.held.watches l.steps.items

@@ -1,4 +1,4 @@
-use Rattle.pg_hybrid.proofs.TurnRows.{six_steps, four_from_user_mode, two_of_them_direct, rtu_is_direct_besides, no_load_beside_another, not_itself, direct_turn_loads_once, trap_leaves_none}
+use Rattle.pg_hybrid.proofs.TurnRows.{six_steps, four_from_user_mode, two_of_them_direct, rtu_is_direct_besides, no_load_beside_another, not_itself, direct_turn_loads_once, trap_leaves_none, two_loads_in_six, each_turn_loads, each_slice_loads, other_order}
 use Rattle.pg_hybrid.proofs.laws.worked_turns.Goals as goal
 
 pub returns-clause-six_steps : goal.returns-clause-six_steps
@@ -24,3 +24,15 @@ returns-clause-direct_turn_loads_once c = direct_turn_loads_once
 
 pub returns-clause-trap_leaves_none : goal.returns-clause-trap_leaves_none
 returns-clause-trap_leaves_none c = trap_leaves_none
+
+pub returns-clause-two_loads_in_six : goal.returns-clause-two_loads_in_six
+returns-clause-two_loads_in_six c = two_loads_in_six
+
+pub returns-clause-each_turn_loads : goal.returns-clause-each_turn_loads
+returns-clause-each_turn_loads c = each_turn_loads
+
+pub returns-clause-each_slice_loads : goal.returns-clause-each_slice_loads
+returns-clause-each_slice_loads c = each_slice_loads
+
+pub returns-clause-other_order : goal.returns-clause-other_order
+returns-clause-other_order c = other_order

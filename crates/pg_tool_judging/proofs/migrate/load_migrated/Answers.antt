@@ -22,26 +22,26 @@ returns-in-Err-clause-comes g c =
     (file-stops (λ (m : Migrated). m.report) Certificate told c.args.name.now most_bytes told_line.Long (CertTextDue d Plain) before after c.in-Err.fault
     (λ e. c.in-Err.ensures.missing (ap Err e)) (λ e. c.in-Err.ensures.long (ap Err e)) (λ e. c.in-Err.ensures.failed (ap Err e)))
 
-pub returns-in-Ok-migrate-clause-comes : goal.returns-in-Ok-migrate-clause-comes
-returns-in-Ok-migrate-clause-comes g c =
+pub returns-in-Ok-migrate_watched-clause-comes : goal.returns-in-Ok-migrate_watched-clause-comes
+returns-in-Ok-migrate_watched-clause-comes g c =
     let d = c.args.machine.now.desc in
-    held_came d (g.F.Shelf.files c.args.shelf.now) c.args.name.now c.in-Ok.bytes.items c.in-Ok-migrate.migrated.report c.in-Ok.ensures.ok
-    (subst (λ bs. IsAnswer (verified_whole d Plain bs) (Ok c.in-Ok-migrate.migrated.report)) c.deref.ensures.value c.in-Ok-migrate.ensures.answer)
+    held_came d (g.F.Shelf.files c.args.shelf.now) c.args.name.now c.in-Ok.bytes.items c.in-Ok-migrate_watched.migrated.report c.in-Ok.ensures.ok
+    (subst (λ bs. IsAnswer (verified_whole d Plain bs) (Ok c.in-Ok-migrate_watched.migrated.report)) c.deref.ensures.value c.in-Ok-migrate_watched.ensures.answer)
 
-pub returns-in-Ok-migrate-clause-from_file : goal.returns-in-Ok-migrate-clause-from_file
-returns-in-Ok-migrate-clause-from_file g c =
+pub returns-in-Ok-migrate_watched-clause-from_file : goal.returns-in-Ok-migrate_watched-clause-from_file
+returns-in-Ok-migrate_watched-clause-from_file g c =
     let d = c.args.machine.now.desc in
-    let m = c.in-Ok-migrate.migrated in
+    let m = c.in-Ok-migrate_watched.migrated in
     record {
       was = c.in-Ok.bytes.items;
       held = c.in-Ok.ensures.ok;
-      migrated = subst (λ bs. IsMigrated d Plain bs m.cert) c.deref.ensures.value c.in-Ok-migrate.ensures.migrated;
+      migrated = subst (λ bs. IsMigrated d Plain bs m.cert) c.deref.ensures.value c.in-Ok-migrate_watched.ensures.migrated;
     }
 
 pub returns-clause-comes : goal.returns-clause-comes
 returns-clause-comes g c =
     let d = c.args.machine.now.desc in
-    held_stops (λ (m : Migrated). m.report) d (g.F.Shelf.files c.args.shelf.now) c.args.name.now c.in-Ok.bytes.items c.in-Err-migrate.fault c.stop_of_text.result
+    held_stops (λ (m : Migrated). m.report) d (g.F.Shelf.files c.args.shelf.now) c.args.name.now c.in-Ok.bytes.items c.in-Err-migrate_watched.fault c.stop_of_text.result
     (g.F.Shelf.reads c.args.shelf.now) (g.F.Shelf.reads c.load_file.new.shelf) c.in-Ok.ensures.ok
-    (subst (λ bs. IsAnswer (verified_whole d Plain bs) (Err c.in-Err-migrate.fault)) c.deref.ensures.value c.in-Err-migrate.ensures.answer)
+    (subst (λ bs. IsAnswer (verified_whole d Plain bs) (Err c.in-Err-migrate_watched.fault)) c.deref.ensures.value c.in-Err-migrate_watched.ensures.answer)
     c.stop_of_text.ensures

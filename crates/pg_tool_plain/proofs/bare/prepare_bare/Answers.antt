@@ -41,8 +41,9 @@ returns-in-Ok-load_image-clause-comes g c =
     let b = c.args.words.now in
     let d = c.in-Ok.machine.desc in
     let most : c.shape.result.now.q ≡ d.size = ap (λ s. s.q) c.shape.ensures.numbers in
-    subst (λ n. BareDue b told (Came (record { desc = d; image = c.in-Ok-load_image.image; grant = c.cells-grant.result; steps = n }))) (sym c.count.ensures.count)
+    subst (λ m. BareDue b told (Came (record { desc = m; image = c.in-Ok-load_image.image; grant = c.cells-grant.result; steps = c.count-steps.result }))) (sym c.learned-machine.ensures.same)
+    (subst (λ n. BareDue b told (Came (record { desc = d; image = c.in-Ok-load_image.image; grant = c.cells-grant.result; steps = n }))) (sym c.count-steps.ensures.count)
     (subst (λ n. BareDue b told (Came (record { desc = d; image = c.in-Ok-load_image.image; grant = n; steps = b.steps }))) (sym c.cells-grant.ensures.cells)
     (bare-runs told b d c.in-Ok-load_image.image c.in-Ok.ensures.comes (omega (arith, most, c.if-grant-most.false, c.cells-grant.ensures.cells))
     (same_three (λ files w grant. ImageDue files 0 b.image w grant (Came c.in-Ok-load_image.image)) _ _ _ _ _ _
-    c.load_machine.ensures.reads.same_files (ap (λ s. s.w) c.shape-2.ensures.numbers) c.cells-grant.ensures.cells c.in-Ok-load_image.ensures.comes)))
+    c.load_machine.ensures.reads.same_files (ap (λ s. s.w) c.shape-2.ensures.numbers) c.cells-grant.ensures.cells c.in-Ok-load_image.ensures.comes))))

@@ -4,6 +4,7 @@ use Rattle.pg_hw.specs.Machinery.{at_psw}
 use Rattle.pg_hw.specs.Bursts.{untrapped_among, burst_length}
 use Rattle.pg_hw.proofs.BurstLaws.{steps-one, burst_length-trap, untrapped_at-trap, untrapped_among-one}
 use Rattle.pg_hw.proofs.IdleLaws.{step-idle_by, traps-idle}
+use Rattle.pg_hw.proofs.StillLemmas.{NoneStays-none, NoneStays-next, trap-moves}
 use Rattle.pg_hw.proofs.idle.IdlingWorks.run.Goals as goal
 
 pub returns-then-k-eq0-clause-done : goal.returns-then-k-eq0-clause-done
@@ -33,3 +34,12 @@ pub returns-clause-untrapped : goal.returns-clause-untrapped
 returns-clause-untrapped c =
     let s = at_psw c.args.cells.now c.args.psw in
     sym (untrapped_among-one c.args.m.now.desc s ∙ untrapped_at-trap c.args.m.now.desc s (traps-idle c.args.m.now.desc s c.requires.known))
+
+pub returns-then-k-eq0-clause-still : goal.returns-then-k-eq0-clause-still
+returns-then-k-eq0-clause-still c = NoneStays-none c.args.m.now.desc (at_psw c.args.cells.now c.args.psw)
+
+pub returns-clause-still : goal.returns-clause-still
+unfolding steps
+returns-clause-still c =
+    let s = at_psw c.args.cells.now c.args.psw in
+    NoneStays-next c.args.m.now.desc 0 s (NoneStays-none c.args.m.now.desc s) (trap-moves c.args.m.now.desc s (traps-idle c.args.m.now.desc s c.requires.known))

@@ -13,5 +13,5 @@ invariant-loop-k g l = record {
   number : length l.self.guests ≡ length l.initial.self.guests;
   fixed : g.H.Hardware.fixed l.hw ≡ g.H.Hardware.fixed l.initial.hw;
   followed : HybridFollowed l.initial.self.accepted.machine.now.desc (round_of 0 l.k l.turns) (g.H.Hardware.machinery l.initial.hw) (g.H.Hardware.machinery l.hw)
-      l.initial.self.guests l.self.guests;
+      l.initial.self.guests l.self.guests l.initial.self.current l.self.current;
 }

@@ -5,6 +5,7 @@ use Rattle.pg_control.specs.Current.{Holds}
 use Rattle.pg_control.specs.Standing.{Stands}
 use Rattle.pg_control.proofs.GuestLemmas.{Holds-of}
 use Rattle.pg_control.proofs.OwnLemmas.{owned-set}
+use Rattle.pg_hybrid.specs.Turns.{HybridTurned}
 use Rattle.pg_hybrid.proofs.TurnedLemmas.{Interpreted-machine, turned-interpreted, stands-interpreted}
 use Rattle.pg_hybrid.proofs.hybrid.Hybrid.interpret_turn.Goals as goal
 
@@ -37,11 +38,13 @@ returns-clause-stands g c =
 pub returns-clause-turned : goal.returns-clause-turned
 returns-clause-turned g c =
     let m = c.args.self.now.accepted.machine.now in
-    turned-interpreted m.desc c.args.k _ _ c.args.self.now.guests _ c.args.self.now.current c.guest-guest.result _
+    subst (λ (o : Option ℕ). HybridTurned m.desc c.args.k 1 (g.H.Hardware.machinery c.args.hw.now) (g.H.Hardware.machinery c.interpret.new.hw) c.args.self.now.guests c.set.new.self c.args.self.now.current o)
+    (sym c.without-self.ensures)
+    (turned-interpreted m.desc c.args.k _ _ c.args.self.now.guests _ c.args.self.now.current c.guest-guest.result _
     (record {
       stands = c.requires.stands;
       is = c.guest-guest.ensures;
       mode = c.requires.supervisor c.guest-guest.result c.guest-guest.ensures;
       done = Interpreted-machine m.desc c.machine-machine.result.now.desc _ _ _ _ (ap (λ (x : Machine). x.desc) c.machine-machine.ensures.same) c.interpret.ensures.interpreted;
       set = c.set.ensures;
-    })
+    }))

@@ -11,5 +11,5 @@ invariant-loop-turn g l = record {
   stands : Stands l.initial.self.accepted.machine.now.desc (g.H.Hardware.machinery l.hw).state l.self.guests l.self.current;
   known : length l.self.guests ≡ length l.initial.self.guests;
   fixed : g.H.Hardware.fixed l.hw ≡ g.H.Hardware.fixed l.initial.hw;
-  followed : HybridFollowed l.initial.self.accepted.machine.now.desc (take l.turn-index l.plan) (g.H.Hardware.machinery l.initial.hw) (g.H.Hardware.machinery l.hw) l.initial.self.guests l.self.guests;
+  followed : HybridFollowed l.initial.self.accepted.machine.now.desc (take l.turn-index l.plan) (g.H.Hardware.machinery l.initial.hw) (g.H.Hardware.machinery l.hw) l.initial.self.guests l.self.guests l.initial.self.current l.self.current;
 }

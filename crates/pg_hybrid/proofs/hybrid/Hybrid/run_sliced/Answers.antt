@@ -9,24 +9,24 @@ loop-preserved g c =
     let d = c.args.self.now.accepted.machine.now.desc in
     let before = c.loop.invariant in
     let same = ap (λ (x : Machine). x.desc) before.machine in
-    let one = Followed-alike d c.loop.self.accepted.machine.now.desc (length c.args.self.now.guests) _ c.args.slice _ _ _ _ _ c.go_round.ensures.followed same before.number (omega arith) in
+    let one = Followed-alike d c.loop.self.accepted.machine.now.desc (length c.args.self.now.guests) _ c.args.slice _ _ _ _ _ _ _ c.go_round.ensures.followed same before.number (omega arith) in
     record {
       machine = c.go_round.ensures.machine ∙ before.machine;
       granted = c.go_round.ensures.granted ∙ before.granted;
       stands = subst (λ x. Stands x (g.H.Hardware.machinery c.go_round.new.hw).state c.go_round.new.self.guests c.go_round.new.self.current) same c.go_round.ensures.stands;
       number = c.go_round.ensures.number ∙ before.number;
       fixed = c.go_round.ensures.fixed ∙ before.fixed;
-      followed = Followed-round d (length c.args.self.now.guests) c.args.slice c.loop.counter _ _ _ _ _ _ before.followed one;
+      followed = Followed-round d (length c.args.self.now.guests) c.args.slice c.loop.counter _ _ _ _ _ _ _ _ _ before.followed one;
     }
 
 pub returns-clause-followed : goal.returns-clause-followed
 returns-clause-followed g c =
     let d = c.args.self.now.accepted.machine.now.desc in
     let before = c.loop.invariant in
-    let last = Followed-alike d c.loop.self.accepted.machine.now.desc (length c.args.self.now.guests) _ (c.args.n % c.args.slice) _ _ _ _ _ c.go_round-2.ensures.followed
+    let last = Followed-alike d c.loop.self.accepted.machine.now.desc (length c.args.self.now.guests) _ (c.args.n % c.args.slice) _ _ _ _ _ _ _ c.go_round-2.ensures.followed
     (ap (λ (x : Machine). x.desc) before.machine) before.number (omega arith) in
-    Followed-schedule d (length c.args.self.now.guests) c.args.slice c.args.n c.loop.counter _ _ _ _ _ _ (omega arith) before.followed last
+    Followed-schedule d (length c.args.self.now.guests) c.args.slice c.args.n c.loop.counter _ _ _ _ _ _ _ _ _ (omega arith) before.followed last
 
 pub returns-clause-states : goal.returns-clause-states
 returns-clause-states g c =
-    Followed-states c.args.self.now.accepted.machine.now.desc c.args.slice c.args.n _ _ c.args.self.now.guests _ (returns-clause-followed g c)
+    Followed-states c.args.self.now.accepted.machine.now.desc c.args.slice c.args.n _ _ c.args.self.now.guests _ _ _ (returns-clause-followed g c)

@@ -13,5 +13,5 @@ invariant-loop g l = record {
   number : length l.self.guests ≡ length l.initial.self.guests;
   fixed : g.H.Hardware.fixed l.hw ≡ g.H.Hardware.fixed l.initial.hw;
   followed : HybridFollowed l.initial.self.accepted.machine.now.desc (rounds_of (length l.initial.self.guests) l.slice l.counter)
-      (g.H.Hardware.machinery l.initial.hw) (g.H.Hardware.machinery l.hw) l.initial.self.guests l.self.guests;
+      (g.H.Hardware.machinery l.initial.hw) (g.H.Hardware.machinery l.hw) l.initial.self.guests l.self.guests l.initial.self.current l.self.current;
 }

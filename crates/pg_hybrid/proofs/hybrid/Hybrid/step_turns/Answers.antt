@@ -3,6 +3,7 @@ use Rattle.pg_machine.specs.declared.machine.Machine.{Machine}
 use Rattle.pg_control.specs.declared.guest.Guest.{Guest}
 use Rattle.pg_control.specs.Standing.{Stands}
 use Rattle.pg_control.proofs.OwnLemmas.{owned-set}
+use Rattle.pg_hybrid.specs.Turns.{HybridTurned}
 use Rattle.pg_hybrid.proofs.TurnedLemmas.{Stepped-machine, stepped-once, turned-stepped, stands-stepped}
 use Rattle.pg_hybrid.proofs.hybrid.Hybrid.step_turns.Goals as goal
 
@@ -28,6 +29,7 @@ returns-clause-stands g c =
       tally = c.select-guest.ensures.tally;
       bottom = c.select-guest.ensures.bottom;
       least = c.burst_on-burst.ensures.least;
+      mode = c.requires.user c.select-guest.result (ap (λ (l : List Guest). slice_get l c.args.k) (sym c.as_slice.ensures) ∙ c.select-guest.ensures.guest);
       done = Stepped-machine m.desc c.machine-machine.result.now.desc _ _ _ _ _ _ (ap (λ (x : Machine). x.desc) c.machine-machine.ensures.same) c.burst_on-burst.ensures.stepped;
       set = c.set.ensures;
     }))
@@ -35,7 +37,9 @@ returns-clause-stands g c =
 pub returns-clause-turned : goal.returns-clause-turned
 returns-clause-turned g c =
     let m = c.args.self.now.accepted.machine.now in
-    turned-stepped m.desc c.args.k c.burst_on-burst.result.done c.burst_on-burst.result.goes_on _ (g.H.Hardware.machinery c.select-guest.new.hw) _ c.args.self.now.guests _
+    subst (λ (o : Option ℕ). HybridTurned m.desc c.args.k c.burst_on-burst.result.done (g.H.Hardware.machinery c.args.hw.now) (g.H.Hardware.machinery c.burst_on-burst.new.hw)
+    c.args.self.now.guests c.set.new.self c.args.self.now.current o) (sym c.then_some-self.ensures)
+    (turned-stepped m.desc c.args.k c.burst_on-burst.result.done c.burst_on-burst.result.goes_on _ (g.H.Hardware.machinery c.select-guest.new.hw) _ c.args.self.now.guests _
     c.args.self.now.current c.select-guest.result _
     (record {
       stands = c.requires.stands;
@@ -44,9 +48,10 @@ returns-clause-turned g c =
       tally = c.select-guest.ensures.tally;
       bottom = c.select-guest.ensures.bottom;
       least = c.burst_on-burst.ensures.least;
+      mode = c.requires.user c.select-guest.result (ap (λ (l : List Guest). slice_get l c.args.k) (sym c.as_slice.ensures) ∙ c.select-guest.ensures.guest);
       done = Stepped-machine m.desc c.machine-machine.result.now.desc _ _ _ _ _ _ (ap (λ (x : Machine). x.desc) c.machine-machine.ensures.same) c.burst_on-burst.ensures.stepped;
       set = c.set.ensures;
-    })
+    }))
 
 pub returns-clause-direct : goal.returns-clause-direct
 returns-clause-direct g c = λ h is current one direct.

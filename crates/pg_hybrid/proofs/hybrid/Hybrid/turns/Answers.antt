@@ -14,7 +14,7 @@ loop-left-init g c =
       granted = refl;
       stands = c.requires.stands;
       number = refl;
-      turned = Turned-count d c.args.k 0 (c.args.n - c.args.n) _ _ _ _ (omega arith) (Turned-zero d c.args.k _ c.args.self.now.guests c.requires.known);
+      turned = Turned-count d c.args.k 0 (c.args.n - c.args.n) _ _ _ _ _ _ (omega arith) (Turned-zero d c.args.k _ c.args.self.now.guests _ c.requires.known);
       fixed = refl;
     }
 
@@ -24,19 +24,19 @@ loop-left-preserved g c =
     let before = c.loop-left.invariant in
     let within = before.most in
     let same = ap (λ (x : Machine). x.desc) before.machine in
-    let one = Turned-machine d c.loop-left.self.accepted.machine.now.desc _ _ _ _ _ _ same c.turn_on-left.ensures.turned in
+    let one = Turned-machine d c.loop-left.self.accepted.machine.now.desc _ _ _ _ _ _ _ _ same c.turn_on-left.ensures.turned in
     record {
       most = omega (arith, within);
       machine = c.turn_on-left.ensures.machine ∙ before.machine;
       granted = c.turn_on-left.ensures.granted ∙ before.granted;
       stands = subst (λ x. Stands x (g.H.Hardware.machinery c.turn_on-left.new.hw).state c.turn_on-left.new.self.guests c.turn_on-left.new.self.current) same c.turn_on-left.ensures.stands;
       number = grants-length _ _ one.grants ∙ before.number;
-      turned = Turned-count d c.args.k ((c.args.n - c.loop-left.left) + c.turn_on-left.result) (c.args.n - (c.loop-left.left - c.turn_on-left.result)) _ _ _ _
+      turned = Turned-count d c.args.k ((c.args.n - c.loop-left.left) + c.turn_on-left.result) (c.args.n - (c.loop-left.left - c.turn_on-left.result)) _ _ _ _ _ _
           (omega (arith, within, c.turn_on-left.ensures.most))
-          (Turned-then d c.args.k _ _ _ _ _ _ _ _ before.turned one);
+          (Turned-then d c.args.k _ _ _ _ _ _ _ _ _ _ _ before.turned one);
       fixed = c.turn_on-left.ensures.fixed ∙ before.fixed;
     }
 
 pub returns-clause-turned : goal.returns-clause-turned
 returns-clause-turned g c =
-    Turned-count c.args.self.now.accepted.machine.now.desc c.args.k (c.args.n - c.loop-left.left) c.args.n _ _ _ _ (omega (arith, c.loop-left-test.false)) c.loop-left.invariant.turned
+    Turned-count c.args.self.now.accepted.machine.now.desc c.args.k (c.args.n - c.loop-left.left) c.args.n _ _ _ _ _ _ (omega (arith, c.loop-left-test.false)) c.loop-left.invariant.turned

@@ -11,7 +11,7 @@ invariant-loop-left g l = record {
   granted : l.self.granted ≡ l.initial.self.granted;
   stands : Stands l.initial.self.accepted.machine.now.desc (g.H.Hardware.machinery l.hw).state l.self.guests l.self.current;
   number : length l.self.guests ≡ length l.initial.self.guests;
-  turned : HybridTurned l.initial.self.accepted.machine.now.desc l.k (l.n - l.left) (g.H.Hardware.machinery l.initial.hw) (g.H.Hardware.machinery l.hw) l.initial.self.guests l.self.guests;
+  turned : HybridTurned l.initial.self.accepted.machine.now.desc l.k (l.n - l.left) (g.H.Hardware.machinery l.initial.hw) (g.H.Hardware.machinery l.hw) l.initial.self.guests l.self.guests l.initial.self.current l.self.current;
   fixed : g.H.Hardware.fixed l.hw ≡ g.H.Hardware.fixed l.initial.hw;
 }
 

@@ -14,13 +14,14 @@ pub hold-requires-clause-home : goal.hold-requires-clause-home
 hold-requires-clause-home c =
     let s = c.self.inside in
     rw c.as_slice-literals.ensures
-    (home_of_valid s.variables s.clauses.items s.literals s.standing s.numbers s.hung.items c.args.step.now (search rules) c.self.invariant)
+    (home_of_valid s.variables s.clauses s.literals s.standing s.numbers s.hung.heads.items s.hung.links.items s.hung.made c.args.step.now (search rules) c.self.invariant)
 
 pub invariant_of-self-2 : goal.invariant_of-self-2
 invariant_of-self-2 c =
     let s = c.self.inside in
-    IsKept-added s.variables s.clauses.items c.hold.new.clauses.items s.literals c.fault_of.new.flags s.standing s.numbers c.make_room.new.flags s.hung.items c.hold.new.hung.items
-    c.args.step.now (search rules) c.fault_of.ensures.places (search rules) (search rules) (search rules) c.self.invariant
+    IsKept-added s.variables s.clauses c.hold.new.clauses s.literals c.fault_of.new.flags s.standing s.numbers c.make_room.new.flags s.hung.heads.items s.hung.links.items
+    c.hold.new.hung.heads.items c.hold.new.hung.links.items s.hung.made c.hold.new.hung.made c.args.step.now (search rules) c.fault_of.ensures.places (search rules)
+    (search rules) (search rules) c.hold.ensures.places c.hold.ensures.hung c.self.invariant
 
 pub returns-clause-sound : goal.returns-clause-sound
 returns-clause-sound c =

@@ -1,13 +1,22 @@
-use Rattle.std.proofs.Common.{Option, subst}
+use Rattle.std.proofs.Common.{Option, Err, ap, subst}
 use Rattle.pg_cert.specs.declared.cert.Family.TheVariants.{Plain}
 use Rattle.pg_edge.specs.Shelf.{Files}
 use Rattle.pg_judged.specs.Certificates.{CertDue}
 use Rattle.pg_steps.specs.Answering.{Comes}
-use Rattle.pg_side.proofs.CertLemmas.{comes-later, read-due, read-accepts, read-whole, read-fit}
+use Rattle.pg_side.proofs.CertLemmas.{unread-comes, comes-later, read-due, read-accepts, read-whole, read-fit}
 use Rattle.pg_side.proofs.trace.certificate.load_either.Goals as goal
 
-pub returns-in-Err-clause-comes : goal.returns-in-Err-clause-comes
-returns-in-Err-clause-comes g c = (Plain, tt)
+pub returns-in-Err-Failed-clause-comes : goal.returns-in-Err-Failed-clause-comes
+returns-in-Err-Failed-clause-comes g c =
+    let before = g.F.Shelf.reads c.args.shelf.now in
+    let after = g.F.Shelf.reads c.family_of.new.shelf in (
+      Plain,
+      unread-comes c.args.machine.now.desc Plain (g.F.Shelf.files c.args.shelf.now) c.args.name.now before after
+          (c.in-Err-Failed.ensures.failed (ap Err c.in-Err-Failed.field-0-is)),
+    )
+
+pub returns-in-Err-Memory-clause-comes : goal.returns-in-Err-Memory-clause-comes
+returns-in-Err-Memory-clause-comes g c = (Plain, tt)
 
 pub returns-in-Ok-clause-comes : goal.returns-in-Ok-clause-comes
 returns-in-Ok-clause-comes g c =
@@ -18,8 +27,8 @@ returns-in-Ok-clause-comes g c =
     let after = g.F.Shelf.reads c.load_certificate.new.shelf in
     let family = c.in-Ok.family in (
       family,
-      comes-later (λ report. report) (CertDue d family (g.F.Shelf.files c.args.shelf.now) name) before mid after c.load_certificate.result c.family_of.ensures.later
-          (subst (λ (files : Option Files). Comes (λ report. report) (CertDue d family files name) mid after c.load_certificate.result) c.family_of.ensures.same_files
+      comes-later (λ report. report) (CertDue d family (g.F.Shelf.files c.args.shelf.now) name) before mid after c.load_certificate.result c.family_of.ensures.reads.later
+          (subst (λ (files : Option Files). Comes (λ report. report) (CertDue d family files name) mid after c.load_certificate.result) c.family_of.ensures.reads.same_files
           c.load_certificate.ensures.comes),
     )
 
@@ -30,7 +39,7 @@ returns-in-Ok-clause-came g c =
     let mid = g.F.Shelf.reads c.family_of.new.shelf in
     let after = g.F.Shelf.reads c.load_certificate.new.shelf in
     read-due d c.in-Ok.family (g.F.Shelf.files c.args.shelf.now) name mid after c.load_certificate.result c.args.machine.now.valid
-    (subst (λ (files : Option Files). Comes (λ report. report) (CertDue d c.in-Ok.family files name) mid after c.load_certificate.result) c.family_of.ensures.same_files
+    (subst (λ (files : Option Files). Comes (λ report. report) (CertDue d c.in-Ok.family files name) mid after c.load_certificate.result) c.family_of.ensures.reads.same_files
     c.load_certificate.ensures.comes)
 
 pub returns-in-Ok-clause-accepts : goal.returns-in-Ok-clause-accepts

@@ -1,0 +1,283 @@
+//! What says from time to time how far a long command has come.
+//!
+//! On a terminal that is one line, written over when a second has passed; elsewhere a line of its own each 30 seconds, so that a short
+//! command writes none. The clock is looked at once in 1,024 turns of a search, which are some 500 conflicts, or more often where turns
+//! take long (`rhythm`), and once for each part of a file: less than a hundredth of the time. Texts are made in buffers that were made
+//! before, so that no memory is taken on the way.
+
+use crate::program::Program;
+use crate::rhythm::Rhythm;
+use itoa::Buffer;
+use pg_cert::put::kind_name;
+use pg_host::Progress;
+use pg_host::telling::note;
+use pg_type::Kind;
+use std::alloc::{AllocError, Global};
+use std::cell::RefCell;
+use std::io::Write;
+use std::rt::Clock;
+use std::time::Instant;
+
+/// After how many seconds the line on a terminal is written anew.
+const SHOWN_EVERY: u64 = 1;
+
+/// After how many seconds a line is written elsewhere.
+const NOTED_EVERY: u64 = 30;
+
+/// A certificate of more bytes is a long one.
+const LONG_FILE: u64 = 10_000_000;
+
+/// How many bytes there is room for in a text.
+const TEXT_BYTES: usize = 256;
+
+/// How many bytes of a file's name stand in it.
+const NAME_BYTES: usize = 100;
+
+/// Where a text goes.
+#[derive(Drop)]
+pub struct Lines<'a, E: Write + Drop> {
+    /// The program that speaks.
+    pub program: Program,
+    /// The line that is written over, on a terminal.
+    pub line: &'a RefCell<Progress<E>>,
+    /// Whether it is one.
+    pub is_terminal: bool,
+    /// Standard error, for lines of their own.
+    pub error: E,
+}
+
+/// A question that is searched.
+#[derive(Drop)]
+struct Question {
+    /// The name of the instruction and the kind.
+    name: Vec<u8>,
+    /// Its number, from 1, and how many there are.
+    number: usize,
+    count: usize,
+    /// How many clauses were learned of those that may be, once that was told.
+    learned: usize,
+    budget: Option<u32>,
+    /// Whether that is of the second search, after one that spent the budget.
+    is_again: bool,
+}
+
+/// What says from time to time how far a command has come.
+#[derive(Drop)]
+pub struct Ticker<'a, C: Clock, E: Write + Drop> {
+    clock: &'a C,
+    lines: Lines<'a, E>,
+    question: Question,
+    text: Vec<u8>,
+    /// When the first was told, and how many seconds after that the last.
+    begun: Option<Instant>,
+    told: u64,
+    rhythm: Rhythm,
+}
+
+impl<'a, C: Clock, E: Write + Drop> Ticker<'a, C, E> {
+    /// One that has said nothing yet.
+    pub fn new(alloc: Global, clock: &'a C, lines: Lines<'a, E>) -> Ticker<'a, C, E> {
+        Ticker {
+            clock,
+            lines,
+            question: Question::none(alloc),
+            text: buffer(alloc),
+            begun: None,
+            told: 0,
+            rhythm: Rhythm::new(),
+        }
+    }
+
+    /// A question is next; with it, so many are left. On a terminal it is shown at once.
+    pub fn ask(&mut self, name: &[u8], kind: Kind, left: usize) {
+        self.question.begin(name, kind, left);
+        self.rhythm = Rhythm::new();
+        let seconds = self.seconds();
+        if self.lines.is_terminal || self.is_due(seconds) {
+            self.tell_question(seconds);
+        }
+    }
+
+    /// Its search has learned so many clauses of those that it may learn.
+    pub fn search(&mut self, learned: usize, budget: u32) {
+        self.question.learn(learned, budget);
+        if self.rhythm.beats() {
+            let seconds = self.seconds();
+            if self.is_due(seconds) {
+                self.tell_question(seconds);
+            }
+        }
+    }
+
+    /// So many bytes of a file were read, where it is a long one.
+    pub fn read(&mut self, name: &str, done: u64, all: u64) {
+        if all > LONG_FILE {
+            let is_first = self.begun.is_none();
+            let seconds = self.seconds();
+            if (is_first && self.lines.is_terminal) || self.is_due(seconds) {
+                self.told = seconds;
+                if put_read(&mut self.text, name, done, all, seconds).is_ok() {
+                    self.write();
+                }
+            }
+        }
+    }
+
+    /// How many seconds ago the first was told. A clock that fails stands still.
+    fn seconds(&mut self) -> u64 {
+        let Ok(now) = Instant::now(self.clock) else {
+            return self.told;
+        };
+        self.rhythm.look(now);
+        match self.begun {
+            Some(begun) => now.duration_since(begun).as_secs(),
+            None => {
+                self.begun = Some(now);
+                0
+            }
+        }
+    }
+
+    /// Whether it is time to tell something.
+    fn is_due(&self, seconds: u64) -> bool {
+        let every = if self.lines.is_terminal {
+            SHOWN_EVERY
+        } else {
+            NOTED_EVERY
+        };
+        seconds.saturating_sub(self.told) >= every
+    }
+
+    /// Tells which question is searched, and how far.
+    fn tell_question(&mut self, seconds: u64) {
+        self.told = seconds;
+        if put_question(&mut self.text, &self.question, seconds).is_ok() {
+            self.write();
+        }
+    }
+
+    /// Writes the text. That this fails changes nothing.
+    fn write(&mut self) {
+        let program = self.lines.program.name();
+        if self.lines.is_terminal {
+            if let Ok(mut line) = self.lines.line.try_borrow_mut() {
+                line.show(program, self.text.as_slice());
+            }
+        } else {
+            let _ = note(&mut self.lines.error, program, self.text.as_slice());
+        }
+    }
+
+    /// Erases the line, where it is shown.
+    pub fn erase(&mut self) {
+        if let Ok(mut line) = self.lines.line.try_borrow_mut() {
+            line.erase();
+        }
+    }
+}
+
+impl Question {
+    /// None yet.
+    fn none(alloc: Global) -> Question {
+        Question {
+            name: buffer(alloc),
+            number: 0,
+            count: 0,
+            learned: 0,
+            budget: None,
+            is_again: false,
+        }
+    }
+
+    /// One is next; with it, so many are left: all there are, where it is the first.
+    fn begin(&mut self, name: &[u8], kind: Kind, left: usize) {
+        if left > self.count.saturating_sub(self.number) {
+            self.count = left;
+        }
+        self.number = self.count.saturating_sub(left).saturating_add(1);
+        self.learned = 0;
+        self.budget = None;
+        self.is_again = false;
+        if put_name(&mut self.name, name, kind).is_err() {
+            self.name.clear();
+        }
+    }
+
+    /// So many clauses were learned. Where they were more before, that is another search.
+    fn learn(&mut self, learned: usize, budget: u32) {
+        self.is_again |= learned < self.learned;
+        self.learned = learned;
+        self.budget = Some(budget);
+    }
+}
+
+/// A buffer with room for a text, if there is memory for it.
+fn buffer(alloc: Global) -> Vec<u8> {
+    match Vec::with_capacity(alloc, TEXT_BYTES) {
+        Ok(made) => made,
+        Err(_) => Vec::new(alloc),
+    }
+}
+
+/// Makes the name of a question. The error is want of memory.
+fn put_name(to: &mut Vec<u8>, name: &[u8], kind: Kind) -> Result<(), AllocError> {
+    to.clear();
+    to.extend_from_slice(name)?;
+    to.push(b' ')?;
+    to.extend_from_slice(kind_name(kind))?;
+    Ok(())
+}
+
+/// Makes the text of a question: `question K of N, LEARNED of BUDGET clauses, S s: NAME`. The error is want of memory.
+fn put_question(to: &mut Vec<u8>, question: &Question, seconds: u64) -> Result<(), AllocError> {
+    to.clear();
+    to.extend_from_slice(b"question ")?;
+    put_share(to, question.number as u64, question.count as u64)?;
+    to.extend_from_slice(b", ")?;
+    if let Some(budget) = question.budget {
+        if question.is_again {
+            to.extend_from_slice(b"again ")?;
+        }
+        put_share(to, question.learned as u64, u64::from(budget))?;
+        to.extend_from_slice(b" clauses, ")?;
+    }
+    put_seconds(to, seconds)?;
+    to.extend_from_slice(question.name.as_slice())?;
+    Ok(())
+}
+
+/// Makes the text of a file that is read: `DONE of ALL bytes read, S s: NAME`. The error is want of memory.
+fn put_read(
+    to: &mut Vec<u8>,
+    name: &str,
+    done: u64,
+    all: u64,
+    seconds: u64,
+) -> Result<(), AllocError> {
+    to.clear();
+    put_share(to, done, all)?;
+    to.extend_from_slice(b" bytes read, ")?;
+    put_seconds(to, seconds)?;
+    to.extend_from_slice(front(name.as_bytes()))?;
+    Ok(())
+}
+
+/// As much of a file's name as there is room for.
+fn front(name: &[u8]) -> &[u8] {
+    &name[..name.len().min(NAME_BYTES)]
+}
+
+/// Pushes `PART of WHOLE`. The error is want of memory.
+fn put_share(to: &mut Vec<u8>, part: u64, whole: u64) -> Result<(), AllocError> {
+    to.extend_from_slice(Buffer::new().format(part).as_bytes())?;
+    to.extend_from_slice(b" of ")?;
+    to.extend_from_slice(Buffer::new().format(whole).as_bytes())?;
+    Ok(())
+}
+
+/// Pushes `S s: `. The error is want of memory.
+fn put_seconds(to: &mut Vec<u8>, seconds: u64) -> Result<(), AllocError> {
+    to.extend_from_slice(Buffer::new().format(seconds).as_bytes())?;
+    to.extend_from_slice(b" s: ")?;
+    Ok(())
+}

@@ -1,0 +1,52 @@
+//! The state that a hardware holds.
+
+ghost use Rattle.std.specs.Prelude.{◌<◌, length};
+
+use crate::state::{push_begun, push_cell, push_ended};
+use crate::value::Text;
+use pg_edge::Sink;
+use pg_hw::Hardware;
+use pg_machine::Machine;
+use pg_traced::TraceFault;
+use std::alloc::AllocError;
+
+/// How many bytes of a state are held before they are put.
+const HELD: usize = 16_384;
+
+/// Puts the state of a hardware behind what a buffer holds, which is put before it and then holds nothing.
+pub fn put_held<H: Hardware, S: Sink>(
+    out: &mut S,
+    text: &mut Text,
+    m: &Machine,
+    hw: &H,
+) -> Result<(), TraceFault> {
+    push_begun(text, u64::from(hw.size()), hw.psw())?;
+    let mut next = None;
+    for at in 0..hw.size() {
+        next = push_held(text, m, hw, next, at)?;
+        if text.len() > HELD {
+            out.put(text.as_slice())?;
+            text.clear();
+        }
+    }
+    push_ended(text, next)?;
+    out.put(text.as_slice())?;
+    text.clear();
+    Ok(())
+}
+
+/// Pushes a cell of a hardware, where it is not zero.
+fn push_held<H: Hardware>(
+    text: &mut Text,
+    m: &Machine,
+    hw: &H,
+    next: Option<u64>,
+    at: u32,
+) -> Result<Option<u64>, AllocError>
+    requires { at < length (H.machinery hw.now).state.cells }
+{
+    match hw.peek(at) {
+        0 => Ok(next),
+        word => push_cell(text, m, next, at, word),
+    }
+}

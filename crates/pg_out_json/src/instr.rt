@@ -1,0 +1,87 @@
+//! An instruction. Each error is want of memory.
+
+use crate::list::push_marked;
+use crate::source::Source;
+use crate::touched::{Parts, touches_of};
+use crate::value::{Text, push, push_flag, push_number, push_string};
+use pg_asm::{LetterField, fields_of};
+use pg_machine::Machine;
+use std::alloc::{AllocError, Global};
+
+/// Pushes an instruction of a machine, up to its findings: `{"name":..,"findings":[`. Nothing is pushed of a number that it has
+/// not, but the begin of a list.
+pub fn push_instr(
+    alloc: Global,
+    text: &mut Text,
+    m: &Machine,
+    number: usize,
+    source: Option<&Source>,
+    is_refused: bool,
+) -> Result<(), AllocError> {
+    push(text, b"{")?;
+    if let Some(instr) = m.desc.instrs.as_slice().get(number) {
+        push(text, b"\"name\":")?;
+        push_string(text, instr.name.as_bytes())?;
+        push(text, b",\"pattern\":")?;
+        push_string(text, instr.pattern.as_bytes())?;
+        push(text, b",\"fields\":")?;
+        push_fields(text, instr.pattern.as_bytes())?;
+        push_source(alloc, text, source)?;
+        push(text, b",\"refused\":")?;
+        push_flag(text, is_refused)?;
+        push(text, b",")?;
+    }
+    push(text, b"\"findings\":[")
+}
+
+/// Pushes the fields of a pattern, which in a machine has at most 64 places.
+fn push_fields(text: &mut Text, pattern: &[u8]) -> Result<(), AllocError> {
+    push(text, b"[")?;
+    let fields = fields_of(&pattern[..pattern.len().min(64)]);
+    let mut is_first = true;
+    for field in fields.as_slice() {
+        push(text, if is_first { b"" } else { b"," })?;
+        push_field(text, field)?;
+        is_first = false;
+    }
+    push(text, b"]")
+}
+
+/// Pushes a field: its letter, its lowest bit, and how many bits it has.
+fn push_field(text: &mut Text, field: &LetterField) -> Result<(), AllocError> {
+    push(text, b"{\"letter\":")?;
+    push_string(text, &[field.letter])?;
+    push(text, b",\"low\":")?;
+    push_number(text, field.low as u64)?;
+    push(text, b",\"width\":")?;
+    push_number(text, field.width as u64)?;
+    push(text, b"}")
+}
+
+/// Pushes what is known of an instruction by the text of the description.
+fn push_source(alloc: Global, text: &mut Text, source: Option<&Source>) -> Result<(), AllocError> {
+    let Some(source) = source else {
+        return Ok(());
+    };
+    push(text, b",\"line\":")?;
+    push_number(text, source.line)?;
+    push(text, b",\"body\":")?;
+    push_string(text, source.body.as_slice())?;
+    let touched = touches_of(alloc, source.body.as_slice())?;
+    push(text, b",\"reads\":")?;
+    push_parts(text, touched.reads)?;
+    push(text, b",\"writes\":")?;
+    push_parts(text, touched.writes)
+}
+
+/// Pushes which of mode, relocation and bound these are.
+fn push_parts(text: &mut Text, parts: Parts) -> Result<(), AllocError> {
+    push_marked(
+        text,
+        &[
+            (b"mode", parts.mode),
+            (b"rel", parts.rel),
+            (b"bound", parts.bound),
+        ],
+    )
+}
