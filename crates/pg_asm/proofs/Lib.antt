@@ -9,3 +9,9 @@ pub mod TextBytes
 pub mod ShownBack
 pub mod SourceBack
 pub mod SourceFacts
+pub mod LinePlaces
+pub mod LabelPlaces
+pub mod InstrPlaces
+pub mod CellPlaces
+pub mod PlacedLaw
+pub mod PlacedRows

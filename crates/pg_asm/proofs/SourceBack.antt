@@ -259,7 +259,7 @@ none-twice None y h = refl
 none-twice (Some n) y h = absurd (cc h)
 
 -- an instruction of a valid description is found by its name
-name-found : (d : Desc) (k : ℕ) (i : Instruction) → IsValid d → slice_get d.instrs k ≡ Some i → position (λ m. bytes_eq m i.name.bytes) (instr_names d.instrs) ≡ Some k
+pub name-found : (d : Desc) (k : ℕ) (i : Instruction) → IsValid d → slice_get d.instrs k ≡ Some i → position (λ m. bytes_eq m i.name.bytes) (instr_names d.instrs) ≡ Some k
 name-found d k i v at =
     let name : List ℕ = i.name.bytes in
     let names : List (List ℕ) = instr_names d.instrs in

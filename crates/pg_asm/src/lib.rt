@@ -3,7 +3,7 @@
 //! `assemble` reads the text of a source into an image, `listing` writes the text of an image, and `disassemble` writes an image as
 //! a source that gives it. Below them `word_of` makes the word of an instruction and of values for its fields, and `decode` finds
 //! both of a word. The definitions stand in `specs/`: `Words` says which word is meant, `Said` what a line says, `Sources` which
-//! image or fault is due, and `Texts` what is written.
+//! image or fault is due, `Placed` the same by the places of lines, and `Texts` what is written.
 //!
 //! # What the bytes of a source mean
 //!

@@ -22,7 +22,7 @@ use Rattle.pg_judged.specs.Certificates.{IsCertificate}
 use Rattle.pg_judged.specs.Judged.{Judged, verdict_on, verdict_status, verdict_told}
 use Rattle.pg_judged.specs.Telling.{ToldWhole, ToldAs}
 use Rattle.pg_judged.specs.Meaning.{VerdictMeans}
-use Rattle.pg_cmd_saving.specs.Saving.{IsWritten, HoldsNow, HoldsAtMost, IsSaved, EndsSaved, LeavesUnsaved, SavedAs}
+use Rattle.pg_cmd_saving.specs.Saving.{IsWritten, HoldsNow, HoldsAtMost, HasSaved, IsSaved, EndsSaved, LeavesUnsaved, SavedAs}
 use Rattle.pg_steps.specs.declared.status.Status.{Status}
 use Rattle.pg_steps.specs.Classes.{Class, Ended, Unwritten, Unread, OutOfMemory, class_of}
 use Rattle.pg_steps.specs.Commands.{Command, CarriesAs, Carries}
@@ -93,21 +93,21 @@ same_but (Some x) (Some y) P Q h = h.1
 
 module _ (name : List ℕ) (family : Family) (old new : World) (bytes : List ℕ) (j : Judged) (valid : IsValid j.desc)
     (h : IsWritten j.desc family bytes j.report) where
-  pub is_saved : BothTold old.files new.files (HoldsNow name bytes) → IsSaved name j.desc family bytes j.report old new
+  pub is_saved : HasSaved name bytes old new → IsSaved name j.desc family bytes j.report old new
   is_saved saved = record {
     meaning = written_means j.desc family bytes j.report valid h;
     again = written_again j.desc family bytes j.report valid h;
     saved = saved;
   }
 
-  pub ends_saved : new.hw ≡ old.hw → BothTold old.files new.files (HoldsNow name bytes) →
+  pub ends_saved : new.hw ≡ old.hw → HasSaved name bytes old new →
       EndsSaved name family bytes j old new (verdict_status (verdict_on j)) (verdict_told j)
   ends_saved hw saved = record { status = refl; wording = refl; saving = is_saved saved; hw = hw }
 
 -- ---- a command that saves, and tells the verdict
 
 saved-as : (c : Command) (name bytes : List ℕ) (j : Judged) (old new : World) (work : c.Work) (given : Status) (k : Class) → c.due old.files (Came work) → c.saved ≡ Some name →
-    (BothTold old.files new.files (HoldsNow name bytes) → c.ends work old new (verdict_status (verdict_on j)) (verdict_told j)) →
+    (HasSaved name bytes old new → c.ends work old new (verdict_status (verdict_on j)) (verdict_told j)) →
     (LeavesUnsaved name bytes old new → c.unsaved work old new) → SavedAs name bytes j old new given k → CarriesAs c old new given k
 saved-as c name bytes j old new work given Ended due saves ends unsaved h = inr (record {
   work = work;
@@ -125,7 +125,7 @@ saved-as c name bytes j old new work given OutOfMemory due saves ends unsaved h 
 saved-since : (name bytes : List ℕ) (j : Judged) (old mid new : World) (given : Status) (k : Class) → mid.files ≡ old.files → mid.save_faults ≡ old.save_faults →
     mid.out ≡ old.out → mid.hw ≡ old.hw → SavedAs name bytes j mid new given k → SavedAs name bytes j old new given k
 saved-since name bytes j old mid new given Ended files saves out hw h = record {
-  saved = subst (λ f. BothTold f new.files (HoldsNow name bytes)) files h.saved;
+  saved = record { saved = subst (λ f. BothTold f new.files (HoldsNow name bytes)) files h.saved.saved; whole = h.saved.whole ∙ saves };
   told = subst (λ o. ToldWhole j o new.out given) out h.told;
 }
 saved-since name bytes j old mid new given Unwritten files saves out hw (inl h) = inl (record {
@@ -134,14 +134,14 @@ saved-since name bytes j old mid new given Unwritten files saves out hw (inl h) 
   unsaved = record { left = subst (λ f. BothTold f new.files (HoldsAtMost name bytes)) files h.unsaved.left; hw = h.unsaved.hw ∙ hw };
 })
 saved-since name bytes j old mid new given Unwritten files saves out hw (inr h) = inr (record {
-  saved = subst (λ f. BothTold f new.files (HoldsNow name bytes)) files h.saved;
+  saved = record { saved = subst (λ f. BothTold f new.files (HoldsNow name bytes)) files h.saved.saved; whole = h.saved.whole ∙ saves };
   front = subst (λ o. Breaks (verdict_told j) o new.out) out h.front;
 })
 saved-since name bytes j old mid new given Unread files saves out hw h = h
 saved-since name bytes j old mid new given OutOfMemory files saves out hw h = h
 
 pub carries-saved : (c : Command) (name bytes : List ℕ) (j : Judged) (old mid new : World) (work : c.Work) (given : Status) → c.due old.files (Came work) → c.saved ≡ Some name →
-    (BothTold old.files new.files (HoldsNow name bytes) → c.ends work old new (verdict_status (verdict_on j)) (verdict_told j)) →
+    (HasSaved name bytes old new → c.ends work old new (verdict_status (verdict_on j)) (verdict_told j)) →
     (LeavesUnsaved name bytes old new → c.unsaved work old new) →
     mid.files ≡ old.files → mid.save_faults ≡ old.save_faults → mid.out ≡ old.out → mid.hw ≡ old.hw → SavedAs name bytes j mid new given (class_of given) → Carries c old new given
 carries-saved c name bytes j old mid new work given due saves ends unsaved files save_faults out hw h = record {
@@ -150,7 +150,7 @@ carries-saved c name bytes j old mid new work given due saves ends unsaved files
 }
 
 -- a verdict that is told behind a save
-pub saved-told : (name bytes : List ℕ) (j : Judged) (old new : World) (given : Status) → BothTold old.files new.files (HoldsNow name bytes) →
+pub saved-told : (name bytes : List ℕ) (j : Judged) (old new : World) (given : Status) → HasSaved name bytes old new →
     ToldAs j old.out new.out given (class_of given) → SavedAs name bytes j old new given (class_of given)
 saved-told name bytes j old new given saved told = by (class_of given) told
   where

@@ -36,12 +36,17 @@ HoldsNow name bytes was now = (now name ≡ Some bytes) × SameBut name was now
 abbrev pub HoldsAtMost : List ℕ → List ℕ → Files → Files → Type 0
 HoldsAtMost name bytes was now = HasOldOrFront name bytes was now × SameBut name was now
 
+-- bytes were saved under a name, and no save failed on the way
+pub record HasSaved (name bytes : List ℕ) (old new : World) : Type 0 where
+  pub saved : BothTold old.files new.files (HoldsNow name bytes)
+  pub whole : new.save_faults ≡ old.save_faults
+
 -- the text of a certificate is saved whole, and its verdict means what it says. Where the text is within the limit, a verifier of
 -- the family takes it, and keeps the same of it
 pub record IsSaved (name : List ℕ) (d : Desc) (family : Family) (bytes : List ℕ) (report : Report) (old new : World) : Type 0 where
   pub meaning : VerdictMeans d report
   pub again : length bytes ≤ most_bytes → IsCertificate d family bytes report
-  pub saved : BothTold old.files new.files (HoldsNow name bytes)
+  pub saved : HasSaved name bytes old new
 
 -- a certificate is saved; the status and the text that is put are those of its verdict, and nothing else is touched
 pub record EndsSaved (name : List ℕ) (family : Family) (bytes : List ℕ) (j : Judged) (old new : World) (given : Status) (text : List ℕ) : Type 0 where
@@ -65,12 +70,12 @@ pub record SaveFailed (name bytes : List ℕ) (old new : World) : Type 0 where
 
 -- the text was saved, and the verdict told
 pub record SavedWhole (name bytes : List ℕ) (j : Judged) (old new : World) (given : Status) : Type 0 where
-  pub saved : BothTold old.files new.files (HoldsNow name bytes)
+  pub saved : HasSaved name bytes old new
   pub told : ToldWhole j old.out new.out given
 
 -- it was saved, and a put failed
 pub record SavedUntold (name bytes : List ℕ) (j : Judged) (old new : World) : Type 0 where
-  pub saved : BothTold old.files new.files (HoldsNow name bytes)
+  pub saved : HasSaved name bytes old new
   pub front : Breaks (verdict_told j) old.out new.out
 
 -- what is left, by the class of the status

@@ -14,6 +14,7 @@ use pg_edge::{Failed, Shelf};
 /// `Failed` where the save failed; the file then has what it had, or a front of the text.
 pub fn save_text<F: Shelf>(shelf: &mut F, name: &FileName, text: &[u8]) -> Result<(), Failed>
     ensures saved { OnOk result (BothTold (F.files shelf.old) (F.files shelf.new) (HoldsNow name.now text.now)) }
+    ensures whole { OnOk result (F.saves shelf.new ≡ F.saves shelf.old) }
     ensures left { OnErr result (BothTold (F.files shelf.old) (F.files shelf.new) (HoldsAtMost name.now text.now)) }
     ensures cause { OnErr result (Rose (F.saves shelf.old) (F.saves shelf.new)) }
     ensures later { F.saves shelf.old ≤ F.saves shelf.new }

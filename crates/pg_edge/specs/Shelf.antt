@@ -81,6 +81,8 @@ pub record CountsRead {T : Type 0} (before now : ℕ) (result : Result T LoadFau
 -- how a save moves the count of failed saves
 pub record CountsSave {T E : Type 0} (before now : ℕ) (result : Result T E) : Type 0 where
   pub later : before ≤ now
+  -- a save that goes through is none
+  pub whole : OnOk result (now ≡ before)
   pub failed : OnErr result (Rose before now)
 
 -- the name has what it had, or bytes that these begin with

@@ -24,6 +24,7 @@ use pg_inputs::{load_image, load_machine};
 use pg_machine::Machine;
 use pg_steps::{Stop, try_room};
 use std::alloc::Global;
+use std::slice::from_ref;
 
 /// What the files of one guest hold; or why a command goes no further.
 pub fn load_guest<F: Shelf>(
@@ -69,7 +70,7 @@ fn load_behind_room<F: Shelf>(
     }
 }
 
-/// Behind the image: the certificate.
+/// Behind the image: the certificate. Then the machine learns words of the image.
 fn load_behind_image<F: Shelf>(
     alloc: Global,
     source: &GuestSource<'_>,
@@ -85,10 +86,13 @@ fn load_behind_image<F: Shelf>(
     ensures reads { OnlyReads F.Shelf shelf.old shelf.new }
 {
     match load_certificate(alloc, Family::Plain, &machine, source.cert, shelf) {
-        Ok(report) => Ok(LoadedGuest {
-            judged: JudgedMachine { machine, report },
-            image,
-        }),
+        Ok(report) => {
+            let judged = JudgedMachine { machine, report };
+            Ok(LoadedGuest {
+                judged: judged.learned(alloc, from_ref(&image), source.steps),
+                image,
+            })
+        }
         Err(stop) => Err(stop),
     }
 }

@@ -4,6 +4,7 @@
 //! for the machine is `VerdictMeans` (`specs/Meaning.antt`).
 //!
 //! - `certified`: a file to what is kept of a certificate. `machine`, `judged`: a machine with that.
+//!   `learning`: it learns words of images.
 //! - `source`, `guest`: files to one guest, its machine and the certificate by which it may run.
 //! - `telling`: the verdict told, and its status. `watching`: who is told of one that could not be saved.
 #![tactic(auto)]
@@ -11,6 +12,7 @@
 mod certified;
 mod guest;
 mod judged;
+mod learning;
 mod machine;
 mod source;
 mod telling;

@@ -19,6 +19,8 @@ pub struct GuestSource<'a> {
     pub grant: u32,
     /// How many cells monitors keep.
     pub kept: u32,
+    /// How many steps the guest does.
+    pub steps: u64,
     /// Two or more.
     pub ghost least: { 2 ≤ grant },
 }

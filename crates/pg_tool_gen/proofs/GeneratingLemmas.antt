@@ -11,7 +11,6 @@ use Rattle.pg_cert.specs.declared.report.Verdict.{Verdict}
 use Rattle.pg_cert.specs.declared.report.Verdict.TheVariants as verdict
 use Rattle.pg_cert.specs.Verdicts.{verdict_of}
 use Rattle.pg_asked.specs.declared.generating.GenWords.{GenWords}
-use Rattle.pg_edge.specs.Told.{BothTold}
 use Rattle.pg_generate.specs.Generated.{IsGenerated}
 use Rattle.pg_generate.specs.Images.{image_cells, image_count, images_of, IsFilled}
 use Rattle.pg_guests.specs.declared.running.Ran.{Ran}
@@ -29,7 +28,7 @@ use Rattle.pg_tool_gen.specs.declared.generating.plan.GenPlan.{GenPlan}
 use Rattle.pg_cmd_saving.specs.Checked.{IsChecked}
 use Rattle.pg_tool_gen.specs.Generating.{GenEnds, HaveRunBy, RanBy, gen_budget, gen_slice, gen_steps, generated_run, generated_text, run_told}
 use Rattle.pg_judged.specs.Judged.{Judged, verdict_on, verdict_status}
-use Rattle.pg_cmd_saving.specs.Saving.{HoldsNow}
+use Rattle.pg_cmd_saving.specs.Saving.{HasSaved}
 use Rattle.pg_judged.specs.Meaning.{IsAcceptedBy, Means}
 use Rattle.pg_tool_gen.specs.Plans.{run_of_plan}
 use Rattle.pg_steps.specs.World.{World}
@@ -99,7 +98,7 @@ plan-run p g e = ap (λ (images : List (List ℕ)). run_of p.cert.judged.machine
 
 module _ (g : GenWords) (j : Judged) (old new : World) (bytes : List ℕ) (valid : IsValid j.desc)
     (h : IsChecked j.desc Plain gen_budget bytes j.report) where
-  pub gen-ends : BothTold old.files new.files (HoldsNow g.cert bytes) → RanBy (verdict_on j) (generated_run g j.desc) old.hw new.hw →
+  pub gen-ends : HasSaved g.cert bytes old new → RanBy (verdict_on j) (generated_run g j.desc) old.hw new.hw →
       GenEnds g j.desc old new (verdict_status (verdict_on j)) (generated_text g j.desc (verdict_on j))
   gen-ends saved ran = record {
     bytes = bytes;

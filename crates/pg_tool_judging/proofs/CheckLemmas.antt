@@ -5,17 +5,16 @@ use Rattle.pg_valid.specs.Valid.{IsValid}
 use Rattle.pg_cert.specs.declared.cert.Family.{Family}
 use Rattle.pg_cert.specs.declared.report.Report.{Report}
 use Rattle.pg_asked.specs.declared.check.CheckWords.{CheckWords}
-use Rattle.pg_edge.specs.Told.{BothTold}
 use Rattle.pg_tool_judging.specs.Check.{CheckEnds, CheckUnsaved}
 use Rattle.pg_judged.specs.Judged.{Judged, verdict_on, verdict_status, verdict_told}
 use Rattle.pg_cmd_saving.specs.Checked.{IsChecked}
-use Rattle.pg_cmd_saving.specs.Saving.{HoldsNow, LeavesUnsaved}
+use Rattle.pg_cmd_saving.specs.Saving.{HasSaved, LeavesUnsaved}
 use Rattle.pg_steps.specs.World.{World}
 use Rattle.pg_cmd_saving.proofs.SavingLemmas.{ends_saved}
 
 module _ (family : Family) (c : CheckWords) (j : Judged) (old new : World) (bytes : List ℕ) (valid : IsValid j.desc)
     (h : IsChecked j.desc family c.budget bytes j.report) (hw : new.hw ≡ old.hw) where
-  pub check_ends : BothTold old.files new.files (HoldsNow c.cert bytes) → CheckEnds family c j.desc old new (verdict_status (verdict_on j)) (verdict_told j)
+  pub check_ends : HasSaved c.cert bytes old new → CheckEnds family c j.desc old new (verdict_status (verdict_on j)) (verdict_told j)
   check_ends saved = record {
     bytes = bytes;
     report = j.report;

@@ -11,7 +11,6 @@ use Rattle.pg_cert.specs.Texts.{heading_of, cert_text}
 use Rattle.pg_cert.specs.Verdicts.{mark_of}
 use Rattle.pg_asked.specs.declared.migrate.MigrateWords.{MigrateWords}
 use Rattle.pg_edge.specs.Shelf.{Files}
-use Rattle.pg_edge.specs.Told.{BothTold}
 use Rattle.pg_report.specs.declared.line.RefusalLine.TheVariants.{Certificate}
 use Rattle.pg_report.specs.declared.line.CertificateLine.TheVariants as told_line
 use Rattle.pg_verify.specs.declared.fault.VerifyFault.{VerifyFault}
@@ -23,7 +22,7 @@ use Rattle.pg_steps.specs.Answering.{Comes}
 use Rattle.pg_judged.specs.Certificates.{CertTextDue, CertDue}
 use Rattle.pg_steps.specs.FileSteps.{Faulty, HoldsWithin}
 use Rattle.pg_judged.specs.Judged.{Judged, verdict_on, verdict_status, verdict_told}
-use Rattle.pg_cmd_saving.specs.Saving.{HoldsNow, LeavesUnsaved}
+use Rattle.pg_cmd_saving.specs.Saving.{HasSaved, LeavesUnsaved}
 use Rattle.pg_tool_judging.specs.Migrate.{MigratesFile, IsMigratedText, MigrateEnds, MigrateUnsaved}
 use Rattle.pg_judged.specs.Parts.{IsStopOf}
 use Rattle.pg_steps.specs.Steps.{Came}
@@ -75,7 +74,7 @@ is_migrated_text d told name bytes cert report h text kept marks = record {
 
 module _ (m : MigrateWords) (j : Judged) (old new : World) (bytes : List ℕ) (valid : IsValid j.desc)
     (h : IsMigratedText old.files m.cert j.desc bytes j.report) (hw : new.hw ≡ old.hw) where
-  pub migrate_ends : BothTold old.files new.files (HoldsNow m.file bytes) → MigrateEnds m j old new (verdict_status (verdict_on j)) (verdict_told j)
+  pub migrate_ends : HasSaved m.file bytes old new → MigrateEnds m j old new (verdict_status (verdict_on j)) (verdict_told j)
   migrate_ends saved = record { bytes = bytes; migrated = h; saved = ends_saved m.file Plain old new bytes j valid h.written hw saved }
 
   pub migrate_unsaved : LeavesUnsaved m.file bytes old new → MigrateUnsaved m j old new

@@ -34,6 +34,7 @@ pub(crate) fn prepare_nest<F: Shelf>(
         cert: &words.cert,
         grant: words.grant.cells(),
         kept: KEPT_CELLS * depth,
+        steps: words.steps.count(),
     };
     match load_guest(alloc, &source, shelf) {
         Ok(loaded) => Ok(NestPlan {
@@ -41,7 +42,7 @@ pub(crate) fn prepare_nest<F: Shelf>(
             image: loaded.image,
             grant: source.grant,
             depth,
-            steps: words.steps.count(),
+            steps: source.steps,
         }),
         Err(stop) => Err(stop),
     }

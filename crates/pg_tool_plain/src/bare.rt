@@ -22,11 +22,12 @@ use pg_asked::BareWords;
 use pg_edge::{Failed, Shelf, Sink};
 use pg_hw::{Hardware, bare, power_on};
 use pg_inputs::{load_image, load_machine};
-use pg_mach_words::{learned, most_learned};
+use pg_mach_words::learned;
 use pg_report::put_state;
 use pg_steps::{Status, Stop, StopWatcher, no_room, stopped};
 use plan::BarePlan;
 use std::alloc::{AllocError, Global};
+use std::slice::from_ref;
 
 /// Carries out `bare`.
 pub fn carry_bare<F: Shelf, S: Sink, H: Hardware, W: StopWatcher>(
@@ -74,8 +75,7 @@ fn prepare_bare<F: Shelf>(alloc: Global, words: &BareWords, shelf: &mut F) -> Re
     match load_image(alloc, 0, &words.image, machine.shape(), grant, shelf) {
         Ok(image) => {
             let steps = words.steps.count();
-            let known = most_learned(steps, image.len());
-            let machine = learned(alloc, machine, image.as_slice(), known);
+            let machine = learned(alloc, machine, from_ref(&image), steps);
             Ok(BarePlan {
                 machine,
                 image,

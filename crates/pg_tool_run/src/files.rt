@@ -20,6 +20,8 @@ pub(crate) struct GuestFiles<'a> {
     pub(crate) grant: u32,
     /// How many cells monitors keep: at most 8.
     pub(crate) kept: u32,
+    /// How many steps each guest does.
+    pub(crate) steps: u64,
     /// There is one.
     pub(crate) ghost some: { 1 ≤ length images.now },
     /// There are few of them.

@@ -75,7 +75,7 @@ fn load_behind_room<F: Shelf>(
     }
 }
 
-/// Behind the images: the certificate.
+/// Behind the images: the certificate. Then the machine learns words of the images.
 fn load_behind_images<F: Shelf>(
     alloc: Global,
     family: Family,
@@ -92,10 +92,13 @@ fn load_behind_images<F: Shelf>(
     ensures reads { OnlyReads F.Shelf shelf.old shelf.new }
 {
     match load_certificate(alloc, family, &machine, files.cert, shelf) {
-        Ok(report) => Ok(LoadedGuests {
-            judged: JudgedMachine { machine, report },
-            images,
-        }),
+        Ok(report) => {
+            let judged = JudgedMachine { machine, report };
+            Ok(LoadedGuests {
+                judged: judged.learned(alloc, images.as_slice(), files.steps),
+                images,
+            })
+        }
         Err(stop) => Err(stop),
     }
 }

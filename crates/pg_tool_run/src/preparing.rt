@@ -36,6 +36,7 @@ pub(crate) fn prepare_run<F: Shelf>(
         cert: &words.cert,
         grant: words.grant.cells(),
         kept: KEPT_CELLS,
+        steps: words.steps.count(),
     };
     match load_guests(alloc, family, &files, shelf) {
         Ok(loaded) => Ok(RunPlan {
@@ -43,7 +44,7 @@ pub(crate) fn prepare_run<F: Shelf>(
             images: loaded.images,
             grant: files.grant,
             slice: words.slice.steps(),
-            steps: words.steps.count(),
+            steps: files.steps,
         }),
         Err(stop) => Err(stop),
     }

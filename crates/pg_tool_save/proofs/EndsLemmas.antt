@@ -6,7 +6,6 @@ use Rattle.pg_ast.specs.declared.tree.Desc.{Desc}
 use Rattle.pg_cert.specs.declared.cert.Family.TheVariants.{Plain}
 use Rattle.pg_cert.specs.declared.report.Verdict.TheVariants.{Accepted}
 use Rattle.pg_edge.specs.Shelf.{Files}
-use Rattle.pg_edge.specs.Told.{BothTold}
 use Rattle.pg_guests.specs.Runs.{RanGuests}
 use Rattle.pg_judged.proofs.GuestLemmas.{guest-read}
 use Rattle.pg_judged.proofs.JudgedLemmas.{IsRead, certificate-read, desc-valid}
@@ -18,7 +17,7 @@ use Rattle.pg_meaning.specs.Steps.{bare, power_on, steps}
 use Rattle.pg_steps.specs.Steps.{Came}
 use Rattle.pg_steps.specs.World.{World, IsUntouched}
 use Rattle.pg_steps.specs.declared.status.Status.TheVariants.{Done}
-use Rattle.pg_cmd_saving.specs.Saving.{HoldsNow}
+use Rattle.pg_cmd_saving.specs.Saving.{HasSaved}
 use Rattle.pg_tool_save.specs.Resume.{ResumeRun, ResumeDue, ResumeEnds, GuestWentOn, guest_on, judged_on, told_on}
 use Rattle.pg_tool_save.specs.Save.{SaveRun, SaveDue, SaveEnds, GuestSaved, files_of, guest_of, judged_by, saved_of, told_of_run}
 use Rattle.pg_type.specs.Accepting.{IsAccepted}
@@ -39,7 +38,7 @@ save-told told s j old new due other same = record {
 
 -- the guest ran, and is saved
 pub save-ran : (file : List ℕ) (j : SaveRun) (old new : World) → verdict_on (judged_by j) ≡ Accepted → IsAccepted j.desc → length j.image ≡ j.grant →
-    BothTold old.files new.files (HoldsNow file (saved_of j)) → RanGuests (guest_of j) old.hw new.hw → SaveEnds file j old new Done (told_of_run j)
+    HasSaved file (saved_of j) old new → RanGuests (guest_of j) old.hw new.hw → SaveEnds file j old new Done (told_of_run j)
 save-ran file j old new is accepted granted saved ran = record {
   by_verdict = ends-left (verdict_on (judged_by j)) (GuestSaved file j) Plain (judged_by j) old new Done (told_of_run j) is
       (record { status = refl; accepted = accepted; granted = granted; saved = saved; wording = refl; ran = ran });

@@ -24,7 +24,7 @@ use Rattle.pg_steps.specs.declared.status.Status.TheVariants as status
 use Rattle.pg_steps.specs.Commands.{Command}
 use Rattle.pg_steps.specs.Steps.{Step, Then, Gives}
 use Rattle.pg_steps.specs.World.{World}
-use Rattle.pg_cmd_saving.specs.Saving.{HoldsAtMost, HoldsNow}
+use Rattle.pg_cmd_saving.specs.Saving.{HasSaved, HoldsAtMost}
 use Rattle.pg_type.specs.Accepting.{IsAccepted}
 
 -- a run that is asked for: an image of so many cells, how many steps it makes, and what is kept of the certificate by which it
@@ -78,7 +78,7 @@ pub record GuestSaved (file : List ℕ) (j : SaveRun) (old new : World) (given :
   pub status : given ≡ status.Done
   pub accepted : IsAccepted j.desc
   pub granted : length j.image ≡ j.grant
-  pub saved : BothTold old.files new.files (HoldsNow file (saved_of j))
+  pub saved : HasSaved file (saved_of j) old new
   pub wording : text ≡ told_of_run j
   pub ran : RanGuests (guest_of j) old.hw new.hw
 

@@ -23,12 +23,15 @@ use pg_asked::ResumeWords;
 use pg_cert::Family;
 use pg_control::KEPT_CELLS;
 use pg_edge::Shelf;
+use pg_image::Image;
 use pg_inputs::load_machine;
 use pg_judged::{JudgedMachine, load_certificate};
 use pg_machine::Machine;
 use pg_move::Saved;
 use pg_steps::{Stop, try_room};
+use sqlite_items::Items;
 use std::alloc::Global;
+use std::slice::from_ref;
 
 /// The guest that is to go on; or why there is none.
 pub(crate) fn prepare_resume<F: Shelf>(
@@ -70,7 +73,7 @@ fn load_behind_machine<F: Shelf>(
     }
 }
 
-/// Behind the room: the certificate.
+/// Behind the room: the certificate. Then the machine learns words of the guest.
 fn load_behind_room<F: Shelf>(
     alloc: Global,
     words: &ResumeWords,
@@ -90,7 +93,7 @@ fn load_behind_room<F: Shelf>(
         Ok(report) => {
             let judged = JudgedMachine { machine, report };
             Ok(ResumePlan {
-                judged,
+                judged: knowing(alloc, judged, &saved, steps),
                 saved,
                 skip,
                 steps,
@@ -98,4 +101,26 @@ fn load_behind_room<F: Shelf>(
         }
         Err(stop) => Err(stop),
     }
+}
+
+/// The same machine, which knows words of the cells of a guest that does so many steps. Where memory is refused, it knows none.
+fn knowing(alloc: Global, told: JudgedMachine, saved: &Saved, steps: u64) -> JudgedMachine
+    ensures { judged result ≡ judged told }
+{
+    match words_of(alloc, saved) {
+        Some(image) => told.learned(alloc, from_ref(&image), steps),
+        None => told,
+    }
+}
+
+/// The words of the cells of a guest that are not zero; `None` where memory is refused.
+fn words_of(alloc: Global, saved: &Saved) -> Option<Image> {
+    let mut words = Items::new(alloc);
+    for cell in saved.state.cells.as_slice() {
+        match words.push(cell.1) {
+            Ok(()) => {}
+            Err(_) => return None,
+        }
+    }
+    Some(words)
 }

@@ -33,13 +33,14 @@ pub(crate) fn prepare_save<F: Shelf>(
         cert: &words.cert,
         grant: words.grant.cells(),
         kept: KEPT_CELLS,
+        steps: words.steps.count(),
     };
     match load_guest(alloc, &source, shelf) {
         Ok(loaded) => Ok(SavePlan {
             judged: loaded.judged,
             image: loaded.image,
             grant: source.grant,
-            steps: words.steps.count() as u32,
+            steps: source.steps as u32,
         }),
         Err(stop) => Err(stop),
     }

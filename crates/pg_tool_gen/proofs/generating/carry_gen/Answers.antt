@@ -8,7 +8,7 @@ use Rattle.pg_judged.proofs.TellingLemmas.{verdict-ended}
 use Rattle.pg_steps.specs.Commands.{Carries}
 use Rattle.pg_steps.specs.World.{around}
 use Rattle.pg_steps.proofs.CarryLemmas.{carries-ended, carries-broken, carries-starved, carries-unsaved}
-use Rattle.pg_cmd_saving.specs.Saving.{HoldsNow, HoldsAtMost}
+use Rattle.pg_cmd_saving.specs.Saving.{HasSaved, HoldsNow, HoldsAtMost}
 use Rattle.pg_cmd_saving.proofs.SavingLemmas.{is_saved}
 use Rattle.pg_tool_gen.specs.Generating.{GenEnds, RanBy, gen_command, generated_text}
 use Rattle.pg_tool_gen.specs.Plans.{judged_input}
@@ -43,7 +43,10 @@ returns-in-Err-run_plan-clause-carries g c =
     let bytes = p.cert.text.items in
     let old = around g.F.Shelf g.S.Sink g.H.Hardware c.args.shelf.now c.args.out.now c.args.hw.now in
     let new = around g.F.Shelf g.S.Sink g.H.Hardware c.save_text.new.shelf c.args.out.now c.run_plan.new.hw in
-    let saved = subst (λ bs. BothTold old.files new.files (HoldsNow w.cert bs)) c.as_slice.ensures.value c.in-Ok-save_text.ensures.saved in
+    let saved : HasSaved w.cert bytes old new = record {
+      saved = subst (λ bs. BothTold old.files new.files (HoldsNow w.cert bs)) c.as_slice.ensures.value c.in-Ok-save_text.ensures.saved;
+      whole = c.in-Ok-save_text.ensures.whole;
+    } in
     carries-starved (gen_command w) old new j.desc c.in-Ok.ensures.desc
     (record {
       bytes = bytes;
@@ -66,7 +69,10 @@ returns-in-Ok-put_generated-clause-carries g c =
     let bytes = p.cert.text.items in
     let old = around g.F.Shelf g.S.Sink g.H.Hardware c.args.shelf.now c.args.out.now c.args.hw.now in
     let new = around g.F.Shelf g.S.Sink g.H.Hardware c.save_text.new.shelf c.put_generated.new.out c.run_plan.new.hw in
-    let saved = subst (λ bs. BothTold old.files new.files (HoldsNow w.cert bs)) c.as_slice.ensures.value c.in-Ok-save_text.ensures.saved in
+    let saved : HasSaved w.cert bytes old new = record {
+      saved = subst (λ bs. BothTold old.files new.files (HoldsNow w.cert bs)) c.as_slice.ensures.value c.in-Ok-save_text.ensures.saved;
+      whole = c.in-Ok-save_text.ensures.whole;
+    } in
     let ends : GenEnds w j.desc old new (verdict_status v) (generated_text w j.desc v) =
     gen-ends w j old new bytes p.cert.judged.machine.valid c.in-Ok.ensures.checked saved
     (subst (λ (r : GuestRun). RanBy v r old.hw new.hw) (plan-run p w c.in-Ok.ensures.images) c.in-Ok-run_plan.ensures.ran) in
@@ -83,7 +89,10 @@ returns-clause-carries g c =
     let bytes = p.cert.text.items in
     let old = around g.F.Shelf g.S.Sink g.H.Hardware c.args.shelf.now c.args.out.now c.args.hw.now in
     let new = around g.F.Shelf g.S.Sink g.H.Hardware c.save_text.new.shelf c.put_generated.new.out c.run_plan.new.hw in
-    let saved = subst (λ bs. BothTold old.files new.files (HoldsNow w.cert bs)) c.as_slice.ensures.value c.in-Ok-save_text.ensures.saved in
+    let saved : HasSaved w.cert bytes old new = record {
+      saved = subst (λ bs. BothTold old.files new.files (HoldsNow w.cert bs)) c.as_slice.ensures.value c.in-Ok-save_text.ensures.saved;
+      whole = c.in-Ok-save_text.ensures.whole;
+    } in
     carries-broken (gen_command w) old new j.desc (verdict_status v) (generated_text w j.desc v) c.in-Ok.ensures.desc
     (gen-ends w j old new bytes p.cert.judged.machine.valid c.in-Ok.ensures.checked saved
     (subst (λ (r : GuestRun). RanBy v r old.hw new.hw) (plan-run p w c.in-Ok.ensures.images) c.in-Ok-run_plan.ensures.ran))

@@ -13,7 +13,8 @@ returns-in-Ok-clause-saved g c =
     let old = around g.F.Shelf g.S.Sink g.H.Hardware c.args.shelf.now c.args.out.now c.args.hw.now in
     let new = around g.F.Shelf g.S.Sink g.H.Hardware c.save_text.new.shelf c.tell_verdict.new.out c.args.hw.now in
     saved-told name cert.text.items (judged cert.judged) old new c.tell_verdict.result
-    (subst (λ bytes. BothTold old.files new.files (HoldsNow name bytes)) c.as_slice.ensures.value c.in-Ok.ensures.saved) c.tell_verdict.ensures.told
+    (record { saved = subst (λ bytes. BothTold old.files new.files (HoldsNow name bytes)) c.as_slice.ensures.value c.in-Ok.ensures.saved; whole = c.in-Ok.ensures.whole })
+    c.tell_verdict.ensures.told
 
 pub returns-in-Err-clause-saved : goal.returns-in-Err-clause-saved
 returns-in-Err-clause-saved g c =

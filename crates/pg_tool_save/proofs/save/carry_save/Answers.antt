@@ -12,7 +12,7 @@ use Rattle.pg_shown.specs.Telling.{AreWithin}
 use Rattle.pg_steps.specs.declared.status.Status.TheVariants.{Done}
 use Rattle.pg_steps.specs.World.{IsUntouched, around}
 use Rattle.pg_steps.proofs.CarryLemmas.{carries-stopped, carries-done, carries-broken, carries-starved, carries-unsaved}
-use Rattle.pg_cmd_saving.specs.Saving.{HoldsNow, HoldsAtMost}
+use Rattle.pg_cmd_saving.specs.Saving.{HasSaved, HoldsNow, HoldsAtMost}
 use Rattle.pg_tool_save.specs.Plans.{save_run}
 use Rattle.pg_tool_save.specs.Save.{guest_of, judged_by, reached, save_command, saved_of, told_of_run}
 use Rattle.pg_tool_save.proofs.GuestLemmas.{ran-told}
@@ -96,9 +96,11 @@ returns-in-Ok-put_guests-clause-carries g c =
     let new = around g.F.Shelf g.S.Sink g.H.Hardware c.save_text.new.shelf c.put_guests.new.out c.run_plan.new.hw in
     let mid = g.F.Shelf.files c.prepare_save.new.shelf in
     let is : verdict_on (judged_by j) ≡ Accepted = sym c.verdict.ensures ∙ c.is_accepted.ensures.yes c.if-not-is_accepted.false in
-    let saved : BothTold old.files new.files (HoldsNow s.file (saved_of j)) =
-    subst (λ f. BothTold f new.files (HoldsNow s.file (saved_of j))) c.prepare_save.ensures.reads.same_files
-    (subst (λ bytes. BothTold mid new.files (HoldsNow s.file bytes)) (c.as_slice.ensures.value ∙ c.in-Ok-run_plan.ensures.text) c.in-Ok-save_text.ensures.saved) in
+    let saved : HasSaved s.file (saved_of j) old new = record {
+      saved = subst (λ f. BothTold f new.files (HoldsNow s.file (saved_of j))) c.prepare_save.ensures.reads.same_files
+          (subst (λ bytes. BothTold mid new.files (HoldsNow s.file bytes)) (c.as_slice.ensures.value ∙ c.in-Ok-run_plan.ensures.text) c.in-Ok-save_text.ensures.saved);
+      whole = c.in-Ok-save_text.ensures.whole ∙ c.prepare_save.ensures.reads.same_saves;
+    } in
     let told = ran-told (guest_of j) (reached j) c.in-Ok-run_plan.saved.ran new.hw c.guests-guests.result.now c.turns-turns.result c.direct-direct.result c.in-Ok-run_plan.ensures.have_run
     (save-reached j p.filled) (omega arith) c.guests-guests.ensures c.turns-turns.ensures c.direct-direct.ensures in
     let put : Puts {T = Unit {0}} {E = Failed} old.out.written new.out.written old.out.faults new.out.faults (told_of_run j) c.put_guests.result =
@@ -116,9 +118,11 @@ returns-clause-carries g c =
     let new = around g.F.Shelf g.S.Sink g.H.Hardware c.save_text.new.shelf c.put_guests.new.out c.run_plan.new.hw in
     let mid = g.F.Shelf.files c.prepare_save.new.shelf in
     let is : verdict_on (judged_by j) ≡ Accepted = sym c.verdict.ensures ∙ c.is_accepted.ensures.yes c.if-not-is_accepted.false in
-    let saved : BothTold old.files new.files (HoldsNow s.file (saved_of j)) =
-    subst (λ f. BothTold f new.files (HoldsNow s.file (saved_of j))) c.prepare_save.ensures.reads.same_files
-    (subst (λ bytes. BothTold mid new.files (HoldsNow s.file bytes)) (c.as_slice.ensures.value ∙ c.in-Ok-run_plan.ensures.text) c.in-Ok-save_text.ensures.saved) in
+    let saved : HasSaved s.file (saved_of j) old new = record {
+      saved = subst (λ f. BothTold f new.files (HoldsNow s.file (saved_of j))) c.prepare_save.ensures.reads.same_files
+          (subst (λ bytes. BothTold mid new.files (HoldsNow s.file bytes)) (c.as_slice.ensures.value ∙ c.in-Ok-run_plan.ensures.text) c.in-Ok-save_text.ensures.saved);
+      whole = c.in-Ok-save_text.ensures.whole ∙ c.prepare_save.ensures.reads.same_saves;
+    } in
     let told = ran-told (guest_of j) (reached j) c.in-Ok-run_plan.saved.ran new.hw c.guests-guests.result.now c.turns-turns.result c.direct-direct.result c.in-Ok-run_plan.ensures.have_run
     (save-reached j p.filled) (omega arith) c.guests-guests.ensures c.turns-turns.ensures c.direct-direct.ensures in
     let put : Puts {T = Unit {0}} {E = Failed} old.out.written new.out.written old.out.faults new.out.faults (told_of_run j) c.put_guests.result =
