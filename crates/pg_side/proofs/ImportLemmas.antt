@@ -29,7 +29,7 @@ use Rattle.pg_steps.specs.World.{Output}
 use Rattle.pg_verify.specs.Taking.{instr_named}
 use Rattle.pg_side.specs.declared.import.making.Written.{Written}
 use Rattle.pg_side.specs.declared.import.request.Request.{Request}
-use Rattle.pg_side.specs.Saved.{AsksImport, IsSavedText, IsNew, IsImport, ToldBehindAs, IsImported}
+use Rattle.pg_side.specs.Saved.{AsksImport, IsSavedText, IsNew, IsImport, ToldBehindAs, SavesOnce, IsImported}
 
 -- ---- the words
 
@@ -101,10 +101,11 @@ told_behind line j old mid new given whole quiet = by (class_of given)
     by Unread h = h
     by OutOfMemory h = h
 
-module _ (r : Request) (was mid now : Option Files) (old new : Output) (w : Written) (h : IsImport was r w) (same : mid ≡ was) where
-  is_imported : (given : Status) → BothTold mid now (HoldsNow r.file.now w.text.items) →
-      ToldBehindAs (string_bytes w.line) (judged w.judged) old new given (class_of given) → IsImported r was now old new given
-  is_imported given saved told =
+module _ (r : Request) (was mid now : Option Files) (before between after : ℕ) (old new : Output) (w : Written) (h : IsImport was r w) (same : mid ≡ was)
+    (same_saves : between ≡ before) where
+  is_imported : (given : Status) → BothTold mid now (HoldsNow r.file.now w.text.items) → SavesOnce between after →
+      ToldBehindAs (string_bytes w.line) (judged w.judged) old new given (class_of given) → IsImported r was now before after old new given
+  is_imported given saved once told =
       let d = w.judged.machine.desc in
       let valid = w.judged.machine.valid in
       let report = w.judged.report in
@@ -116,10 +117,12 @@ module _ (r : Request) (was mid now : Option Files) (old new : Output) (w : Writ
         again = λ few. subst (λ f. IsCertificate d f w.text.items report) (sym written.kept_family)
             (written_again d h.made.family w.text.items report valid written few);
         saved = subst (λ f. BothTold f now (HoldsNow r.file.now w.text.items)) same saved;
+        once = subst (λ n. SavesOnce n after) same_saves once;
         told = told;
       }
 
   pub imported_so : {E : Type 0} (result : Result Status E) → OnOk result (BothTold mid now (HoldsNow r.file.now w.text.items)) →
-      IfOk result (λ given. ToldBehindAs (string_bytes w.line) (judged w.judged) old new given (class_of given)) → IfOk result (IsImported r was now old new)
-  imported_so (Ok given) saved told = is_imported given saved told
-  imported_so (Err e) saved told = tt
+      OnOk result (SavesOnce between after) → IfOk result (λ given. ToldBehindAs (string_bytes w.line) (judged w.judged) old new given (class_of given)) →
+      IfOk result (IsImported r was now before after old new)
+  imported_so (Ok given) saved once told = is_imported given saved once told
+  imported_so (Err e) saved once told = tt

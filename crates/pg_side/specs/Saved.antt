@@ -1,5 +1,5 @@
 -- What `pg_import` saves and tells.
-use Rattle.std.specs.Prelude.{◌≡◌, ℕ, ◌≤◌, List, [], ◌∷◌, ◌++◌, length, codes, string_bytes, Option, Some}
+use Rattle.std.specs.Prelude.{◌≡◌, ℕ, ◌≤◌, List, [], ◌∷◌, ◌++◌, length, codes, string_bytes, Option, Some, Ok}
 use Rattle.std.specs.Fmt.{decimal}
 use Rattle.pg_ast.specs.declared.tree.Desc.{Desc}
 use Rattle.pg_type.specs.declared.kind.Kind.{Kind}
@@ -9,7 +9,7 @@ use Rattle.pg_cert.specs.declared.cert.Cert.{Cert}
 use Rattle.pg_cert.specs.declared.report.Report.{Report}
 use Rattle.pg_cert.specs.Reading.{read_kind}
 use Rattle.pg_cmd_saving.specs.Saving.{IsWritten, HoldsNow}
-use Rattle.pg_edge.specs.Shelf.{Files}
+use Rattle.pg_edge.specs.Shelf.{Files, CountsSave}
 use Rattle.pg_edge.specs.Sink.{Adds}
 use Rattle.pg_edge.specs.Told.{BothTold}
 use Rattle.pg_imported.specs.Imported.{IsOfFile, IsPlaceOf, IsRightAt, IsReplaced}
@@ -28,6 +28,7 @@ use Rattle.pg_verify.specs.Feeding.{most_bytes}
 use Rattle.pg_verify.specs.Taking.{instr_named}
 use Rattle.pg_side.specs.declared.import.making.Written.{Written}
 use Rattle.pg_side.specs.declared.import.request.Request.{Request}
+use Rattle.pg_side.specs.declared.stop.Stop.{Stop}
 
 -- what the words ask for, of which the first is the program's name
 pub record AsksImport (words : List (List ℕ)) (r : Request) : Type 0 where
@@ -85,21 +86,26 @@ ToldBehindAs line j old new given Unwritten = Breaks (line ++ verdict_told j) ol
 ToldBehindAs line j old new given Unread = ⊥
 ToldBehindAs line j old new given OutOfMemory = ⊥
 
+-- the count of failed saves moved as it does at one save, which went through
+abbrev pub SavesOnce : ℕ → ℕ → Type 0
+SavesOnce before now = CountsSave {T = Unit {0}} {E = Stop} before now (Ok tt)
+
 -- such a certificate is saved, and its verdict told, which means what it says. Where the text is within the limit, a verifier takes it,
 -- and keeps the same of it
-pub record IsImported (r : Request) (was now : Option Files) (old new : Output) (given : Status) : Type 0 where
+pub record IsImported (r : Request) (was now : Option Files) (before after : ℕ) (old new : Output) (given : Status) : Type 0 where
   pub cert : Written
   pub of_files : IsImport was r cert
   pub meaning : VerdictMeans cert.judged.machine.desc cert.judged.report
   pub again : length cert.text.items ≤ most_bytes →
       IsCertificate cert.judged.machine.desc cert.judged.report.family cert.text.items cert.judged.report
   pub saved : BothTold was now (HoldsNow r.file.now cert.text.items)
+  pub once : SavesOnce before after
   pub told : ToldBehindAs (string_bytes cert.line) (judged cert.judged) old new given (class_of given)
 
 -- the words asked for it, and this is the number of the status
-pub record EndsImported (words : List (List ℕ)) (was now : Option Files) (old new : Output) (number : ℕ) : Type 0 where
+pub record EndsImported (words : List (List ℕ)) (was now : Option Files) (before after : ℕ) (old new : Output) (number : ℕ) : Type 0 where
   pub request : Request
   pub asked : AsksImport words request
   pub given : Status
   pub numbered : number ≡ code_of given
-  pub imported : IsImported request was now old new given
+  pub imported : IsImported request was now before after old new given

@@ -21,7 +21,7 @@ ghost use Rattle.pg_steps.specs.Answering.{OnlyReads};
 ghost use Rattle.pg_steps.specs.Classes.{class_of};
 ghost use Rattle.pg_steps.specs.FileSteps.{HoldsWithin};
 ghost use Rattle.pg_steps.specs.World.{output};
-ghost use Rattle.pg_side.specs.Saved.{AsksImport, IsImport, IsImported, EndsImported, ToldBehindAs};
+ghost use Rattle.pg_side.specs.Saved.{AsksImport, IsImport, IsImported, EndsImported, SavesOnce, ToldBehindAs};
 ghost use Rattle.pg_side.specs.declared.import.request.Request.{Request as Requests};
 
 mod answer;
@@ -67,7 +67,7 @@ pub fn run<F: Shelf, S: Sink, W: StopWatcher + WordsWatcher>(
     watcher: &mut W,
 ) -> u8
     ensures done { result ≤ 2 → EndsImported (map string_bytes words.now) (F.files shelf.old) (F.files shelf.new)
-        (output S.Sink out.old) (output S.Sink out.new) result }
+        (F.saves shelf.old) (F.saves shelf.new) (output S.Sink out.old) (output S.Sink out.new) result }
     ensures others { (r : Requests) → AsksImport (map string_bytes words.now) r →
         BothTold (F.files shelf.old) (F.files shelf.new) (SameBut r.file.now) }
 {
@@ -88,7 +88,7 @@ fn import<F: Shelf, S: Sink>(
     out: &mut S,
 ) -> Result<Status, Stop>
     ensures imported { IfOk result (IsImported request.now (F.files shelf.old) (F.files shelf.new)
-        (output S.Sink out.old) (output S.Sink out.new)) }
+        (F.saves shelf.old) (F.saves shelf.new) (output S.Sink out.old) (output S.Sink out.new)) }
     ensures others { BothTold (F.files shelf.old) (F.files shelf.new) (SameBut request.now.file.now) }
 {
     match prepare(alloc, request, shelf) {
@@ -158,6 +158,7 @@ fn save_new<F: Shelf, S: Sink>(
 ) -> Result<Status, Stop>
     ensures saved { OnOk result (BothTold (F.files shelf.old) (F.files shelf.new) (HoldsNow request.now.file.now new.now.text.items)) }
     ensures others { BothTold (F.files shelf.old) (F.files shelf.new) (SameBut request.now.file.now) }
+    ensures once { OnOk result (SavesOnce (F.saves shelf.old) (F.saves shelf.new)) }
     ensures told { IfOk result (λ given. ToldBehindAs (string_bytes new.now.line) (judged new.now.judged)
         (output S.Sink out.old) (output S.Sink out.new) given (class_of given)) }
 {
