@@ -9,8 +9,9 @@
 //! as `pgv migrate` makes them (`pg_imported`); so `pgv verify` takes FILE, where it is within the limit of its length.
 //!
 //! On standard output stands what was imported, and the verdict of the new certificate, as `pgv verify` tells it. The status is
-//! that of the verdict: 0 accepted, 1 refused, 2 open. Refusals are those of `pgv`, with 6 for a refused PROOF too (`fault`). The
-//! words are read in `request`, what PROOF says in `answer`; `making` makes the new certificate.
+//! that of the verdict: 0 accepted, 1 refused, 2 open; what is then left, of files and sink, is *EndsImported* (`specs/Saved.antt`).
+//! Refusals are those of `pgv`, with 6 for a refused PROOF too (`fault`). The words are read in `request`, what PROOF says in
+//! `answer`; `making` makes the new certificate.
 
 ghost use Rattle.std.specs.Prelude.{◌≡◌, ◌≤◌, map, string_bytes, IfOk, OnOk};
 ghost use Rattle.pg_cmd_saving.specs.Saving.{HoldsNow};
