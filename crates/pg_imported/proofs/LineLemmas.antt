@@ -10,7 +10,6 @@ use Rattle.pg_ast.specs.declared.tree.Instr.{Instr}
 use Rattle.pg_ast.specs.declared.tree.Desc.{Desc}
 use Rattle.pg_meaning.specs.States.{shape_of}
 use Rattle.pg_type.specs.declared.kind.Kind.{Kind}
-use Rattle.pg_proof.specs.declared.step.Step.{Step}
 use Rattle.pg_proof.specs.declared.step.Act.{Act}
 use Rattle.pg_proof.specs.declared.step.Act.TheVariants.{Add}
 use Rattle.pg_proof.specs.Log.{IsClosedLog}
@@ -150,11 +149,6 @@ log_so : (clauses : List (List ℤ)) (heading : Heading) (d : Desc) (i j : Instr
 unfolding IsValidFinding
 log_so clauses heading d i j kind other acts h = h
 
-spent_so : (clauses : List (List ℤ)) (heading : Heading) (d : Desc) (i j : Instr) (kind other : Kind) (k : ℕ) (steps : List Step) →
-    IsValidFinding clauses heading d i kind (finding.Spent k steps) → IsValidFinding clauses heading d j other (finding.Spent k steps)
-unfolding IsValidFinding
-spent_so clauses heading d i j kind other k steps h = h
-
 -- ---- the lines of a right finding
 
 module _ (d : Desc) (shape : IsShape (shape_of d)) (family : Family) (n : ℕ) (within : n < length d.instrs * kind_count family) where
@@ -232,8 +226,4 @@ module _ (d : Desc) (shape : IsShape (shape_of d)) (family : Family) (n : ℕ) (
   right_lines i at (finding.Shown s t) right =
       shown_lines s t (λ j there. shown_so (question d j (kind_of family n)) nothing heading d j (kind_of family n) s t
       ((right j there).valid heading (heading_removes family)))
-  right_lines i at (finding.Spent k steps) right =
-      let clauses = question d i (kind_of family n) in
-      same_lines clauses (finding.Spent k steps)
-      (λ j kind. spent_so clauses heading d i j (kind_of family n) kind k steps ((right i at).valid heading (heading_removes family)))
-      (right i at).numbered
+  right_lines i at (finding.Spent k steps) right = absurd (right i at).settled

@@ -39,6 +39,7 @@ pub refuted_right : (clauses : List (List ℤ)) (variables : ℕ) (log acts : Li
 refuted_right clauses variables log acts d i kind are few_variables few_clauses few trimmed =
     let given : IsNumbered clauses log = numbered clauses variables log are few_variables few_clauses few in
     record {
+      settled = tt;
       valid = λ heading may. closed_valid clauses heading d i kind acts trimmed.closed (trimmed_may_stand clauses heading log acts trimmed given may).1;
       listed = tt;
       numbered = (trimmed_may_stand clauses PlainTwo log acts trimmed given refl).0;
@@ -49,6 +50,7 @@ pub shown_right : (clauses : List (List ℤ)) (d : Desc) (i : Instr) (kind : Kin
 shown_right clauses d i kind s t f same listed shows =
     subst (λ x. IsRight clauses d i kind x) (sym same)
     (record {
+      settled = tt;
       valid = λ heading may. shown_valid clauses heading d i kind s t shows;
       listed = subst AreListed same listed;
       numbered = tt;

@@ -1,16 +1,20 @@
 -- *import-keeps*: a certificate with one finding of another solver.
-use Rattle.std.specs.Prelude.{◌≡◌, ℕ, ◌<◌, true, ℤ, List, length, Some, slice_get, slice_set}
+use Rattle.std.specs.Prelude.{◌≡◌, ℕ, ◌<◌, true, ℤ, List, length, Option, Some, slice_get, slice_set}
 use Rattle.pg_ast.specs.declared.tree.Instr.{Instr}
 use Rattle.pg_ast.specs.declared.tree.Desc.{Desc}
 use Rattle.pg_type.specs.declared.kind.Kind.{Kind}
 use Rattle.pg_ask.specs.Question.{question}
 use Rattle.pg_cert.specs.declared.cert.Family.{Family}
 use Rattle.pg_cert.specs.declared.cert.Finding.{Finding}
+use Rattle.pg_cert.specs.declared.cert.Finding.TheVariants.{Refuted, Shown, Spent}
 use Rattle.pg_cert.specs.declared.cert.Cert.{Cert}
 use Rattle.pg_cert.specs.declared.line.Heading.{Heading}
 use Rattle.pg_cert.specs.Texts.{AreListed, instr_of, kind_of, heading_of}
 use Rattle.pg_cert.specs.Validity.{may_remove, IsValidFinding}
 use Rattle.pg_cert.specs.InRange.{IsFindingNumbered}
+use Rattle.pg_edge.specs.Shelf.{Files}
+use Rattle.pg_steps.specs.FileSteps.{HoldsWithin}
+use Rattle.pg_verify.specs.Feeding.{most_bytes}
 use Rattle.pg_verify.specs.Verified.{IsValidOf}
 use Rattle.pg_migrate.specs.Migrated.{IsMigrated}
 
@@ -25,8 +29,20 @@ pub record IsOfText (d : Desc) (cert : Cert) : Type 0 where
   pub bytes : List ℕ
   pub migrated : IsMigrated d cert.family bytes cert
 
--- a finding that is valid under each heading that lets clauses be taken away, and can be written
+-- and these are the bytes that a file holds
+pub record IsOfFile (told : Option Files) (name : List ℕ) (d : Desc) (cert : Cert) : Type 0 where
+  pub made : IsOfText d cert
+  pub held : HoldsWithin told name most_bytes made.bytes
+
+-- a finding that leaves nothing open
+abbrev pub IsSettled : Finding → Type 0
+IsSettled (Refuted acts) = Unit {0}
+IsSettled (Shown s t) = Unit {0}
+IsSettled (Spent k steps) = ⊥
+
+-- a finding that settles its question, is valid under each heading that lets clauses be taken away, and can be written
 pub record IsRight (clauses : List (List ℤ)) (d : Desc) (i : Instr) (kind : Kind) (f : Finding) : Type 0 where
+  pub settled : IsSettled f
   pub valid : (heading : Heading) → may_remove heading ≡ true → IsValidFinding clauses heading d i kind f
   pub listed : AreListed f
   pub numbered : IsFindingNumbered clauses f

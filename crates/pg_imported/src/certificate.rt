@@ -1,7 +1,8 @@
 //! A certificate from its file, made anew.
 
 ghost use Rattle.std.specs.Prelude.{IfOk};
-ghost use Rattle.pg_imported.specs.Imported.{IsOfText};
+ghost use Rattle.pg_imported.specs.Imported.{IsOfFile};
+ghost use Rattle.pg_steps.specs.Answering.{OnlyReads};
 
 use pg_asked::FileName;
 use pg_cert::Family;
@@ -25,7 +26,8 @@ pub fn load_certificate<F: Shelf>(
     name: &FileName,
     shelf: &mut F,
 ) -> Result<Migrated, Stop>
-    ensures { IfOk result (λ m. IsOfText machine.now.desc m.cert) }
+    ensures of_file { IfOk result (λ m. IsOfFile (F.files shelf.old) name.now machine.now.desc m.cert) }
+    ensures reads { OnlyReads F.Shelf shelf.old shelf.new }
 {
     let bytes = match load_file(alloc, name, CERT_BYTES as u64, shelf) {
         Ok(bytes) => bytes,

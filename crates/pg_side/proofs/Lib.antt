@@ -4,5 +4,6 @@ pub mod RunTexts
 pub mod RunLemmas
 pub mod CertLemmas
 pub mod ClauseLemmas
+pub mod ImportLemmas
 mod TakenLemmas
 mod LogLemmas

@@ -1,14 +1,19 @@
 //! Files to machines and certificates, and what is put and saved.
 
-ghost use Rattle.std.specs.Prelude.{◌<◌, length, IfOk, IfSome, IsErrOf};
+ghost use Rattle.std.specs.Prelude.{◌≡◌, ◌<◌, length, Some, IfOk, IfSome, IsErrOf};
 ghost use Rattle.pg_edge.specs.Count.{Rose};
-ghost use Rattle.pg_imported.specs.Imported.{IsOfText};
+ghost use Rattle.pg_edge.specs.Shelf.{CountsSave, Saves};
+ghost use Rattle.pg_edge.specs.Sink.{Puts};
+ghost use Rattle.pg_imported.specs.Imported.{IsOfFile};
+ghost use Rattle.pg_inputs.specs.Descriptions.{DescDue};
 ghost use Rattle.pg_steps.specs.Answering.{OnlyReads};
+ghost use Rattle.pg_steps.specs.Steps.{Came};
+ghost use Rattle.pg_verify.specs.Taking.{instr_named};
 
 use crate::stop::Stop;
 use pg_asked::FileName;
 use pg_cert::Family;
-use pg_edge::{LoadFault, Shelf, Sink};
+use pg_edge::{Failed, LoadFault, Shelf, Sink};
 use pg_imported::load_certificate;
 use pg_inputs::load_machine;
 use pg_machine::Machine;
@@ -19,13 +24,21 @@ use std::alloc::{AllocError, Global};
 const HYBRID: &[u8] = b"pghybrid ";
 
 /// The name of a file.
-pub fn file_name(alloc: Global, name: &str) -> Result<FileName, AllocError> {
+pub fn file_name(alloc: Global, name: &str) -> Result<FileName, AllocError>
+    ensures { IfOk result (λ n. n ≡ name.now) }
+{
     Ok(FileName::new(String::from_str(alloc, name)?))
 }
 
 /// The machine that a file describes.
-pub fn machine<F: Shelf>(alloc: Global, shelf: &mut F, name: &FileName) -> Result<Machine, Stop> {
-    load_machine(alloc, name, shelf).map_err(|stop| Stop::Told(stop))
+pub fn machine<F: Shelf>(alloc: Global, shelf: &mut F, name: &FileName) -> Result<Machine, Stop>
+    ensures due { IfOk result (λ m. DescDue (F.files shelf.old) name.now (Came m.desc)) }
+    ensures reads { OnlyReads F.Shelf shelf.old shelf.new }
+{
+    match load_machine(alloc, name, shelf) {
+        Ok(machine) => Ok(machine),
+        Err(stop) => Err(Stop::Told(stop)),
+    }
 }
 
 /// The certificate of a machine that a file holds, made anew.
@@ -35,7 +48,8 @@ pub fn certificate<F: Shelf>(
     machine: &Machine,
     name: &FileName,
 ) -> Result<Migrated, Stop>
-    ensures { IfOk result (λ m. IsOfText machine.now.desc m.cert) }
+    ensures of_file { IfOk result (λ m. IsOfFile (F.files shelf.old) name.now machine.now.desc m.cert) }
+    ensures reads { OnlyReads F.Shelf shelf.old shelf.new }
 {
     match load_certificate(alloc, machine, name, shelf) {
         Ok(migrated) => Ok(migrated),
@@ -73,7 +87,8 @@ pub fn family_of<F: Shelf>(
 
 /// The number of the instruction of a name.
 pub fn find(machine: &Machine, name: &str) -> Option<usize>
-    ensures { IfSome result (λ k. k < length machine.now.desc.instrs) }
+    ensures there { IfSome result (λ k. k < length machine.now.desc.instrs) }
+    ensures named { IfSome result (λ k. instr_named machine.now.desc name.now ≡ Some k) }
 {
     match machine.find(name) {
         Some(instr) if instr < machine.count() => Some(instr),
@@ -82,11 +97,23 @@ pub fn find(machine: &Machine, name: &str) -> Option<usize>
 }
 
 /// Puts a text.
-pub fn put<S: Sink>(out: &mut S, text: &[u8]) -> Result<(), Stop> {
-    out.put(text).map_err(|_| Stop::Output)
+pub fn put<S: Sink>(out: &mut S, text: &[u8]) -> Result<(), Stop>
+    ensures { Puts (S.written out.old) (S.written out.new) (S.faults out.old) (S.faults out.new) text.now result }
+{
+    match out.put(text) {
+        Ok(()) => Ok(()),
+        Err(Failed) => Err(Stop::Output),
+    }
 }
 
 /// Saves a text as a file.
-pub fn save<F: Shelf>(shelf: &mut F, name: &str, text: &[u8]) -> Result<(), Stop> {
-    shelf.save(name, text).map_err(|_| Stop::Output)
+pub fn save<F: Shelf>(shelf: &mut F, name: &str, text: &[u8]) -> Result<(), Stop>
+    ensures saves { Saves (F.files shelf.old) (F.files shelf.new) name.now text.now result }
+    ensures counted { CountsSave (F.saves shelf.old) (F.saves shelf.new) result }
+    ensures reads { F.reads shelf.new ≡ F.reads shelf.old }
+{
+    match shelf.save(name, text) {
+        Ok(()) => Ok(()),
+        Err(Failed) => Err(Stop::Output),
+    }
 }

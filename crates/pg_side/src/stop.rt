@@ -1,5 +1,7 @@
 //! Why a program goes no further: the line that tells it, and the status. Those of files are those of `pgv`.
 
+ghost use Rattle.std.specs.Prelude.{◌≡◌, ◌≤◌, IfOk, OnErr};
+
 use crate::import::fault::ProofFault;
 use pg_cli_says::{Lacking, WordsWatcher};
 use pg_edge::{Failed, Sink};
@@ -54,15 +56,18 @@ impl From<RupFault> for Stop {
     }
 }
 
-/// The status that a program ends with: its own, or that of why it goes no further, which is told. `usage` is the line for words that
-/// are not taken. The watcher is told of a stop of `pgv`'s, and of what words name that is not there.
+/// The status that a program ends with: its own, or that of why it goes no further, which is told, and is 3 or more. `usage` is the
+/// line for words that are not taken. The watcher is told of a stop of `pgv`'s, and of what words name that is not there.
 pub fn ended<S: Sink, W: StopWatcher + WordsWatcher>(
     alloc: Global,
     usage: &[u8],
     answer: Result<u8, Stop>,
     out: &mut S,
     watcher: &mut W,
-) -> u8 {
+) -> u8
+    ensures done { IfOk answer (λ status. result ≡ status) }
+    ensures stopped { OnErr answer (3 ≤ result) }
+{
     match answer {
         Ok(status) => status,
         Err(stop) => stop.tell(alloc, usage, out, watcher),
@@ -81,7 +86,9 @@ impl Stop {
         usage: &[u8],
         out: &mut S,
         watcher: &mut W,
-    ) -> u8 {
+    ) -> u8
+        ensures { 3 ≤ result }
+    {
         match self {
             Stop::Words => status(put_text(out, usage), 3),
             Stop::Lacking(lacking) => {
@@ -102,7 +109,9 @@ impl Stop {
 }
 
 /// A status, or 9 where its line could not be put.
-fn status(put: Result<(), Failed>, due: u8) -> u8 {
+fn status(put: Result<(), Failed>, due: u8) -> u8
+    ensures { 3 ≤ due → 3 ≤ result }
+{
     match put {
         Ok(()) => due,
         Err(Failed) => 9,

@@ -1,8 +1,9 @@
 //! The new certificate, with its text and what is told of it.
 
-ghost use Rattle.std.specs.Prelude.{◌≡◌, ◌<◌, length, IfOk, IfSome};
+ghost use Rattle.std.specs.Prelude.{◌≡◌, ◌<◌, length, string_bytes, IfOk};
 ghost use Rattle.pg_imported.specs.Imported.{IsOfText, IsPlaceOf, IsRightAt};
-ghost use Rattle.pg_side.specs.Saved.{IsSavedText};
+ghost use Rattle.pg_proof.specs.Trimmed.{step_count};
+ghost use Rattle.pg_side.specs.Saved.{IsNew, import_line, refuted_line, shown_line};
 
 use crate::import::answer::finding_of;
 use crate::import::request::Request;
@@ -46,7 +47,8 @@ pub fn new_certificate(
 ) -> Result<Written, Stop>
     requires made { IsOfText machine.desc cert }
     requires there { instr < length machine.desc.instrs }
-    ensures { IfOk result (λ w. IsSavedText machine.desc cert instr request.now.kind w.text.items) }
+    ensures machine { IfOk result (λ w. w.judged.machine.desc ≡ machine.desc) }
+    ensures is_new { IfOk result (IsNew machine.desc cert instr request.now) }
 {
     let Some(place) = place_of(&cert, instr, request.kind) else {
         return Err(Stop::Lacking(Lacking::Kind));
@@ -85,7 +87,8 @@ fn taken_finding(
 ) -> Result<Taken, Stop>
     requires there { instr < length machine.now.desc.instrs }
     requires asked { IsPlaceOf cert.now instr request.now.kind place }
-    ensures { IfOk result (λ t. IsRightAt machine.now.desc cert.now.family place t.finding) }
+    ensures right { IfOk result (λ t. IsRightAt machine.now.desc cert.now.family place t.finding) }
+    ensures line { IfOk result (λ t. string_bytes t.line ≡ import_line request.now.instr.now request.now.word.now t.finding) }
 {
     let asked = ask(alloc, machine, instr, request.kind)?;
     let finding = match finding_of(alloc, &asked, bytes) {
@@ -97,21 +100,38 @@ fn taken_finding(
 }
 
 /// The line that tells what was imported. The error is want of memory.
-fn line_of(alloc: Global, request: &Request<'_>, finding: &Finding) -> Result<String, AllocError> {
-    let Request { instr, word, .. } = *request;
+fn line_of(alloc: Global, request: &Request<'_>, finding: &Finding) -> Result<String, AllocError>
+    ensures { IfOk result (λ line. string_bytes line ≡ import_line request.now.instr.now request.now.word.now finding.now) }
+{
     match finding {
-        Finding::Refuted(acts) => {
-            let steps = step_count(acts.as_slice());
-            format!(in alloc; "imported {instr} {word} refuted {steps} steps\n")
-        }
-        Finding::Shown(..) | Finding::Spent(..) => {
-            format!(in alloc; "imported {instr} {word} shown\n")
-        }
+        Finding::Refuted(acts) => refuted_line(
+            alloc,
+            request.instr,
+            request.word,
+            step_count(acts.as_slice()),
+        ),
+        Finding::Shown(..) | Finding::Spent(..) => shown_line(alloc, request.instr, request.word),
     }
 }
 
+/// The line of a log of so many steps. The error is want of memory.
+fn refuted_line(alloc: Global, instr: &str, word: &str, steps: usize) -> Result<String, AllocError>
+    ensures { IfOk result (λ line. string_bytes line ≡ refuted_line instr.now word.now steps) }
+{
+    format!(in alloc; "imported {instr} {word} refuted {steps} steps\n")
+}
+
+/// The line of two states. The error is want of memory.
+fn shown_line(alloc: Global, instr: &str, word: &str) -> Result<String, AllocError>
+    ensures { IfOk result (λ line. string_bytes line ≡ shown_line instr.now word.now) }
+{
+    format!(in alloc; "imported {instr} {word} shown\n")
+}
+
 /// How many steps a log has.
-fn step_count(acts: &[Act]) -> usize {
+fn step_count(acts: &[Act]) -> usize
+    ensures { result ≡ step_count acts.now }
+{
     let mut count = 0usize;
     for act in acts {
         match act {

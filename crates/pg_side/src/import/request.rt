@@ -1,5 +1,8 @@
 //! What the words of the command line ask for.
 
+ghost use Rattle.std.specs.Prelude.{map, string_bytes, IfSome};
+ghost use Rattle.pg_side.specs.Saved.{AsksImport};
+
 use pg_cert::reading::kind;
 use pg_type::Kind;
 
@@ -23,7 +26,9 @@ pub struct Request<'a> {
 }
 
 /// The request of the words, the program's name first: `DESC CERT INSTR KIND PROOF FILE`. None where they are others.
-pub fn asked_by(words: &[String]) -> Option<Request<'_>> {
+pub fn asked_by(words: &[String]) -> Option<Request<'_>>
+    ensures { IfSome result (AsksImport (map string_bytes words.now)) }
+{
     let [_, desc, cert, instr, word, proof, file] = words else {
         return None;
     };
