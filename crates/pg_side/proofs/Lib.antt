@@ -3,6 +3,7 @@ pub mod Undone
 pub mod RunTexts
 pub mod RunLemmas
 pub mod CertLemmas
+pub mod TracingLemmas
 pub mod ClauseLemmas
 mod TakenLemmas
 mod LogLemmas

@@ -1,6 +1,7 @@
 pub mod Plans
 pub mod Judging
 pub mod Done
+pub mod Tracing
 pub mod Saved
 pub mod Mended
 pub mod Exported
