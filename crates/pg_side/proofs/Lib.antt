@@ -4,6 +4,7 @@ pub mod RunTexts
 pub mod RunLemmas
 pub mod CertLemmas
 pub mod TracingLemmas
+pub mod ExplainLemmas
 pub mod ClauseLemmas
 mod TakenLemmas
 mod LogLemmas
