@@ -10,9 +10,8 @@ use Rattle.pg_cert.specs.Verdicts.{verdict_of, kind_count}
 use Rattle.pg_edge.specs.Count.{Rose}
 use Rattle.pg_edge.specs.Shelf.{Files}
 use Rattle.pg_judged.specs.Certificates.{CertDue}
-use Rattle.pg_judged.specs.Judged.{Judged, verdict_on, verdict_status}
+use Rattle.pg_judged.specs.Judged.{verdict_status}
 use Rattle.pg_judged.specs.Meaning.{IsAcceptedBy}
-use Rattle.pg_judged.specs.Telling.{ToldAs}
 use Rattle.pg_judged.proofs.GuestLemmas.{cert-accepts}
 use Rattle.pg_judged.proofs.JudgedLemmas.{certificate-read}
 use Rattle.pg_report.specs.Verdicts.{DoMarkWordsFit}
@@ -22,9 +21,7 @@ use Rattle.pg_steps.specs.declared.refusal.Stop.TheVariants as stop
 use Rattle.pg_steps.specs.declared.status.Status.{Status}
 use Rattle.pg_steps.specs.declared.status.Status.TheVariants as status
 use Rattle.pg_steps.specs.Answering.{Comes}
-use Rattle.pg_steps.specs.Classes.{class_of}
 use Rattle.pg_steps.specs.Steps.{Step, Came}
-use Rattle.pg_steps.specs.World.{Output}
 use Rattle.pg_steps.proofs.StepLemmas.{rose-within}
 use Rattle.pg_valid.specs.Valid.{IsValid}
 
@@ -65,15 +62,9 @@ pub read-fit : (d : Desc) (family : Family) (told : Option Files) (name : List �
 read-fit d family told name before after (Ok report) valid h = (certificate-read d family told name report valid h).fit
 read-fit d family told name before after (Err e) valid h = tt
 
--- ---- a verdict that is told
+-- ---- a verdict that does not accept
 
-not-done : (v : Verdict) → ¬ (v ≡ verdict.Accepted) → status.Done ≡ verdict_status v → ⊥
+pub not-done : (v : Verdict) → ¬ (v ≡ verdict.Accepted) → status.Done ≡ verdict_status v → ⊥
 not-done verdict.Accepted other is = other refl
 not-done (verdict.Refused instr) other is = absurd (cc is)
 not-done (verdict.Unsettled instr kind) other is = absurd (cc is)
-
--- one that does not accept ends the program otherwise than a run does
-pub told-undone : (j : Judged) (old new : Output) (given : Status) → ¬ (verdict_on j ≡ verdict.Accepted) → ToldAs j old new given (class_of given) → given ≡ status.Done → ⊥
-told-undone j old new given other h is =
-    let whole = subst (λ s. ToldAs j old new s (class_of s)) is h in
-    not-done (verdict_on j) other whole.status

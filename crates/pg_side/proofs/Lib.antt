@@ -3,6 +3,8 @@ pub mod Undone
 pub mod RunTexts
 pub mod RunLemmas
 pub mod CertLemmas
+pub mod TracingLemmas
+pub mod ExplainLemmas
 pub mod ClauseLemmas
 pub mod ImportLemmas
 mod TakenLemmas

@@ -1,9 +1,5 @@
 -- A command that stops before its work does not end as one that is done.
-use Rattle.std.proofs.Common.{◌≡◌, Result, Ok, Err, subst}
-use Rattle.std.specs.Prelude.{OnOk}
-use Rattle.pg_traced.specs.declared.tracing.TraceFault.{TraceFault}
-use Rattle.pg_traced.specs.declared.tracing.TraceFault.TheVariants as fault
-use Rattle.pg_side.specs.Done.{ended_as}
+use Rattle.std.proofs.Common.{◌≡◌, subst}
 use Rattle.pg_report.specs.declared.line.RefusalLine.{RefusalLine}
 use Rattle.pg_report.specs.declared.line.RefusalLine.TheVariants.{Description, Image, Certificate, Room, Source, Saved}
 use Rattle.pg_steps.specs.declared.refusal.Refusal.{Refusal}
@@ -36,9 +32,3 @@ done-undone stop.Memory old new h = absurd (cc h.0)
 
 pub undone : (why : Stop) (old new : Output) (given : Status) → Stops why old new given → given ≡ status.Done → ⊥
 undone why old new given h is = done-undone why old new (subst (λ s. Stops why old new s) is h)
-
--- and where it ends as one that is done, its text was put whole
-pub ended-done : {P : Type 0} (r : Result (Unit {0}) TraceFault) → ended_as r ≡ status.Done → OnOk r P → P
-ended-done (Ok x) is h = h
-ended-done (Err fault.Output) is h = absurd (cc is)
-ended-done (Err fault.Memory) is h = absurd (cc is)

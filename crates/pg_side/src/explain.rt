@@ -10,33 +10,35 @@
 //! beside each pair (`pg_out_readable`). With `--json` the machine, all findings and all of
 //! the text are one JSON object (`json`).
 //!
-//! The status is that of `pgv verify`, and so are refusals: 0 accepted, 1 refused, 2 open. The words are read in `request`, and the
-//! files in `load`. A file for the mended description that is one of those is refused (`source`), before anything is read.
+//! The status is that of `pgv verify`, and so are refusals: 0 accepted, 1 refused, 2 open. What each leaves is a clause (`carry`). The
+//! words are read in `request`, and the files in `load`; what there is to tell is `found`, and what is saved `mend`. A file for the
+//! mended description that is one of those that are read is refused (`source`), before anything is read.
 
-ghost use Rattle.std.specs.Prelude.{IfOk, IfSome};
-ghost use Rattle.pg_edge.specs.Told.{BothTold};
-ghost use Rattle.pg_reasons.specs.Mending.{IsMendedBy};
-ghost use Rattle.pg_side.specs.Mended.{HoldsMended};
+ghost use Rattle.std.specs.Prelude.{◌≡◌, ◌≤◌};
+ghost use Rattle.pg_hw.specs.Machinery.{Machinery};
+ghost use Rattle.pg_steps.specs.Commands.{Carries};
+ghost use Rattle.pg_steps.specs.World.{SavesOnly, output};
+ghost use Rattle.pg_side.specs.Explaining.{HaltTold, beside, explain_command, explain_words, stated_as};
 
+mod found;
 mod json;
 mod load;
+mod mend;
 mod request;
 mod source;
 
+use crate::explain::found::{Halt, find};
 use crate::explain::json::put_json;
-use crate::explain::load::{Loaded, load};
 use crate::explain::request::{Request, asked_by};
 use crate::explain::source::source_saved;
-use crate::files::put;
-use crate::stop::{Stop, ended};
-use pg_cert::Verdict;
+use crate::stop::ended;
 use pg_cli_says::{Lacking, WordsWatcher};
 use pg_edge::{Failed, Shelf, Sink};
 use pg_host::telling::tell as say;
-use pg_judged::JudgedMachine;
-use pg_out_mended::{Layout, mended_text};
-use pg_reasons::{Mended, Part, Reasons, Wish, tell_reasons};
-use pg_steps::{Status, StopWatcher};
+use pg_judged::status_of;
+use pg_out_mended::Layout;
+use pg_report::put_text;
+use pg_steps::{Status, StopWatcher, stopped};
 use std::alloc::Global;
 
 /// How the program is called.
@@ -56,8 +58,13 @@ pub fn run<F: Shelf, S: Sink, W: StopWatcher + WordsWatcher>(
     layout: &mut Option<Layout>,
     watcher: &mut W,
 ) -> u8 {
-    let told = tell(alloc, words, shelf, out, layout);
-    ended(alloc, USAGE, told, out, watcher)
+    match asked_by(words) {
+        None => stated(put_text(out, USAGE), Status::Words).code(),
+        Some(request) if request.is_json => {
+            carry_json(alloc, &request, shelf, out, layout, watcher)
+        }
+        Some(request) => carry(alloc, &request, shelf, out, layout, watcher).code(),
+    }
 }
 
 /// The status where a file that the words name to be read is the one that they name to be saved, which is told on standard error;
@@ -79,88 +86,78 @@ pub fn say_layout(rt: &HostRuntime, layout: Option<Layout>) {
     }
 }
 
-/// Puts what is told of the machine that the words name, and saves the mended description where they ask for it. The answer is the
-/// status of the verdict.
-fn tell<F: Shelf, S: Sink>(
+/// Puts what is told of the machine that is asked for, as text, and saves the mended description where that is asked for.
+fn carry<F: Shelf, S: Sink, W: StopWatcher + WordsWatcher>(
     alloc: Global,
-    words: &[String],
+    request: &Request<'_>,
     shelf: &mut F,
     out: &mut S,
     layout: &mut Option<Layout>,
-) -> Result<u8, Stop> {
-    let request = asked_by(words).ok_or(Stop::Words)?;
-    let loaded = load(alloc, shelf, &request)?;
-    let part = part_of(&loaded.judged, &request).ok_or(Stop::Lacking(Lacking::Instr))?;
-    let told = reasons(alloc, &request, &loaded.judged, part)?;
-    if let (Some(file), Some(mended)) = (request.options.mend, &told.mended) {
-        *layout = Some(save_mended(alloc, shelf, file, &loaded, mended)?);
+    watcher: &mut W,
+) -> Status
+    ensures carries { (hw : Machinery) → Carries (explain_command (explain_words request.now)) (beside F.Shelf S.Sink hw shelf.old out.old)
+        (beside F.Shelf S.Sink hw shelf.new out.new) result }
+    ensures files { SavesOnly (explain_words request.now).mend (F.files shelf.old) (F.files shelf.new) }
+    ensures reads { F.reads shelf.old ≤ F.reads shelf.new }
+    ensures saves { F.saves shelf.old ≤ F.saves shelf.new }
+    ensures later { S.faults out.old ≤ S.faults out.new }
+{
+    match find(alloc, request, shelf, layout) {
+        Ok(found) => stated(
+            out.put(found.told.text.as_slice()),
+            status_of(found.judged.report.verdict()),
+        ),
+        Err(halt) => halted(&halt, out, watcher),
     }
-    if request.is_json {
-        put_json(alloc, &request, &loaded.judged, &told, shelf, out)?;
-    } else {
-        put(out, told.text.as_slice())?;
-    }
-    Ok(status_of(loaded.judged.report.verdict()))
 }
 
-/// What is told of a machine and what is kept of its certificate.
-fn reasons(
+/// Says why nothing is told, where that has a line, and answers with which status.
+fn halted<S: Sink, W: StopWatcher + WordsWatcher>(
+    halt: &Halt,
+    out: &mut S,
+    watcher: &mut W,
+) -> Status
+    ensures told { HaltTold halt.now (output S.Sink out.old) (output S.Sink out.new) result }
+    ensures later { S.faults out.old ≤ S.faults out.new }
+{
+    match halt {
+        Halt::Stopped(stop) => stopped(stop, out, watcher),
+        Halt::Lacking => {
+            watcher.lacks(Lacking::Instr);
+            stated(put_text(out, USAGE), Status::Words)
+        }
+        Halt::Unsaved => Status::WriteFault,
+    }
+}
+
+/// A status, or that of output where its text could not be put.
+fn stated(put: Result<(), Failed>, due: Status) -> Status
+    ensures { result ≡ stated_as put due }
+{
+    match put {
+        Ok(()) => due,
+        Err(Failed) => Status::WriteFault,
+    }
+}
+
+/// The same as JSON; why nothing is told is said as beside the text.
+fn carry_json<F: Shelf, S: Sink, W: StopWatcher + WordsWatcher>(
     alloc: Global,
     request: &Request<'_>,
-    judged: &JudgedMachine,
-    part: Part,
-) -> Result<Reasons, Stop>
-    ensures { IfOk result (λ told. IfSome told.mended (λ g. IsMendedBy judged.now.machine.desc judged.now.report g.machine.desc)) }
-{
-    let wish = Wish {
-        part,
-        is_readable: request.options.is_readable,
-    };
-    let budget = request.options.budget();
-    match tell_reasons(alloc, &judged.machine, &judged.report, wish, budget) {
-        Ok(told) => Ok(told),
-        Err(_) => Err(Stop::Memory),
-    }
-}
-
-/// What of the report the words ask for. None where the description has no such instruction.
-fn part_of(judged: &JudgedMachine, request: &Request<'_>) -> Option<Part> {
-    let Some(name) = request.instr else {
-        return Some(Part::All);
-    };
-    let instr = judged.machine.find(name)?;
-    match request.kind {
-        None => Some(Part::Instr(instr)),
-        Some(kind) => Some(Part::Kind(instr, kind)),
-    }
-}
-
-/// Saves the description that is mended, in the text of the description where that can be kept, and gives the layout.
-#[tactic(auto, using(crate::proofs::MendedLemmas::saved_mended))]
-fn save_mended<F: Shelf>(
-    alloc: Global,
     shelf: &mut F,
-    file: &str,
-    loaded: &Loaded,
-    mended: &Mended,
-) -> Result<Layout, Stop>
-    requires { IsMendedBy loaded.now.judged.machine.desc loaded.now.judged.report mended.now.machine.desc }
-    ensures { IfOk result (λ _. BothTold (F.files shelf.old) (F.files shelf.new)
-        (λ _ files. HoldsMended loaded.now.judged.machine.desc loaded.now.judged.report file.now files)) }
+    out: &mut S,
+    layout: &mut Option<Layout>,
+    watcher: &mut W,
+) -> u8
+    ensures files { SavesOnly (explain_words request.now).mend (F.files shelf.old) (F.files shelf.new) }
 {
-    let text = mended_text(
-        alloc,
-        loaded.text.as_slice(),
-        mended.marks.as_slice(),
-        &mended.machine.desc,
-    )?;
-    match shelf.save(file, text.bytes.as_slice()) {
-        Ok(()) => Ok(text.layout),
-        Err(Failed) => Err(Stop::Output),
-    }
-}
-
-/// The status of a verdict: that of `pgv verify`.
-fn status_of(verdict: Verdict) -> u8 {
-    pg_judged::status_of(verdict).code()
+    let found = match find(alloc, request, shelf, layout) {
+        Ok(found) => found,
+        Err(halt) => return halted(&halt, out, watcher).code(),
+    };
+    let answer = match put_json(alloc, request, &found.judged, &found.told, shelf, out) {
+        Ok(()) => Ok(status_of(found.judged.report.verdict()).code()),
+        Err(stop) => Err(stop),
+    };
+    ended(alloc, USAGE, answer, out, watcher)
 }

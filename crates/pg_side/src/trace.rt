@@ -21,12 +21,14 @@
 //! the image (5). With `--cert` they are those of `pgv run`: the room is beside the cells that a monitor keeps, and behind the
 //! image come the certificate (6) and a verdict that does not accept the machine, which is written (1, 2). The status is 8 where
 //! a file cannot be read, 9 where the output cannot be written, 10 where memory is refused, and 11 where a file is not there.
-//! What was put before a fault stays. Where the status is 0 the state is the one that `pgv bare` reaches (`carry`).
+//! What was put before a fault stays. Where the status is 0 the state is the one that `pgv bare` reaches; what each other status
+//! means is a clause too (`carry`). No file is saved.
 //!
-//! - `request`: the words. `prepare`: the files, to a `plan`. `certificate`: a certificate of either family. `carry`: the run and
-//!   its text. `json`: the same as JSON.
+//! - `request`: the words. `prepare`: the files, to a `plan`. `certificate`: a certificate of either family. `work`: what there is to
+//!   do. `carry`: the run and its text. `json`: the same as JSON.
 
 ghost use Rattle.pg_steps.specs.Able.{IsAble};
+ghost use Rattle.pg_steps.specs.Answering.{OnlyReads};
 
 mod carry;
 pub mod certificate;
@@ -34,6 +36,7 @@ mod json;
 mod plan;
 mod prepare;
 mod request;
+mod work;
 
 use crate::trace::carry::carry;
 use crate::trace::json::carry_json;
@@ -58,6 +61,7 @@ pub fn run<F: Shelf, S: Sink, H: Hardware, W: StopWatcher>(
     watcher: &mut W,
 ) -> u8
     requires able { IsAble H.Hardware hw.old }
+    ensures reads { OnlyReads F.Shelf shelf.old shelf.new }
 {
     let status = match asked_by(alloc, words) {
         Err(_) => Status::Memory,

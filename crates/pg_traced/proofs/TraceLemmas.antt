@@ -1,10 +1,10 @@
 -- The lines of a run, step by step.
-use Rattle.std.proofs.Common.{◌≡◌, ℕ, suc, ◌+◌, List, [], ◌++◌, append_assoc, length, Option, Result, Ok, Err, refl, ◌∙◌, ap, subst, arith}
-use Rattle.std.specs.Prelude.{OnOk}
-use Rattle.std.proofs.lemmas.List.{length-replicate}
+use Rattle.std.proofs.Common.{◌≡◌, ℕ, suc, ◌+◌, ◌≤◌, List, [], ◌++◌, append_assoc, length, Option, None, Some, Result, Ok, Err, refl, sym, ◌∙◌, ap, subst, arith}
+use Rattle.std.specs.Prelude.{OnOk, OnErr}
+use Rattle.std.proofs.lemmas.List.{append-nil, length-replicate, take_all}
 use Rattle.pg_edge.specs.Told.{BothTold}
-use Rattle.pg_edge.specs.Sink.{Adds}
-use Rattle.pg_edge.proofs.PutsLaws.{Adds-nil, Adds-append}
+use Rattle.pg_edge.specs.Sink.{Adds, AddsFront}
+use Rattle.pg_edge.proofs.PutsLaws.{Adds-nil, Adds-append, AddsFront-append}
 use Rattle.pg_ast.specs.declared.tree.Desc.{Desc}
 use Rattle.pg_meaning.specs.States.{State}
 use Rattle.pg_meaning.specs.Steps.{steps, power_on, bare}
@@ -14,7 +14,7 @@ use Rattle.pg_hw.specs.Serving.{blank}
 use Rattle.pg_interp.specs.declared.effect.Write.{Write}
 use Rattle.pg_traced.specs.Handling.{handling_under}
 use Rattle.pg_traced.specs.Tells.{Tells}
-use Rattle.pg_traced.specs.Traces.{IsTrace, PutsTrace, shown_step}
+use Rattle.pg_traced.specs.Traces.{IsTrace, PutsTrace, PutsSome, shown_step}
 use Rattle.pg_traced.specs.declared.shows.Telling.{Telling}
 use Rattle.pg_traced.specs.declared.stepped.Stepped.{Stepped}
 
@@ -36,6 +36,43 @@ traced-next t d n s was mid now stores r h tells handling put =
       lines = h.lines ++ shown_step t.shows d (n + 1) stores r;
       trace = subst (λ m. IsTrace t d m s (h.lines ++ shown_step t.shows d m stores r)) e (trace-next t d n s h.lines stores r h.trace tells handling);
       written = Adds-append was mid now h.lines (shown_step t.shows d (n + 1) stores r) h.written put;
+    }
+
+-- ---- a front of the lines
+
+-- what holds holds on a fault
+pub on-err : {T E P : Type 0} (r : Result T E) → P → OnErr r P
+on-err (Ok x) h = tt
+on-err (Err e) h = h
+
+-- nothing put is a front of any text
+pub front-none : (told : Option (List ℕ)) (text : List ℕ) → BothTold told told (AddsFront text)
+front-none None text = tt
+front-none (Some bytes) text = (0, sym (append-nil bytes))
+
+-- a whole text is one of its fronts
+pub front-whole : (was now : Option (List ℕ)) (text : List ℕ) → BothTold was now (Adds text) → BothTold was now (AddsFront text)
+front-whole None None text put = tt
+front-whole None (Some now) text put = put
+front-whole (Some was) None text put = put
+front-whole (Some was) (Some now) text put = (length text, put ∙ ap (λ x. was ++ x) (sym (take_all (length text) text (omega arith))))
+
+pub some-none : (t : Telling) (d : Desc) (n : ℕ) (s : State) (was : Option (List ℕ)) → PutsSome t d n s was was
+unfolding IsTrace
+some-none t d n s was = record { done = 0; within = omega arith; lines = []; trace = refl; front = front-none was [] }
+
+-- the lines of some steps were put, and a front of the line of the next one
+pub some-next : (t : Telling) (d : Desc) (n all : ℕ) (s : State) (was mid now : Option (List ℕ)) (stores : List Write) (r : Stepped) → n + 1 ≤ all → PutsTrace t d n s was mid →
+    Tells d (steps d n s) stores r → r.handling ≡ handling_under t.monitor d (steps d n s) → BothTold mid now (AddsFront (shown_step t.shows d (n + 1) stores r)) →
+    PutsSome t d all s was now
+some-next t d n all s was mid now stores r within h tells handling put =
+    let e : suc n ≡ n + 1 = omega arith in
+    record {
+      done = n + 1;
+      within = within;
+      lines = h.lines ++ shown_step t.shows d (n + 1) stores r;
+      trace = subst (λ m. IsTrace t d m s (h.lines ++ shown_step t.shows d m stores r)) e (trace-next t d n s h.lines stores r h.trace tells handling);
+      front = AddsFront-append was mid now h.lines (shown_step t.shows d (n + 1) stores r) h.written put;
     }
 
 pub blank-length : (n : ℕ) → length (blank n).cells ≡ n

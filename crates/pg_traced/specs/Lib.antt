@@ -3,4 +3,5 @@ pub mod Handling
 pub mod Counting
 pub mod Fitting
 pub mod Lines
+pub mod Putting
 pub mod Traces

@@ -1,11 +1,11 @@
 -- The lines of a run.
-use Rattle.std.specs.Prelude.{◌≡◌, ℕ, zero, suc, Bool, true, false, if◌then◌else◌, List, [], ◌++◌, Option, None, Some}
+use Rattle.std.specs.Prelude.{◌≡◌, ℕ, ◌≤◌, zero, suc, Bool, true, false, if◌then◌else◌, List, [], ◌++◌, Option, None, Some}
 use Rattle.pg_word.specs.declared.cause.Cause.{Cause}
 use Rattle.pg_ast.specs.declared.tree.Desc.{Desc}
 use Rattle.pg_meaning.specs.States.{State}
 use Rattle.pg_meaning.specs.Steps.{steps}
 use Rattle.pg_edge.specs.Told.{BothTold}
-use Rattle.pg_edge.specs.Sink.{Adds}
+use Rattle.pg_edge.specs.Sink.{Adds, AddsFront}
 use Rattle.pg_interp.specs.declared.effect.Write.{Write}
 use Rattle.pg_traced.specs.declared.shows.Shows.{Shows}
 use Rattle.pg_traced.specs.declared.shows.Shows.TheVariants.{Steps, Traps, Counts}
@@ -38,3 +38,11 @@ pub record PutsTrace (t : Telling) (d : Desc) (n : ℕ) (s : State) (was now : O
   pub lines : List ℕ
   pub trace : IsTrace t d n s lines
   pub written : BothTold was now (Adds lines)
+
+-- a front was put of the lines of some first steps, of these at most
+pub record PutsSome (t : Telling) (d : Desc) (n : ℕ) (s : State) (was now : Option (List ℕ)) : Type 0 where
+  pub done : ℕ
+  pub within : done ≤ n
+  pub lines : List ℕ
+  pub trace : IsTrace t d done s lines
+  pub front : BothTold was now (AddsFront lines)

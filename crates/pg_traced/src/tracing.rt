@@ -1,18 +1,19 @@
 //! Many steps, each with its line.
 
-ghost use Rattle.std.specs.Prelude.{◌≡◌, ◌^◌, ◌<◌, ◌≤◌, length, All, IfOk, OnOk};
+ghost use Rattle.std.specs.Prelude.{◌≡◌, ◌^◌, ◌<◌, ◌≤◌, length, All, IfOk, OnOk, OnErr, IsErrOf};
 ghost use Rattle.pg_ast.specs.declared.tree.Desc.{Desc};
 ghost use Rattle.pg_meaning.specs.Steps.{bare, power_on};
 ghost use Rattle.pg_valid.specs.Valid.{IsValid};
-ghost use Rattle.pg_edge.specs.Told.{BothTold};
-ghost use Rattle.pg_edge.specs.Sink.{Adds};
+ghost use Rattle.pg_edge.specs.Count.{Rose};
 ghost use Rattle.pg_meaning.specs.States.{IsState};
 ghost use Rattle.pg_hw.specs.Serving.{IsServed};
 ghost use Rattle.pg_hw.specs.Running.{Ran};
 ghost use Rattle.pg_traced.specs.Counting.{IsBalanced, IsTally};
 ghost use Rattle.pg_traced.specs.Fitting.{Fits};
 ghost use Rattle.pg_traced.specs.Handling.{AreShares};
-ghost use Rattle.pg_traced.specs.Traces.{PutsTrace, is_shown, shown_step};
+ghost use Rattle.pg_traced.specs.Putting.{PutsUpTo};
+ghost use Rattle.pg_traced.specs.Traces.{PutsTrace, PutsSome, is_shown, shown_step};
+ghost use Rattle.pg_traced.specs.declared.tracing.TraceFault.TheVariants.{Memory, Output};
 
 use crate::line::push_step;
 use crate::shows::{Shows, Telling};
@@ -36,12 +37,16 @@ pub enum TraceFault {
 }
 
 impl From<AllocError> for TraceFault {
+    ghost from_gives = { λ _ fault. fault ≡ Memory };
+
     fn from(_error: AllocError) -> TraceFault {
         TraceFault::Memory
     }
 }
 
 impl From<Failed> for TraceFault {
+    ghost from_gives = { λ _ fault. fault ≡ Output };
+
     fn from(_error: Failed) -> TraceFault {
         TraceFault::Output
     }
@@ -49,6 +54,9 @@ impl From<Failed> for TraceFault {
 
 /// Runs a machine on a hardware for `n` steps, less than 2^32, puts the lines of those that are shown, and counts all. Where a monitor
 /// is named it is told of each how the monitor would handle it.
+///
+/// # Errors
+/// `Output` where a put failed, and `Memory` where there is none for counts or a line. A front of the lines is then put.
 pub fn trace<H: Hardware, S: Sink>(
     alloc: Global,
     m: &Machine,
@@ -65,6 +73,9 @@ pub fn trace<H: Hardware, S: Sink>(
     ensures balanced { IfOk result IsBalanced }
     ensures ran { OnOk result (Ran m.now.desc n (H.machinery hw.old) (H.machinery hw.new)) }
     ensures puts { OnOk result (PutsTrace telling m.now.desc n (H.machinery hw.old).state (S.written out.old) (S.written out.new)) }
+    ensures front { OnErr result (PutsSome telling m.now.desc n (H.machinery hw.old).state (S.written out.old) (S.written out.new)) }
+    ensures later { S.faults out.old ≤ S.faults out.new }
+    ensures cause { IsErrOf result Output → Rose (S.faults out.old) (S.faults out.new) }
     ensures fixed { H.fixed hw.new ≡ H.fixed hw.old }
 {
     let mut tracer = Tracer::new(telling.monitor);
@@ -102,6 +113,9 @@ pub fn trace_bare<H: Hardware, S: Sink>(
     ensures balanced { IfOk result IsBalanced }
     ensures state { OnOk result ((H.machinery hw.new).state ≡ bare m.now.desc image.now (length image.now) n) }
     ensures puts { OnOk result (PutsTrace telling m.now.desc n (power_on image.now (length image.now)) (S.written out.old) (S.written out.new)) }
+    ensures front { OnErr result (PutsSome telling m.now.desc n (power_on image.now (length image.now)) (S.written out.old) (S.written out.new)) }
+    ensures later { S.faults out.old ≤ S.faults out.new }
+    ensures cause { IsErrOf result Output → Rose (S.faults out.old) (S.faults out.new) }
 {
     hw.install(image.len() as u32)?;
     power_on(hw, image);
@@ -119,7 +133,8 @@ fn put_shown<S: Sink>(
     shows: Shows,
 ) -> Result<(), TraceFault>
     requires { Fits m.now.desc stores.now stepped.now }
-    ensures { OnOk result (BothTold (S.written out.old) (S.written out.new) (Adds (shown_step shows m.now.desc number stores.now stepped.now))) }
+    ensures { PutsUpTo (S.written out.old) (S.written out.new) (S.faults out.old) (S.faults out.new)
+        (shown_step shows m.now.desc number stores.now stepped.now) result }
 {
     if !is_shown(shows, stepped.cause) {
         return Ok(());

@@ -1,6 +1,7 @@
 //! A machine and its certificate as JSON: `docs/DATA.md` has its keys. Each instruction is put with its findings, one after another.
 
 ghost use Rattle.std.specs.Prelude.{◌<◌, length};
+ghost use Rattle.pg_steps.specs.Answering.{OnlyReads};
 
 use crate::explain::request::Request;
 use crate::files::{file_name, put};
@@ -44,7 +45,9 @@ pub fn put_json<F: Shelf, S: Sink>(
     told: &Reasons,
     shelf: &mut F,
     out: &mut S,
-) -> Result<(), Stop> {
+) -> Result<(), Stop>
+    ensures reads { OnlyReads F.Shelf shelf.old shelf.new }
+{
     let beside = Beside {
         sources: sources_of(alloc, request.desc, shelf)?,
         logs: logs_of(alloc, request.cert, shelf)?,
@@ -60,7 +63,9 @@ pub fn put_json<F: Shelf, S: Sink>(
 }
 
 /// The instructions in the text of the description, as it is now.
-fn sources_of<F: Shelf>(alloc: Global, name: &str, shelf: &mut F) -> Result<SourceList, Stop> {
+fn sources_of<F: Shelf>(alloc: Global, name: &str, shelf: &mut F) -> Result<SourceList, Stop>
+    ensures reads { OnlyReads F.Shelf shelf.old shelf.new }
+{
     let name = file_name(alloc, name)?;
     match load_file(alloc, &name, DESC_BYTES, shelf) {
         Ok(bytes) => Ok(read_sources(alloc, bytes.as_slice())?),
@@ -69,7 +74,9 @@ fn sources_of<F: Shelf>(alloc: Global, name: &str, shelf: &mut F) -> Result<Sour
 }
 
 /// The lengths of the logs in the text of the certificate, as it is now.
-fn logs_of<F: Shelf>(alloc: Global, name: &str, shelf: &mut F) -> Result<Logs, Stop> {
+fn logs_of<F: Shelf>(alloc: Global, name: &str, shelf: &mut F) -> Result<Logs, Stop>
+    ensures reads { OnlyReads F.Shelf shelf.old shelf.new }
+{
     let mut logs = Logs::new(alloc);
     feed_parts(alloc, name, shelf, &mut logs)?;
     logs.end()?;
@@ -82,7 +89,9 @@ fn feed_parts<F: Shelf>(
     name: &str,
     shelf: &mut F,
     logs: &mut Logs,
-) -> Result<(), Stop> {
+) -> Result<(), Stop>
+    ensures reads { OnlyReads F.Shelf shelf.old shelf.new }
+{
     let mut at = 0u64;
     for _ in 0..u64::MAX {
         let part = load_part(alloc, name, at, shelf)?;
@@ -96,7 +105,9 @@ fn feed_parts<F: Shelf>(
 }
 
 /// Some bytes of a file from a place on; none where it ends there.
-fn load_part<F: Shelf>(alloc: Global, name: &str, at: u64, shelf: &mut F) -> Result<Vec<u8>, Stop> {
+fn load_part<F: Shelf>(alloc: Global, name: &str, at: u64, shelf: &mut F) -> Result<Vec<u8>, Stop>
+    ensures reads { OnlyReads F.Shelf shelf.old shelf.new }
+{
     let mut bytes = Vec::new(alloc);
     match shelf.part(name, at, PART_BYTES, &mut bytes) {
         Ok(()) => Ok(bytes),

@@ -1,25 +1,26 @@
 //! The run, and its text.
 
-ghost use Rattle.std.specs.Prelude.{◌≡◌, ◌+◌, ◌*◌, ◌++◌, ◌≤◌, All, OnOk, length};
-ghost use Rattle.pg_alloc.specs.Fit.{kept_cells};
+ghost use Rattle.std.specs.Prelude.{◌≡◌, ◌*◌, ◌++◌, ◌≤◌, All, OnOk, OnErr, IfSome, IsErrOf, Some, length};
 ghost use Rattle.pg_cert.specs.Verdicts.{kind_count};
 ghost use Rattle.pg_judged.specs.Views.{judged};
 ghost use Rattle.pg_report.specs.Verdicts.{DoMarkWordsFit};
-ghost use Rattle.pg_edge.specs.Told.{BothTold};
-ghost use Rattle.pg_edge.specs.Sink.{Adds};
+ghost use Rattle.pg_edge.specs.Count.{Rose};
 ghost use Rattle.pg_steps.specs.Able.{IsAble};
+ghost use Rattle.pg_steps.specs.Answering.{OnlyReads};
+ghost use Rattle.pg_steps.specs.Classes.{class_of};
+ghost use Rattle.pg_steps.specs.World.{around, output};
 ghost use Rattle.pg_steps.specs.declared.status.Status.TheVariants as status;
 ghost use Rattle.pg_tool_plain.specs.Bare.{reached};
-ghost use Rattle.pg_side.specs.Done.{IsShown, PutsText, PutsJudged, has_state, ended_as, reached_text, end_text, all_counts, handled_text};
-ghost use Rattle.pg_side.specs.Plans.{kept_beside, planned_run};
+ghost use Rattle.pg_traced.specs.Putting.{PutsUpTo};
+ghost use Rattle.pg_side.specs.Done.{IsShown, PutsText, has_state, ended_as, reached_text, end_text, all_counts, handled_text};
+ghost use Rattle.pg_side.specs.Plans.{planned_run};
+ghost use Rattle.pg_side.specs.Tracing.{PutsFront, Traces, WorkLeaves, trace_work};
 
-use crate::trace::certificate::{load_either, monitor_of};
+use crate::trace::certificate::monitor_of;
 use crate::trace::plan::Plan;
-use crate::trace::prepare::prepare;
 use crate::trace::request::TraceWords;
-use pg_asked::FileName;
+use crate::trace::work::{Work, load_work};
 use pg_cert::Report;
-use pg_control::KEPT_CELLS;
 use pg_edge::{Shelf, Sink};
 use pg_hw::Hardware;
 use pg_judged::{JudgedMachine, is_accepted, tell_verdict};
@@ -30,7 +31,7 @@ use pg_traced::{Monitor, Shows, Tally, Telling, TraceFault, push_counts, push_sh
 use std::alloc::{AllocError, Global};
 
 /// Runs what the words ask for, and puts its text; or the verdict of the certificate that they name, where it does not accept the
-/// machine.
+/// machine. No file is saved.
 pub fn carry<F: Shelf, S: Sink, H: Hardware, W: StopWatcher>(
     alloc: Global,
     words: &TraceWords,
@@ -41,24 +42,14 @@ pub fn carry<F: Shelf, S: Sink, H: Hardware, W: StopWatcher>(
 ) -> Status
     requires able { IsAble H.Hardware hw.old }
     ensures done { result ≡ status.Done → IsShown words.now (F.files shelf.old) (H.machinery hw.new).state (S.written out.old) (S.written out.new) }
+    ensures traces { Traces words.now (around F.Shelf S.Sink H.Hardware shelf.old out.old hw.old)
+        (around F.Shelf S.Sink H.Hardware shelf.new out.new hw.new) result }
+    ensures reads { OnlyReads F.Shelf shelf.old shelf.new }
+    ensures later { S.faults out.old ≤ S.faults out.new }
 {
-    let plan = match prepare(alloc, kept_beside(words), &words.bare, shelf) {
-        Ok(plan) => plan,
-        Err(stop) => return stopped(&stop, out, watcher),
-    };
-    match &words.cert {
-        None => ended(put_run(alloc, &plan, hw, out, told_of(words.shows, None))),
-        Some(cert) => carry_judged(alloc, plan, words.shows, cert, shelf, out, hw, watcher),
-    }
-}
-
-/// How many cells a monitor keeps beside the run.
-pub fn kept_beside(words: &TraceWords) -> u32
-    ensures { result ≡ kept_beside words.now.cert }
-{
-    match words.cert {
-        None => 0,
-        Some(_) => KEPT_CELLS,
+    match load_work(alloc, words, shelf) {
+        Ok(work) => carry_work(alloc, work, words.shows, hw, out),
+        Err(stop) => stopped(&stop, out, watcher),
     }
 }
 
@@ -69,28 +60,45 @@ fn told_of(shows: Shows, monitor: Option<Monitor>) -> Telling
     Telling { shows, monitor }
 }
 
-/// Runs a plan where a certificate says that a monitor may run its machine, and puts its text with what the monitor would do; else
-/// puts the verdict.
-fn carry_judged<F: Shelf, S: Sink, H: Hardware, W: StopWatcher>(
+/// Does the work, and puts its text.
+fn carry_work<S: Sink, H: Hardware>(
     alloc: Global,
-    plan: Plan,
+    work: Work,
     shows: Shows,
-    cert: &FileName,
-    shelf: &mut F,
-    out: &mut S,
     hw: &mut H,
-    watcher: &mut W,
+    out: &mut S,
 ) -> Status
     requires able { IsAble H.Hardware hw.old }
-    requires room { kept_cells + plan.grant ≤ plan.machine.desc.size }
-    ensures reached { result ≡ status.Done → (H.machinery hw.new).state ≡ reached (planned_run plan) }
-    ensures put { result ≡ status.Done →
-        PutsJudged shows cert.now (F.files shelf.old) (planned_run plan) (S.written out.old) (S.written out.new) }
+    requires whole { IfSome work.report (λ r. length r.marks ≡ length work.plan.machine.desc.instrs * kind_count r.family) }
+    requires fit { IfSome work.report (λ r. All (DoMarkWordsFit work.plan.machine.desc.word) r.marks) }
+    ensures left { WorkLeaves shows (trace_work work) (output S.Sink out.old) (output S.Sink out.new)
+        (H.machinery hw.old) (H.machinery hw.new) result (class_of result) }
+    ensures later { S.faults out.old ≤ S.faults out.new }
 {
-    let report = match load_either(alloc, &plan.machine, cert, shelf) {
-        Ok(report) => report,
-        Err(stop) => return stopped(&stop, out, watcher),
-    };
+    let Work { plan, report } = work;
+    match report {
+        None => ended(put_run(alloc, &plan, hw, out, told_of(shows, None))),
+        Some(report) => carry_judged(alloc, plan, report, shows, hw, out),
+    }
+}
+
+/// Runs a plan where a certificate says that a monitor may run its machine, and puts its text with what the monitor would do; else
+/// puts the verdict.
+fn carry_judged<S: Sink, H: Hardware>(
+    alloc: Global,
+    plan: Plan,
+    report: Report,
+    shows: Shows,
+    hw: &mut H,
+    out: &mut S,
+) -> Status
+    requires able { IsAble H.Hardware hw.old }
+    requires whole { length report.marks ≡ length plan.machine.desc.instrs * kind_count report.family }
+    requires fit { All (DoMarkWordsFit plan.machine.desc.word) report.marks }
+    ensures left { WorkLeaves shows (record { run = planned_run plan; report = Some report }) (output S.Sink out.old) (output S.Sink out.new)
+        (H.machinery hw.old) (H.machinery hw.new) result (class_of result) }
+    ensures later { S.faults out.old ≤ S.faults out.new }
+{
     if !is_accepted(report.verdict()) {
         return tell_verdict(out, &judged(plan.machine, report));
     }
@@ -129,6 +137,9 @@ fn put_run<S: Sink, H: Hardware>(
     requires able { IsAble H.Hardware hw.old }
     ensures reached { OnOk result ((H.machinery hw.new).state ≡ reached (planned_run plan.now)) }
     ensures put { OnOk result (PutsText telling (planned_run plan.now) (S.written out.old) (S.written out.new)) }
+    ensures front { OnErr result (PutsFront telling (planned_run plan.now) (S.written out.old) (S.written out.new)) }
+    ensures later { S.faults out.old ≤ S.faults out.new }
+    ensures cause { IsErrOf result TraceFault.Output → Rose (S.faults out.old) (S.faults out.new) }
 {
     let image = plan.image.as_slice();
     let tally = trace_bare(alloc, &plan.machine, image, hw, out, plan.steps, telling)?;
@@ -145,7 +156,8 @@ fn put_counts<S: Sink>(
     monitor: Option<Monitor>,
 ) -> Result<(), TraceFault>
     requires { length tally.now.instrs.items ≡ length m.now.desc.instrs }
-    ensures { OnOk result (BothTold (S.written out.old) (S.written out.new) (Adds (all_counts monitor m.now.desc tally.now))) }
+    ensures { PutsUpTo (S.written out.old) (S.written out.new) (S.faults out.old) (S.faults out.new)
+        (all_counts monitor m.now.desc tally.now) result }
 {
     let mut text = Vec::new(alloc);
     push_counts(&mut text, m, tally)?;
@@ -176,7 +188,8 @@ fn put_end<S: Sink, H: Hardware>(
     shows: Shows,
 ) -> Result<(), TraceFault>
     requires { (H.machinery hw.now).state ≡ reached (planned_run plan.now) }
-    ensures { OnOk result (BothTold (S.written out.old) (S.written out.new) (Adds (end_text shows (planned_run plan.now)))) }
+    ensures { PutsUpTo (S.written out.old) (S.written out.new) (S.faults out.old) (S.faults out.new)
+        (end_text shows (planned_run plan.now)) result }
 {
     if has_state(shows) {
         put_reached(plan, hw, out)
@@ -198,7 +211,8 @@ fn has_state(shows: Shows) -> bool
 /// Puts the state that was reached, which the hardware holds.
 fn put_reached<S: Sink, H: Hardware>(plan: &Plan, hw: &H, out: &mut S) -> Result<(), TraceFault>
     requires { (H.machinery hw.now).state ≡ reached (planned_run plan.now) }
-    ensures { OnOk result (BothTold (S.written out.old) (S.written out.new) (Adds (reached_text (planned_run plan.now)))) }
+    ensures { PutsUpTo (S.written out.old) (S.written out.new) (S.faults out.old) (S.faults out.new)
+        (reached_text (planned_run plan.now)) result }
 {
     let psw = hw.psw();
     put_state(out, plan.machine.shape(), hw, 0, plan.grant, psw)?;

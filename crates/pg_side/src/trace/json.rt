@@ -1,16 +1,19 @@
 //! A run as JSON: `docs/DATA.md` has its keys.
 
-ghost use Rattle.std.specs.Prelude.{OnOk, ◌≡◌};
+ghost use Rattle.std.specs.Prelude.{◌≡◌, ◌*◌, All, OnOk, length};
+ghost use Rattle.pg_cert.specs.Verdicts.{kind_count};
+ghost use Rattle.pg_report.specs.Verdicts.{DoMarkWordsFit};
 ghost use Rattle.pg_steps.specs.Able.{IsAble};
+ghost use Rattle.pg_steps.specs.Answering.{OnlyReads};
 ghost use Rattle.pg_tool_plain.specs.Bare.{reached};
 ghost use Rattle.pg_side.specs.Plans.{planned_run};
 
-use crate::trace::carry::{ended, judged, kept_beside};
-use crate::trace::certificate::{load_either, monitor_of};
+use crate::trace::carry::{ended, judged};
+use crate::trace::certificate::monitor_of;
 use crate::trace::plan::Plan;
-use crate::trace::prepare::prepare;
 use crate::trace::request::TraceWords;
-use pg_asked::FileName;
+use crate::trace::work::{Work, load_work};
+use pg_cert::Report;
 use pg_cli_version::VERSION;
 use pg_edge::{Shelf, Sink};
 use pg_hw::Hardware;
@@ -21,7 +24,7 @@ use pg_traced::{Monitor, TraceFault};
 use std::alloc::{AllocError, Global};
 
 /// Runs what the words ask for, and puts it as JSON; refusals are those of the text, and so is the verdict of a certificate that does
-/// not accept the machine.
+/// not accept the machine. No file is saved.
 pub fn carry_json<F: Shelf, S: Sink, H: Hardware, W: StopWatcher>(
     alloc: Global,
     words: &TraceWords,
@@ -31,33 +34,31 @@ pub fn carry_json<F: Shelf, S: Sink, H: Hardware, W: StopWatcher>(
     watcher: &mut W,
 ) -> Status
     requires able { IsAble H.Hardware hw.old }
+    ensures reads { OnlyReads F.Shelf shelf.old shelf.new }
 {
-    let plan = match prepare(alloc, kept_beside(words), &words.bare, shelf) {
-        Ok(plan) => plan,
+    let work = match load_work(alloc, words, shelf) {
+        Ok(work) => work,
         Err(stop) => return stopped(&stop, out, watcher),
     };
-    match &words.cert {
+    let Work { plan, report } = work;
+    match report {
         None => ended(put_json(alloc, &plan, hw, out, None)),
-        Some(cert) => carry_accepted(alloc, plan, cert, shelf, out, hw, watcher),
+        Some(report) => carry_accepted(alloc, plan, report, hw, out),
     }
 }
 
 /// The same under a monitor, where a certificate says that one may run the machine.
-fn carry_accepted<F: Shelf, S: Sink, H: Hardware, W: StopWatcher>(
+fn carry_accepted<S: Sink, H: Hardware>(
     alloc: Global,
     plan: Plan,
-    cert: &FileName,
-    shelf: &mut F,
-    out: &mut S,
+    report: Report,
     hw: &mut H,
-    watcher: &mut W,
+    out: &mut S,
 ) -> Status
     requires able { IsAble H.Hardware hw.old }
+    requires whole { length report.marks ≡ length plan.machine.desc.instrs * kind_count report.family }
+    requires fit { All (DoMarkWordsFit plan.machine.desc.word) report.marks }
 {
-    let report = match load_either(alloc, &plan.machine, cert, shelf) {
-        Ok(report) => report,
-        Err(stop) => return stopped(&stop, out, watcher),
-    };
     if !is_accepted(report.verdict()) {
         return tell_verdict(out, &judged(plan.machine, report));
     }

@@ -12,7 +12,7 @@ use Rattle.pg_traced.specs.Tells.{Tells}
 use Rattle.pg_traced.specs.Traces.{PutsTrace}
 use Rattle.pg_traced.proofs.HandlingLemmas.{shares-next}
 use Rattle.pg_traced.proofs.TallyLemmas.{tally-next}
-use Rattle.pg_traced.proofs.TraceLemmas.{traced-none, traced-next}
+use Rattle.pg_traced.proofs.TraceLemmas.{on-err, some-none, some-next, traced-none, traced-next}
 use Rattle.pg_traced.proofs.tracing.trace.Goals as goal
 
 pub loop-done-init : goal.loop-done-init
@@ -23,6 +23,7 @@ loop-done-init g c = record {
   balanced = c.in_ok-tally.ensures.balanced;
   ran = Ran-none c.args.m.now.desc _;
   puts = traced-none c.args.telling c.args.m.now.desc _ _;
+  later = omega arith;
   fixed = refl;
 }
 
@@ -58,7 +59,8 @@ loop-done-preserved g c =
       monitor = c.step-stepped.ensures.same_monitor ∙ before.monitor;
       balanced = c.count.ensures.balanced;
       ran = Ran-then d n 1 _ _ _ before.ran c.step-stepped.ensures.ran;
-      puts = traced-next c.args.telling d n s _ _ _ c.stores-stores.result.now r before.puts tells handling c.in_ok-put_shown.ensures;
+      puts = traced-next c.args.telling d n s _ _ _ c.stores-stores.result.now r before.puts tells handling c.in_ok-put_shown.ensures.whole;
+      later = omega (arith, before.later, c.in_ok-put_shown.ensures.later);
       fixed = c.step-stepped.ensures.fixed ∙ before.fixed;
     }
 
@@ -82,3 +84,20 @@ returns-clause-puts g c =
     let end : c.loop-done.done ≡ c.args.n = omega (arith, c.loop-done-test.false, c.loop-done.auto.done-end) in
     subst (λ n. PutsTrace c.args.telling c.args.m.now.desc n (g.H.Hardware.machinery c.args.hw.now).state (g.S.Sink.written c.args.out.now) (g.S.Sink.written c.loop-done.out)) end
     c.loop-done.invariant.puts
+
+pub returns-in_err-tally-clause-front : goal.returns-in_err-tally-clause-front
+returns-in_err-tally-clause-front g c = on-err c.from_residual.result (some-none c.args.telling c.args.m.now.desc c.args.n _ _)
+
+pub returns-in_err-put_shown-clause-front : goal.returns-in_err-put_shown-clause-front
+returns-in_err-put_shown-clause-front g c =
+    let d = c.args.m.now.desc in
+    let s = (g.H.Hardware.machinery c.args.hw.now).state in
+    let n = c.loop-done.done in
+    let before = c.loop-done.invariant in
+    let r = c.step-stepped.result in
+    let tells : Tells d (steps d n s) c.stores-stores.result.now r =
+    subst (λ made. Tells d (steps d n s) made r) (sym c.stores-stores.ensures) (subst (λ t. Tells d t c.step-stepped.new.self.frame.writes r) before.ran.state c.step-stepped.ensures.tells) in
+    let handling : r.handling ≡ handling_under c.args.telling.monitor d (steps d n s) =
+    c.step-stepped.ensures.handling ∙ ap (λ monitor. handling_under monitor d (g.H.Hardware.machinery c.loop-done.hw).state) before.monitor ∙ ap (handling_under c.args.telling.monitor d) before.ran.state in
+    on-err c.from_residual-in_err-put_shown.result
+    (some-next c.args.telling d n c.args.n s _ _ _ c.stores-stores.result.now r (omega (arith, c.loop-done-test.true)) before.puts tells handling c.in_err-put_shown.ensures.front)

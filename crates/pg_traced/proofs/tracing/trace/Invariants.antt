@@ -1,4 +1,4 @@
-use Rattle.std.proofs.Common.{◌≡◌}
+use Rattle.std.proofs.Common.{◌≡◌, ◌≤◌}
 use Rattle.pg_hw.specs.Running.{Ran}
 use Rattle.pg_traced.specs.Counting.{IsBalanced, IsTally}
 use Rattle.pg_traced.specs.Handling.{AreShares}
@@ -14,5 +14,6 @@ invariant-loop-done g l = record {
   balanced : IsBalanced l.tally;
   ran : Ran l.m.desc l.done (g.H.Hardware.machinery l.initial.hw) (g.H.Hardware.machinery l.hw);
   puts : PutsTrace l.telling l.m.desc l.done (g.H.Hardware.machinery l.initial.hw).state (g.S.Sink.written l.initial.out) (g.S.Sink.written l.out);
+  later : g.S.Sink.faults l.initial.out ≤ g.S.Sink.faults l.out;
   fixed : g.H.Hardware.fixed l.hw ≡ g.H.Hardware.fixed l.initial.hw;
 }

@@ -6,7 +6,7 @@ use Rattle.pg_valid.proofs.StepSound.{power_on-state}
 use Rattle.pg_traced.specs.Counting.{IsTally}
 use Rattle.pg_traced.specs.Handling.{AreShares}
 use Rattle.pg_traced.specs.Traces.{PutsTrace}
-use Rattle.pg_traced.proofs.TraceLemmas.{blank-length, reached}
+use Rattle.pg_traced.proofs.TraceLemmas.{on-err, some-none, blank-length, reached}
 use Rattle.pg_traced.proofs.tracing.trace_bare.Goals as goal
 
 pub power_on-requires-clause-size : goal.power_on-requires-clause-size
@@ -35,3 +35,6 @@ returns-clause-puts g c =
 pub returns-clause-state : goal.returns-clause-state
 returns-clause-state g c =
     reached c.args.m.now.desc c.args.image.now c.args.n _ _ c.trace.result (ap (λ (m : Machinery). m.state) c.power_on.ensures.switched_on) c.trace.ensures.ran
+
+pub returns-in_err-install-clause-front : goal.returns-in_err-install-clause-front
+returns-in_err-install-clause-front g c = on-err c.from_residual.result (some-none c.args.telling c.args.m.now.desc c.args.n _ _)
