@@ -94,6 +94,7 @@ _pgv_side() {
   case ${1##*/} in
     pg_explain) files=".isa .cert instr kind" options="--budget --mend --readable --json" least=2 ;;
     pg_trace) files=".isa .img" options="--grant --steps --cert --only-traps --counts --json" order=no ;;
+    pg_go) files=".isa .cert .img .img .img .img .img .img .img .img" options="--grant --steps --slice" order=no ;;
     pg_dimacs) files=".isa instr kind" ;;
     pg_import) files=".isa .cert instr kind - .cert" ;;
     pg_export) files=".isa .cert instr kind" options="--cnf" least=4 ;;
@@ -144,4 +145,4 @@ _pgv_side() {
 }
 
 complete -F _pgv pgv
-complete -F _pgv_side pg_explain pg_trace pg_dimacs pg_solve pg_import pg_export
+complete -F _pgv_side pg_explain pg_trace pg_go pg_dimacs pg_solve pg_import pg_export

@@ -11,6 +11,8 @@ pub enum Program {
     Explain,
     /// `pg_trace`.
     Trace,
+    /// `pg_go`.
+    Go,
     /// `pg_dimacs`.
     Dimacs,
     /// `pg_solve`.
@@ -30,6 +32,7 @@ impl Program {
             Program::Pgv => "pgv",
             Program::Explain => "pg_explain",
             Program::Trace => "pg_trace",
+            Program::Go => "pg_go",
             Program::Dimacs => "pg_dimacs",
             Program::Solve => "pg_solve",
             Program::Import => "pg_import",
@@ -45,6 +48,7 @@ impl Program {
             Program::Pgv => "pgv: warning",
             Program::Explain => "pg_explain: warning",
             Program::Trace => "pg_trace: warning",
+            Program::Go => "pg_go: warning",
             Program::Dimacs => "pg_dimacs: warning",
             Program::Solve => "pg_solve: warning",
             Program::Import => "pg_import: warning",

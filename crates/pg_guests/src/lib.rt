@@ -14,3 +14,4 @@ mod running;
 mod starting;
 
 pub use running::{Ran, run_guests, run_state};
+pub use starting::start;

@@ -18,8 +18,12 @@ use pg_type::Accepted;
 use pg_word::Sparse;
 use std::alloc::{AllocError, Global};
 
-/// A monitor with a guest for each image, on the hardware, which is given the machine's greatest size for it.
-pub(crate) fn start<'m, H: Hardware>(
+/// A monitor with a guest for each image, on the hardware, which is given the machine's greatest size for it. Each is switched on,
+/// and none has had a turn.
+///
+/// # Errors
+/// Only for want of memory: the hardware is as it was, installed, or some images are loaded.
+pub fn start<'m, H: Hardware>(
     alloc: Global,
     accepted: Accepted<'m>,
     images: &[Image],

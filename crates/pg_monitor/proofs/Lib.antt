@@ -7,3 +7,4 @@ pub mod ScheduleLemmas
 pub mod ReachLemmas
 pub mod ResetLemmas
 pub mod ReadyLemmas
+mod SettleLemmas

@@ -18,7 +18,7 @@ use Rattle.pg_monitor.proofs.PlanLemmas.{Followed-none, Followed-next}
 
 -- ---- turns that a plan was begun with
 
-Begun-turn : (d : Desc) (front : List (ℕ × ℕ)) (k n : ℕ) (old mid new : Machinery) (gs hs ks : List Guest) (c c' c'' : Option ℕ) →
+pub Begun-turn : (d : Desc) (front : List (ℕ × ℕ)) (k n : ℕ) (old mid new : Machinery) (gs hs ks : List Guest) (c c' c'' : Option ℕ) →
     IsValid d → Stands d mid.state hs c' → Begun d front old mid gs hs c c' → Turned d k n mid new hs ks c' c'' →
     Begun d (front ++ (k, n) ∷ []) old new gs ks c c''
 Begun-turn d front k n old mid new gs hs ks c c' c'' valid stands before one = record {
@@ -27,7 +27,7 @@ Begun-turn d front k n old mid new gs hs ks c c' c'' valid stands before one = r
       (before.goes_on ((k, n) ∷ plan) last ls l (Followed-next d (k, n) plan mid new last hs ks ls c' c'' l valid stands one rest));
 }
 
-Begun-then : (d : Desc) (front back : List (ℕ × ℕ)) (old mid new : Machinery) (gs hs ks : List Guest) (c c' c'' : Option ℕ) →
+pub Begun-then : (d : Desc) (front back : List (ℕ × ℕ)) (old mid new : Machinery) (gs hs ks : List Guest) (c c' c'' : Option ℕ) →
     Begun d front old mid gs hs c c' → Begun d back mid new hs ks c' c'' → Begun d (front ++ back) old new gs ks c c''
 Begun-then d front back old mid new gs hs ks c c' c'' before after = record {
   goes_on = λ plan last ls l rest.
@@ -35,7 +35,7 @@ Begun-then d front back old mid new gs hs ks c c' c'' before after = record {
       (before.goes_on (back ++ plan) last ls l (after.goes_on plan last ls l rest));
 }
 
-Begun-followed : (d : Desc) (plan : List (ℕ × ℕ)) (old new : Machinery) (gs hs : List Guest) (c c' : Option ℕ) →
+pub Begun-followed : (d : Desc) (plan : List (ℕ × ℕ)) (old new : Machinery) (gs hs : List Guest) (c c' : Option ℕ) →
     Begun d plan old new gs hs c c' → Followed d plan old new gs hs c c'
 Begun-followed d plan old new gs hs c c' begun =
     subst (λ p. Followed d p old new gs hs c c') (append-nil plan) (begun.goes_on [] new hs c' (Followed-none d new hs c'))

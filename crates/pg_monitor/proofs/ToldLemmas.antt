@@ -61,7 +61,7 @@ burst-same d (suc k) real g alike valid r =
         ∙ sym (ap (λ b. if b then 1 + burst_turns d g.base k (step d v) else 1) (Runs-direct d real g r ∙ ap not e))
 
 -- so many steps of a burst but the last are direct
-direct-before : (d : Desc) (k n j : ℕ) (real : State) (g : Guest) → IsAlikeIn d g.psw.mode → IsValid d → Runs d real g → n ≡ burst_length d k real → j < n → Directly d j real g
+pub direct-before : (d : Desc) (k n j : ℕ) (real : State) (g : Guest) → IsAlikeIn d g.psw.mode → IsValid d → Runs d real g → n ≡ burst_length d k real → j < n → Directly d j real g
 direct-before d k n j real g alike valid r done below =
     Directly-all d j real g alike valid r (λ i before. burst_length-goes_on d k i real (omega (arith, done, below, before)))
 

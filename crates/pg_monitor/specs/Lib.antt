@@ -6,3 +6,4 @@ pub mod Monitors
 pub mod Reaching
 pub mod Schedules
 pub mod WorkedSchedules
+pub mod Settling

@@ -145,7 +145,7 @@ impl<'m> Monitor<'m> {
     }
 
     /// Makes a guest the current one, and enters it where it was not; the guest.
-    fn select<H: Hardware>(&mut self, hw: &mut H, k: usize) -> Guest
+    pub(crate) fn select<H: Hardware>(&mut self, hw: &mut H, k: usize) -> Guest
         requires served { IsServed (H.serves (H.fixed hw.old)) (desc_of self.old) }
         requires stands { Stands (desc_of self.old) (H.machinery hw.old).state self.old.guests self.old.current }
         requires known { k < length self.old.guests }

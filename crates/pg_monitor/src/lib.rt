@@ -14,7 +14,8 @@
 //! - `granting`: the grants that it makes. `admitting`: how it takes images and states as guests.
 //! - `reaching`: what is done to a guest from outside.
 //! - `dispatching`: turns of guests, one, a burst, many and by a plan, and what a change of guest is.
-//! - `turning`: turns of the guest that runs: bursts of direct steps, and steps that are interpreted.
+//! - `turning`: turns of the guest that runs: bursts of direct steps, and steps that are interpreted. `settling`: turns that tell
+//!   when a guest is still.
 //! - `slicing`: turns of every guest, by slices, round after round. `laws`: what follows from the definitions alone.
 //!
 //! Guests, grants and what the hardware stands for are those of every control program, and stand in `pg_control`.
@@ -28,6 +29,7 @@ pub mod laws;
 mod monitor;
 mod prepared;
 mod reaching;
+mod settling;
 mod slicing;
 mod turning;
 

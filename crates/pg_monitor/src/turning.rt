@@ -7,10 +7,11 @@
 //! step of an accepted machine changes them. The instruction that trapped is then interpreted from the guest's own program
 //! status word, and the guest is entered again. It is interpreted in the monitor's frame, which is lent to each turn.
 
-ghost use Rattle.std.specs.Prelude.{◌≡◌, ◌+◌, ◌<◌, ◌≤◌, ◌^◌, true};
+ghost use Rattle.std.specs.Prelude.{◌≡◌, ◌+◌, ◌<◌, ◌≤◌, ◌^◌, true, false};
 ghost use Rattle.pg_type.specs.Accepting.{IsAccepted};
 ghost use Rattle.pg_meaning.specs.Steps.{step};
 ghost use Rattle.pg_hw.specs.Bursts.{traps};
+ghost use Rattle.pg_hw.specs.Stillness.{IsStill};
 ghost use Rattle.pg_hw.specs.Serving.{IsServed, IsServedPsw};
 ghost use Rattle.pg_hw.specs.Machinery.{loaded_with};
 ghost use Rattle.pg_routine.specs.Composing.{composed};
@@ -24,7 +25,7 @@ use pg_control::{Guest, enter};
 use pg_hw::Hardware;
 use pg_interp::Frame;
 use pg_machine::Machine;
-use pg_routine::emulate_told;
+use pg_routine::{Emulated, emulate_seen};
 use pg_word::{Mode, OLD_PSW_CELL, unpack};
 
 /// What is told of turns that one burst of the hardware made.
@@ -36,19 +37,26 @@ pub struct BurstTold {
     pub trapped: bool,
 }
 
-/// Interprets the step of a guest that trapped, and enters the guest again; whether the guest's own step trapped.
-fn interpret<H: Hardware>(m: &Machine, hw: &mut H, guest: &mut Guest, frame: &mut Frame) -> bool
+/// Interprets the step of a guest that trapped, and enters the guest again; what the guest's own step did.
+pub(crate) fn interpret<H: Hardware>(
+    m: &Machine,
+    hw: &mut H,
+    guest: &mut Guest,
+    frame: &mut Frame,
+) -> Emulated
     requires served { IsServed (H.serves (H.fixed hw.old)) m.now.desc }
     requires holds { Holds m.now.desc (H.machinery hw.old).state guest.old }
     ensures interpreted { Interpreted m.now.desc (H.machinery hw.old) (H.machinery hw.new) guest.old guest.new }
-    ensures told { result ≡ traps m.now.desc (virtual (H.machinery hw.old).state.cells guest.old) }
+    ensures told { result.trapped ≡ traps m.now.desc (virtual (H.machinery hw.old).state.cells guest.old) }
+    ensures still { result.still ≡ true → IsStill m.now.desc (virtual (H.machinery hw.old).state.cells guest.old) }
+    ensures moves { result.still ≡ false → IsStill m.now.desc (virtual (H.machinery hw.old).state.cells guest.old) → ⊥ }
     ensures fixed { H.fixed hw.new ≡ H.fixed hw.old }
 {
     let mut psw = guest.psw;
-    let trapped = emulate_told(m, hw, guest.base, guest.size, &mut psw, frame);
+    let told = emulate_seen(m, hw, guest.base, guest.size, &mut psw, frame);
     guest.psw = psw;
     enter(hw, *guest);
-    trapped
+    told
 }
 
 /// One turn; whether the guest's own step trapped.
@@ -73,7 +81,7 @@ pub(crate) fn turn_once<H: Hardware>(
             guest.psw.p = psw.p;
             false
         }
-        Mode::S => interpret(m, hw, guest, frame),
+        Mode::S => interpret(m, hw, guest, frame).trapped,
     }
 }
 
@@ -105,8 +113,11 @@ pub(crate) fn turn_on<H: Hardware>(
         }
         Mode::S => {
             guest.psw.p = unpack(m.shape(), hw.peek(OLD_PSW_CELL)).p;
-            let trapped = interpret(m, hw, guest, frame);
-            BurstTold { turns, trapped }
+            let told = interpret(m, hw, guest, frame);
+            BurstTold {
+                turns,
+                trapped: told.trapped,
+            }
         }
     }
 }

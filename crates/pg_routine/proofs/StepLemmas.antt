@@ -19,7 +19,7 @@ use Rattle.pg_routine.specs.Granting.{guest_at, with_grant}
 use Rattle.pg_routine.proofs.GrantLaws.{guest-length, guest-window, with_grant-put_back}
 
 -- the cells that a guest's instruction sees are its window
-seen-window : (cells : List ℕ) (base size : ℕ) (psw : Psw) (from len : ℕ) → base + size ≤ length cells → from ≡ base + min psw.l size → len ≡ window_len_of psw size →
+pub seen-window : (cells : List ℕ) (base size : ℕ) (psw : Psw) (from len : ℕ) → base + size ≤ length cells → from ≡ base + min psw.l size → len ≡ window_len_of psw size →
     take len (drop from cells) ≡ window (guest_at cells base size psw)
 seen-window cells base size psw from len within from_is len_is =
     ap (λ n. take n (drop from cells)) len_is ∙ ap (λ n. take (window_len_of psw size) (drop n cells)) from_is ∙ guest-window cells base size psw within

@@ -17,4 +17,4 @@ mod routine;
 mod window;
 
 pub use composing::compose;
-pub use routine::{emulate, emulate_told};
+pub use routine::{Emulated, emulate, emulate_seen, emulate_told};

@@ -1,6 +1,6 @@
 //! One step of a guest's machine, interpreted.
 
-ghost use Rattle.std.specs.Prelude.{◌≡◌, ◌+◌, ◌<◌, ◌≤◌, ◌^◌, length, take, drop, All, true};
+ghost use Rattle.std.specs.Prelude.{◌≡◌, ◌+◌, ◌<◌, ◌≤◌, ◌^◌, length, take, drop, All, true, false};
 ghost use Rattle.pg_word.specs.Psw.{cause_number};
 ghost use Rattle.pg_meaning.specs.States.{IsState};
 ghost use Rattle.pg_meaning.specs.Steps.{step, trapped};
@@ -11,9 +11,18 @@ ghost use Rattle.pg_routine.specs.Granting.{guest_at, GrantPoked};
 
 use crate::window::{Span, Window, span_of};
 use pg_hw::Hardware;
-use pg_interp::{Ended, Frame, Write, step_in};
+use pg_interp::{Ended, Frame, Write, overlaid, step_in};
 use pg_machine::Machine;
 use pg_word::{Cause, NEW_PSW_CELL, OLD_PSW_CELL, Psw, pack_trap, unpack};
+
+/// What is told of an interpreted step.
+#[derive(Clone, Copy, Debug, PartialEq, Eq)]
+pub struct Emulated {
+    /// Whether it trapped, by whatever cause.
+    pub trapped: bool,
+    /// Whether it left the guest's state as it was, so that every later step does.
+    pub still: bool,
+}
 
 /// One step of a guest's machine.
 ///
@@ -53,6 +62,33 @@ pub fn emulate_told<H: Hardware>(
     ensures told { result ≡ traps m.now.desc (guest_at (H.machinery hw.old).state.cells base size psw.old) }
     ensures fixed { H.fixed hw.new ≡ H.fixed hw.old }
 {
+    emulate_seen(m, hw, base, size, psw, frame).trapped
+}
+
+/// One step of a guest's machine, as `emulate_told` does it; whether it trapped, and whether it left the state as it was. The latter
+/// costs a comparison, but where P is what it was.
+pub fn emulate_seen<H: Hardware>(
+    m: &Machine,
+    hw: &mut H,
+    base: u32,
+    size: u32,
+    psw: &mut Psw,
+    frame: &mut Frame,
+) -> Emulated
+    requires served { IsServed (H.serves (H.fixed hw.old)) m.now.desc }
+    requires addressable { base + size < 2 ^ 32 }
+    requires within { base + size ≤ length (H.machinery hw.old).state.cells }
+    requires guest { IsState m.now.desc (guest_at (H.machinery hw.old).state.cells base size psw.old) }
+    ensures grant { let guest = guest_at (H.machinery hw.old).state.cells base size psw.old in
+        GrantPoked base (step m.now.desc guest).cells 8 (H.machinery hw.old) (H.machinery hw.new) }
+    ensures psw { psw.new ≡ (step m.now.desc (guest_at (H.machinery hw.old).state.cells base size psw.old)).psw }
+    ensures trapped { result.trapped ≡ traps m.now.desc (guest_at (H.machinery hw.old).state.cells base size psw.old) }
+    ensures still { let guest = guest_at (H.machinery hw.old).state.cells base size psw.old in
+        result.still ≡ true → step m.now.desc guest ≡ guest }
+    ensures moves { let guest = guest_at (H.machinery hw.old).state.cells base size psw.old in
+        result.still ≡ false → step m.now.desc guest ≡ guest → ⊥ }
+    ensures fixed { H.fixed hw.new ≡ H.fixed hw.old }
+{
     let span = span_of(*psw, base, size);
     let ended = step_in(m, &Window { hw, span }, *psw, frame);
     match ended {
@@ -60,11 +96,57 @@ pub fn emulate_told<H: Hardware>(
         Ended::Trap => trap(m, hw, base, size, psw, Cause::Trap),
         Ended::NoPattern => trap(m, hw, base, size, psw, Cause::NoPattern),
         Ended::Done => {
-            store(hw, span, frame.writes.as_slice());
+            let writes = frame.writes.as_slice();
+            let still = leaves(hw, span, *psw, frame.next, writes);
+            store(hw, span, writes);
             *psw = frame.next;
-            false
+            Emulated {
+                trapped: false,
+                still,
+            }
         }
     }
+}
+
+/// Whether a step that is done leaves the guest's state as it is: `next` follows `psw`, and the stores are made in order into the
+/// cells of a span. P is looked at first, since there most steps differ.
+#[inline(always)]
+fn leaves<H: Hardware>(hw: &H, span: Span, psw: Psw, next: Psw, writes: &[Write]) -> bool
+    requires addressable { span.from + span.len < 2 ^ 32 }
+    requires within { span.from + span.len ≤ length (H.machinery hw.now).state.cells }
+    requires inside { All (λ x. x.at < span.len) writes.now }
+    ensures psw { result ≡ true → next ≡ psw }
+    ensures kept { let seen = take span.len (drop span.from (H.machinery hw.now).state.cells) in
+        result ≡ true → written writes.now seen ≡ seen }
+    ensures moved { let seen = take span.len (drop span.from (H.machinery hw.now).state.cells) in
+        result ≡ false → next ≡ psw → written writes.now seen ≡ seen → ⊥ }
+{
+    if next.p != psw.p {
+        return false;
+    }
+    next == psw && keep(hw, span, writes)
+}
+
+/// Whether stores, made in order into the cells of a span, leave every cell as it is.
+///
+/// It looks at all of them for each, so it is for where this is likely.
+#[inline(never)]
+fn keep<H: Hardware>(hw: &H, span: Span, writes: &[Write]) -> bool
+    requires addressable { span.from + span.len < 2 ^ 32 }
+    requires within { span.from + span.len ≤ length (H.machinery hw.now).state.cells }
+    requires inside { All (λ x. x.at < span.len) writes.now }
+    ensures kept { let seen = take span.len (drop span.from (H.machinery hw.now).state.cells) in
+        result ≡ true → written writes.now seen ≡ seen }
+    ensures changed { let seen = take span.len (drop span.from (H.machinery hw.now).state.cells) in
+        result ≡ false → written writes.now seen ≡ seen → ⊥ }
+{
+    for write in writes {
+        let held = hw.peek(span.from + write.at);
+        if overlaid(writes, write.at, held) != held {
+            return false;
+        }
+    }
+    true
 }
 
 /// Makes stores in order into the cells of a span, by a poke each.
@@ -83,7 +165,7 @@ fn store<H: Hardware>(hw: &mut H, span: Span, writes: &[Write])
 }
 
 /// The trap of a guest's machine: it stores the guest's program status word in the guest's cell 0 with its cause, and
-/// loads the one that the guest's cell 1 held. It answers that the step trapped.
+/// loads the one that the guest's cell 1 held.
 fn trap<H: Hardware>(
     m: &Machine,
     hw: &mut H,
@@ -91,7 +173,7 @@ fn trap<H: Hardware>(
     size: u32,
     psw: &mut Psw,
     cause: Cause,
-) -> bool
+) -> Emulated
     requires served { IsServed (H.serves (H.fixed hw.old)) m.now.desc }
     requires addressable { base + size < 2 ^ 32 }
     requires within { base + size ≤ length (H.machinery hw.old).state.cells }
@@ -99,12 +181,21 @@ fn trap<H: Hardware>(
     ensures grant { let guest = guest_at (H.machinery hw.old).state.cells base size psw.old in
         GrantPoked base (trapped m.now.desc guest (cause_number cause)).cells 8 (H.machinery hw.old) (H.machinery hw.new) }
     ensures psw { psw.new ≡ (trapped m.now.desc (guest_at (H.machinery hw.old).state.cells base size psw.old) (cause_number cause)).psw }
-    ensures told { result ≡ true }
+    ensures trapped { result.trapped ≡ true }
+    ensures still { let guest = guest_at (H.machinery hw.old).state.cells base size psw.old in
+        result.still ≡ true → trapped m.now.desc guest (cause_number cause) ≡ guest }
+    ensures moves { let guest = guest_at (H.machinery hw.old).state.cells base size psw.old in
+        result.still ≡ false → trapped m.now.desc guest (cause_number cause) ≡ guest → ⊥ }
     ensures fixed { H.fixed hw.new ≡ H.fixed hw.old }
 {
     let shape = m.shape();
     let loaded = unpack(shape, hw.peek(base + NEW_PSW_CELL));
-    hw.poke(base + OLD_PSW_CELL, pack_trap(shape, *psw, cause.number()));
+    let word = pack_trap(shape, *psw, cause.number());
+    let still = loaded == *psw && hw.peek(base + OLD_PSW_CELL) == word;
+    hw.poke(base + OLD_PSW_CELL, word);
     *psw = loaded;
-    true
+    Emulated {
+        trapped: true,
+        still,
+    }
 }

@@ -9,34 +9,34 @@ use sqlite_items::Items;
 
 /// The files of a run of guests, and the room that it wants.
 #[derive(Drop)]
-pub(crate) struct GuestFiles<'a> {
+pub struct GuestFiles<'a> {
     /// The name of the file with the description.
-    pub(crate) desc: &'a FileName,
+    pub desc: &'a FileName,
     /// The names of the files with the images: 1 to 8.
-    pub(crate) images: &'a [FileName],
+    pub images: &'a [FileName],
     /// The name of the file with the certificate.
-    pub(crate) cert: &'a FileName,
+    pub cert: &'a FileName,
     /// How many cells each guest is granted: 2 to 1,048,575.
-    pub(crate) grant: u32,
+    pub grant: u32,
     /// How many cells monitors keep: at most 8.
-    pub(crate) kept: u32,
+    pub kept: u32,
     /// How many steps each guest does.
-    pub(crate) steps: u64,
+    pub steps: u64,
     /// There is one.
-    pub(crate) ghost some: { 1 ≤ length images.now },
+    pub ghost some: { 1 ≤ length images.now },
     /// There are few of them.
-    pub(crate) ghost few: { length images.now ≤ 8 },
+    pub ghost few: { length images.now ≤ 8 },
     /// An image has two cells.
-    pub(crate) ghost least: { 2 ≤ grant },
+    pub ghost least: { 2 ≤ grant },
     /// No machine has more.
-    pub(crate) ghost most: { grant ≤ 1048575 },
+    pub ghost most: { grant ≤ 1048575 },
 }
 
 /// What the files of a run hold.
 #[derive(Drop)]
-pub(crate) struct LoadedGuests {
+pub struct LoadedGuests {
     /// The machine, and what is kept of its certificate.
-    pub(crate) judged: JudgedMachine,
+    pub judged: JudgedMachine,
     /// The words of each guest's cells when it is switched on.
-    pub(crate) images: Items<Image>,
+    pub images: Items<Image>,
 }

@@ -12,5 +12,7 @@ mod plan;
 mod preparing;
 mod run;
 
+pub use files::{GuestFiles, LoadedGuests};
 pub use hybrid::carry_hybrid;
+pub use loading::load_guests;
 pub use run::carry_run;

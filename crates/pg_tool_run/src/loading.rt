@@ -25,8 +25,9 @@ use pg_steps::{Stop, try_room};
 use sqlite_items::Items;
 use std::alloc::Global;
 
-/// What the files of a run hold, with a certificate of this family; or why a command goes no further.
-pub(crate) fn load_guests<F: Shelf>(
+/// What the files of a run hold, with a certificate of this family; or why a command goes no further. The machine has learned words
+/// of the images, by how many steps each guest does.
+pub fn load_guests<F: Shelf>(
     alloc: Global,
     family: Family,
     files: &GuestFiles<'_>,

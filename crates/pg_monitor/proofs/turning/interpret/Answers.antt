@@ -10,6 +10,6 @@ pub enter-requires-clause-fits : goal.enter-requires-clause-fits
 enter-requires-clause-fits g c =
     let d = c.args.m.now.desc in
     let held = c.requires.holds in
-    IsServedPsw-of _ d _ (subst (λ f. IsServed (g.H.Hardware.serves f) d) (sym c.emulate_told-trapped.ensures.fixed) c.requires.served)
+    IsServedPsw-of _ d _ (subst (λ f. IsServed (g.H.Hardware.serves f) d) (sym c.emulate_seen-told.ensures.fixed) c.requires.served)
     (composed-fits d _ _ _ c.args.m.now.valid held.grant.within
-    (subst (IsPsw d.address) (sym c.emulate_told-trapped.ensures.psw) (step-state d _ c.args.m.now.valid held.virtual_state).fields))
+    (subst (IsPsw d.address) (sym c.emulate_seen-told.ensures.psw) (step-state d _ c.args.m.now.valid held.virtual_state).fields))

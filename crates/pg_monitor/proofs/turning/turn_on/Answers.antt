@@ -15,8 +15,8 @@ peek-requires g c =
     let after = subst (λ s. IsState c.args.m.now.desc s) (sym c.burst-turns.ensures.state) (steps-state c.args.m.now.desc c.burst-turns.result _ c.args.m.now.valid real) in
     omega (arith, after.size_least)
 
-pub interpret-trapped-requires-clause-holds : goal.interpret-trapped-requires-clause-holds
-interpret-trapped-requires-clause-holds g c =
+pub interpret-told-requires-clause-holds : goal.interpret-told-requires-clause-holds
+interpret-told-requires-clause-holds g c =
     let d = c.args.m.now.desc in
     let stopped : Stopped d c.burst-turns.result (g.H.Hardware.machinery c.args.hw.now).state c.args.guest.now =
     Stopped-burst d _ _ _ c.args.guest.now (accepted-alike d c.args.guest.now.psw.mode c.requires.accepted) c.args.m.now.valid c.requires.runs c.requires.some c.burst-turns.ensures.count
@@ -51,7 +51,7 @@ returns-in-S-clause-told g c =
     (ap (λ (x : Psw). with_psw c.args.guest.now (record c.args.guest.now.psw { p = x.p }))
     (entry-read d _ _ _ _ c.shape.ensures.numbers c.peek.ensures c.unpack.ensures.psw)) in
     TellsBurst-of d _ _ _ c.args.guest.now _ (accepted-alike d c.args.guest.now.psw.mode c.requires.accepted) c.args.m.now.valid c.requires.runs c.requires.some c.burst-turns.ensures.count
-    (stopped-last d _ _ _ c.args.guest.now _ _ stopped halted c.interpret-trapped.ensures.told)
+    (stopped-last d _ _ _ c.args.guest.now _ _ stopped halted c.interpret-told.ensures.told)
 
 pub returns-in-S-clause-went : goal.returns-in-S-clause-went
 returns-in-S-clause-went g c =
@@ -64,4 +64,4 @@ returns-in-S-clause-went g c =
     (entry-read d _ _ _ _ c.shape.ensures.numbers c.peek.ensures c.unpack.ensures.psw)) in
     Went-halted d _ _ _ _ c.args.guest.now _ _ c.args.m.now.valid stopped halted
     (record { state = c.burst-turns.ensures.state; tally = c.burst-turns.ensures.tally; bottom = c.burst-turns.ensures.bottom })
-    c.interpret-trapped.ensures.interpreted
+    c.interpret-told.ensures.interpreted

@@ -14,7 +14,7 @@ returns-clause-grant g c =
     record {
       state = ap (λ (h : Machinery). h.state) c.poke.ensures.poked
           ∙ ap (λ k. let t : State = record old { cells = slice_set old.cells (c.args.base + 0) k } in t)
-          (c.pack_trap.ensures.word ∙ ap (λ s. packed_trap s c.args.psw.now c.number.result) c.shape-shape.ensures.numbers
+          (c.pack_trap-word.ensures.word ∙ ap (λ s. packed_trap s c.args.psw.now c.number.result) c.shape-shape.ensures.numbers
           ∙ ap (packed_trap (shape_of c.args.m.now.desc) c.args.psw.now) c.number.ensures.number)
           ∙ ap (λ cs. let t : State = record old { cells = cs } in t)
           (sym (guest-set old.cells c.args.base c.args.size 0 w c.requires.within (omega (arith, some, c.requires.guest.size_least))));
@@ -30,3 +30,12 @@ returns-clause-psw g c =
     ∙ ap (λ s. unpacked s.a c.peek.result) c.shape-shape.ensures.numbers
     ∙ ap (unpacked c.args.m.now.desc.address)
     (sym (guest-cell old.cells c.args.base c.args.size 1 c.peek.result (omega (arith, some, c.requires.guest.size_least)) c.peek.ensures))
+
+pub returns-clause-still : goal.returns-clause-still
+returns-clause-still g c is =
+    let cells = (g.H.Hardware.machinery c.args.hw.now).state.cells in
+    let guest = guest_at cells c.args.base c.args.size c.args.psw.now in
+    trapped-still c.args.m.now.desc guest (cause_number c.args.cause) TODO TODO
+
+pub returns-clause-moves : goal.returns-clause-moves
+returns-clause-moves g c is same = TODO

@@ -1,0 +1,2 @@
+mod EndsLemmas
+mod PlanLemmas

@@ -1,0 +1,57 @@
+//! The run of guests until each is still, and its text.
+//!
+//! Description, room, images and certificate are loaded (`prepare_go`), in the order of the definition (`GoDue`, `specs/Going.antt`).
+//! Where its verdict does not accept the machine it is told, and nothing runs. Else the images run as guests of one monitor
+//! (`pg_run_still`), and their text is put. Memory is taken before the first turn; where it is refused no turn was made, but the
+//! hardware may be set up (`SetUp`).
+
+ghost use Rattle.std.specs.Prelude.{◌≡◌, None};
+ghost use Rattle.pg_steps.specs.Able.{IsAble};
+ghost use Rattle.pg_steps.specs.Commands.{Carries};
+ghost use Rattle.pg_steps.specs.World.{Keeps, around};
+ghost use Rattle.pg_cmd_going.specs.Going.{go_command};
+
+use crate::preparing::prepare_go;
+use crate::request::GoWords;
+use pg_edge::{Shelf, Sink};
+use pg_hw::Settling;
+use pg_judged::{is_accepted, tell_verdict};
+use pg_run_still::{put_rested, run_until_still};
+use pg_steps::{Status, StopWatcher, stopped};
+use std::alloc::Global;
+
+/// Carries out `pg_go`.
+pub fn carry_go<F: Shelf, S: Sink, H: Settling, W: StopWatcher>(
+    alloc: Global,
+    words: &GoWords,
+    shelf: &mut F,
+    out: &mut S,
+    hw: &mut H,
+    watcher: &mut W,
+) -> Status
+    requires able { IsAble H.Hardware hw.old }
+    ensures carries { Carries (go_command words.now) (around F.Shelf S.Sink H.Hardware shelf.old out.old hw.old)
+        (around F.Shelf S.Sink H.Hardware shelf.new out.new hw.new) result }
+    ensures keeps { Keeps None (around F.Shelf S.Sink H.Hardware shelf.old out.old hw.old)
+        (around F.Shelf S.Sink H.Hardware shelf.new out.new hw.new) }
+    ensures fixed { H.fixed hw.new ≡ H.fixed hw.old }
+{
+    let plan = match prepare_go(alloc, words, shelf) {
+        Ok(plan) => plan,
+        Err(stop) => return stopped(&stop, out, watcher),
+    };
+    if !is_accepted(plan.judged.report.verdict()) {
+        return tell_verdict(out, &plan.judged);
+    }
+    let accepted = pg_type::Accepted::of(&plan.judged.machine);
+    let images = plan.images.as_slice();
+    let ran = match run_until_still(alloc, accepted, images, plan.slice, plan.steps, hw) {
+        Ok(ran) => ran,
+        Err(_) => return Status::Memory,
+    };
+    let machine = &plan.judged.machine;
+    match put_rested(out, machine, ran.guests(), ran.rests(), ran.turns(), ran.direct(), hw) {
+        Ok(()) => Status::Done,
+        Err(_) => Status::WriteFault,
+    }
+}

@@ -1,0 +1,181 @@
+//! What the words of the command line ask for.
+
+ghost use Rattle.std.specs.Prelude.{◌≤◌, ◌^◌, IfOk, length};
+
+use pg_asked::{FileName, Grant, Images, Slice};
+use std::alloc::{AllocError, Global};
+
+/// The most steps that a guest may be asked for: eight guests of so many have 2^60.
+pub const MOST_STEPS: u64 = 144_115_188_075_855_872;
+
+/// How many steps a guest does in turn where the words do not say it.
+const USUAL_SLICE: u64 = 1_000;
+
+/// The most images.
+const MOST_IMAGES: usize = 8;
+
+/// A run of guests, each until it is still.
+#[derive(Drop)]
+pub struct GoWords {
+    /// The name of the file with the machine's description.
+    pub desc: FileName,
+    /// The name of the file with the certificate that the machine is accepted by.
+    pub cert: FileName,
+    /// The names of the files with the images, one for each guest.
+    pub images: Images,
+    /// How many cells are granted to each guest.
+    pub grant: Grant,
+    /// How many steps each guest does at most.
+    pub steps: u64,
+    /// How many steps a guest does before the next has its turn.
+    pub slice: Slice,
+    /// They can be counted.
+    pub ghost few: { steps ≤ 2 ^ 57 },
+}
+
+/// What words have said so far.
+#[derive(Drop)]
+struct Draft<'a> {
+    files: Vec<&'a str>,
+    grant: Option<Grant>,
+    steps: Option<u64>,
+    slice: Option<Slice>,
+}
+
+/// Why words are not taken.
+enum Untaken {
+    /// They are none that the program takes.
+    Words,
+    /// Memory was refused.
+    Memory,
+}
+
+impl From<AllocError> for Untaken {
+    fn from(_error: AllocError) -> Untaken {
+        Untaken::Memory
+    }
+}
+
+/// What the words ask for, the program's name first; none where they are others. The error is want of memory.
+pub fn asked_by(alloc: Global, words: &[String]) -> Result<Option<GoWords>, AllocError> {
+    match words_of(alloc, words) {
+        Ok(words) => Ok(Some(words)),
+        Err(Untaken::Words) => Ok(None),
+        Err(Untaken::Memory) => Err(AllocError),
+    }
+}
+
+/// The words, taken one by one, and then the files.
+fn words_of(alloc: Global, words: &[String]) -> Result<GoWords, Untaken> {
+    let mut draft = Draft {
+        files: Vec::new(alloc),
+        grant: None,
+        steps: None,
+        slice: None,
+    };
+    let [_, words @ ..] = words else {
+        return Err(Untaken::Words);
+    };
+    let mut left = words;
+    while let [word, behind @ ..] = left {
+        left = draft.take(word.as_str(), behind)?;
+    }
+    whole(alloc, &draft)
+}
+
+/// What a draft asks for, where nothing is left out.
+fn whole(alloc: Global, draft: &Draft<'_>) -> Result<GoWords, Untaken> {
+    let ([desc, cert, images @ ..], Some(grant)) = (draft.files.as_slice(), draft.grant) else {
+        return Err(Untaken::Words);
+    };
+    if images.is_empty() || images.len() > MOST_IMAGES {
+        return Err(Untaken::Words);
+    }
+    Ok(GoWords {
+        desc: file_name(alloc, desc)?,
+        cert: file_name(alloc, cert)?,
+        images: images_of(alloc, images)?,
+        grant,
+        steps: draft.steps.unwrap_or(MOST_STEPS),
+        slice: draft.slice.unwrap_or(Slice::new(USUAL_SLICE)),
+    })
+}
+
+/// The images of these names.
+fn images_of(alloc: Global, names: &[&str]) -> Result<Images, AllocError>
+    requires least { 1 ≤ length names.now }
+    requires most { length names.now ≤ 8 }
+{
+    let mut copies = Vec::with_capacity(alloc, names.len())?;
+    for name in names {
+        copies.push(file_name(alloc, name)?)?;
+    }
+    Ok(Images::new(copies))
+}
+
+/// The name of a file.
+fn file_name(alloc: Global, name: &str) -> Result<FileName, AllocError> {
+    Ok(FileName::new(String::from_str(alloc, name)?))
+}
+
+impl<'a> Draft<'a> {
+    /// Takes a word, and where it wants one the word behind it; what is left.
+    fn take(&mut self, word: &'a str, behind: &'a [String]) -> Result<&'a [String], Untaken>
+        ensures { IfOk result (λ left. length left.now ≤ length behind.now) }
+    {
+        match word {
+            "--grant" if self.grant.is_none() => {
+                let [number, behind @ ..] = behind else {
+                    return Err(Untaken::Words);
+                };
+                self.grant = Some(grant_of(number.as_str())?);
+                Ok(behind)
+            }
+            "--steps" if self.steps.is_none() => {
+                let [number, behind @ ..] = behind else {
+                    return Err(Untaken::Words);
+                };
+                self.steps = Some(steps_of(number.as_str())?);
+                Ok(behind)
+            }
+            "--slice" if self.slice.is_none() => {
+                let [number, behind @ ..] = behind else {
+                    return Err(Untaken::Words);
+                };
+                self.slice = Some(slice_of(number.as_str())?);
+                Ok(behind)
+            }
+            _ if word.starts_with('-') => Err(Untaken::Words),
+            _ => {
+                self.files.push(word)?;
+                Ok(behind)
+            }
+        }
+    }
+}
+
+/// The grant of a number, 2 to 1,048,575.
+fn grant_of(word: &str) -> Result<Grant, Untaken> {
+    match word.parse::<u32>() {
+        Ok(cells) if (2..=1_048_575).contains(&cells) => Ok(Grant::new(cells)),
+        _ => Err(Untaken::Words),
+    }
+}
+
+/// So many steps, 0 to `MOST_STEPS`.
+fn steps_of(word: &str) -> Result<u64, Untaken>
+    ensures { IfOk result (λ steps. steps ≤ 2 ^ 57) }
+{
+    match word.parse::<u64>() {
+        Ok(steps) if steps <= MOST_STEPS => Ok(steps),
+        _ => Err(Untaken::Words),
+    }
+}
+
+/// The slice of a number, 1 to 1,000,000.
+fn slice_of(word: &str) -> Result<Slice, Untaken> {
+    match word.parse::<u64>() {
+        Ok(steps) if (1..=1_000_000).contains(&steps) => Ok(Slice::new(steps)),
+        _ => Err(Untaken::Words),
+    }
+}

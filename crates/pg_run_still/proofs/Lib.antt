@@ -1,0 +1,4 @@
+mod PlanLemmas
+mod GoingLemmas
+mod TellLemmas
+mod RanLemmas

@@ -1,0 +1,4 @@
+pub mod Rounds
+pub mod Resting
+pub mod Running
+pub mod Rested

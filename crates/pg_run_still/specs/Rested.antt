@@ -1,0 +1,21 @@
+-- Guests behind their last turn, as the code has them.
+use Rattle.std.specs.Prelude.{◌≡◌, ℕ}
+use Rattle.pg_hw.specs.Machinery.{Machinery}
+use Rattle.pg_control.specs.Guests.{virtuals}
+use Rattle.pg_control.specs.Plans.{turns_of}
+use Rattle.pg_control.specs.Standing.{Stands}
+use Rattle.pg_monitor.specs.Monitors.{desc_of}
+use Rattle.pg_monitor.specs.Plans.{direct_of}
+use Rattle.pg_shown.specs.Runs.{GuestRun, guests_of}
+use Rattle.pg_run_still.specs.declared.running.Rested.{Rested}
+use Rattle.pg_run_still.specs.Running.{RanStill, plan_until, rested}
+
+-- guests that ran: what the run left of the hardware, in so many rounds, and how their turns were counted
+pub record HaveRested (r : GuestRun) (ran : Rested) (old new : Machinery) : Type 0 where
+  pub rounds : ℕ
+  pub ran_still : RanStill r ran.rests rounds old new
+  pub machine : desc_of ran.monitor ≡ r.desc
+  pub stands : Stands r.desc new.state ran.monitor.guests ran.monitor.current
+  pub states : virtuals new.state.cells ran.monitor.guests ≡ rested r.desc r.states ran.rests
+  pub turns : ran.turns ≡ turns_of (plan_until r ran.rests rounds)
+  pub direct : ran.direct ≡ direct_of r.desc (guests_of r) (plan_until r ran.rests rounds) r.states

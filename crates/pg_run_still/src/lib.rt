@@ -1,0 +1,18 @@
+//! Runs of guests that end: each guest has its turns until it is still, or has had as many as it may have.
+//!
+//! A guest is still where a step leaves its state as it is, as a jump to itself does: every later step then does so too. Guests run by
+//! slices in rounds, as those of `run` do. One that was found still in a round has no turn in later ones, and the run ends when no
+//! guest is left, or all steps were made.
+//!
+//! # Modules
+//!
+//! - `rounds`: the rounds. `running`: a run of images, from the hardware on. `telling`: its text.
+#![tactic(auto)]
+
+mod rounds;
+mod running;
+mod telling;
+
+pub use rounds::{MOST_GUESTS, Rest, Rests, run_rounds};
+pub use running::{Rested, run_until_still};
+pub use telling::put_rested;
