@@ -7,4 +7,4 @@ pub mod ScheduleLemmas
 pub mod ReachLemmas
 pub mod ResetLemmas
 pub mod ReadyLemmas
-mod SettleLemmas
+pub mod SettleLemmas

@@ -1,5 +1,5 @@
 -- When a guest is first still, told by the hardware under it.
-use Rattle.std.proofs.Common.{◌≡◌, ℕ, zero, suc, ◌+◌, ◌-◌, ◌<◌, ◌≤◌, ◌⊎◌, inl, inr, true, false, List, Option, None, Some, slice_get, refl, sym, ◌∙◌, ap, subst, arith, true≢false}
+use Rattle.std.proofs.Common.{◌≡◌, ℕ, zero, suc, ◌+◌, ◌-◌, ◌^◌, ◌<◌, ◌≤◌, inl, inr, true, false, List, Option, None, Some, IfSome, slice_get, refl, sym, ◌∙◌, ap, subst, arith, true≢false}
 use Rattle.std.proofs.lemmas.Bool.{cases_lt}
 use Rattle.std.proofs.lemmas.Option.{same_Some}
 use Rattle.pg_word.specs.declared.psw.Psw.{Psw}
@@ -73,8 +73,8 @@ calm-before d k (suc m) j real g alike valid r some done user below = elim (case
 -- of such a burst: what the hardware tells of its state holds of the guest's
 pub tells-direct : (d : Desc) (k n : ℕ) (real : State) (g : Guest) (told : Option ℕ) → IsAlikeIn d g.psw.mode → IsValid d → Runs d real g → 0 < k → n ≡ burst_length d k real →
     (steps d n real).psw.mode ≡ U → TellsStill d n real told → TellsFirst d n (virtual real.cells g) told
-tells-direct d k n real g None alike valid r some done user none j below still =
-    none j below (still-stays d j real g alike valid (direct-before d k n j real g alike valid r done below) (calm-before d k n j real g alike valid r some done user below) still)
+tells-direct d k n real g None alike valid r some done user none =
+    λ j below still. none j below (still-stays d j real g alike valid (direct-before d k n j real g alike valid r done below) (calm-before d k n j real g alike valid r some done user below) still)
 tells-direct d k n real g (Some m) alike valid r some done user told = record {
   before = told.before;
   still = stays-still d m real g alike valid (direct-before d k n m real g alike valid r done told.before) told.stays;
@@ -116,13 +116,12 @@ tells-moves d k n real mid g h stopped alike valid r done halted moves j below s
 pub TellsFirst-then : (d : Desc) (m k : ℕ) (s : State) (before told : Option ℕ) → TellsFirst d m s before → TellsFirst d k (steps d m s) told →
     TellsFirst d (m + k) s (first_of before m told)
 TellsFirst-then d m k s (Some n) told one two = record { before = (let within = one.before in omega (arith, within)); still = one.still; first = one.first }
-TellsFirst-then d m k s None None one two j below still = elim (cases_lt j m) [
+TellsFirst-then d m k s None None one two = λ j below still. elim (cases_lt j m) [
   | inl less ↦ one j less still
-  | inr more ↦ two (j - m) (omega (arith, below, more)) (subst (IsStill d) (behind d m j s more) still)
+  | inr more ↦
+      let whole : m + (j - m) ≡ j = omega (arith, more) in
+      two (j - m) (omega (arith, below, more)) (subst (IsStill d) (ap (λ i. steps d i s) (sym whole) ∙ sym (steps-add d m (j - m) s)) still)
 ]
-  where
-    behind : (d : Desc) (m j : ℕ) (s : State) → m ≤ j → steps d j s ≡ steps d (j - m) (steps d m s)
-    behind d m j s more = let whole : m + (j - m) ≡ j = omega (arith, more) in ap (λ i. steps d i s) (sym whole) ∙ sym (steps-add d m (j - m) s)
 TellsFirst-then d m k s None (Some n) one two = record {
   before = (let within = two.before in omega (arith, within));
   still = subst (IsStill d) (steps-add d m n s) two.still;
@@ -133,6 +132,11 @@ TellsFirst-then d m k s None (Some n) one two = record {
         two.first (j - m) (omega (arith, below, more)) (subst (IsStill d) (ap (λ i. steps d i s) (sym whole) ∙ sym (steps-add d m (j - m) s)) still)
   ];
 }
+
+-- what is told can be counted where all turns can
+pub first-fits : (d : Desc) (m k : ℕ) (s : State) (told : Option ℕ) → TellsFirst d k s told → m + k < 2 ^ 64 → IfSome told (λ n. m + n < 2 ^ 64)
+first-fits d m k s None tells fits = tt
+first-fits d m k s (Some n) tells fits = (let within = tells.before in omega (arith, within, fits))
 
 -- no turn
 pub TellsFirst-none : (d : Desc) (n : ℕ) (s : State) → n ≡ 0 → TellsFirst d n s None

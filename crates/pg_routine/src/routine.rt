@@ -191,11 +191,21 @@ fn trap<H: Hardware>(
     let shape = m.shape();
     let loaded = unpack(shape, hw.peek(base + NEW_PSW_CELL));
     let word = pack_trap(shape, *psw, cause.number());
-    let still = loaded == *psw && hw.peek(base + OLD_PSW_CELL) == word;
+    let still = swaps_nothing(loaded, *psw, hw.peek(base + OLD_PSW_CELL), word);
     hw.poke(base + OLD_PSW_CELL, word);
     *psw = loaded;
     Emulated {
         trapped: true,
         still,
     }
+}
+
+/// Whether a trap loads the program status word that is there, and stores the word that its cell holds.
+#[inline(always)]
+fn swaps_nothing(loaded: Psw, psw: Psw, held: u64, word: u64) -> bool
+    ensures loads { result ≡ true → loaded ≡ psw }
+    ensures stores { result ≡ true → held ≡ word }
+    ensures swaps { result ≡ false → loaded ≡ psw → held ≡ word → ⊥ }
+{
+    loaded == psw && held == word
 }

@@ -41,7 +41,7 @@ All-from-at P (x ∷ xs) each = All-cons P x xs (each 0 x refl) (All-from-at P x
 
 -- the turns of one that was found still: up to the end of that slice, which lies behind
 pub record Ended (slice steps done n turns : ℕ) : Type 0 where
-  pub turns : turns ≡ turns_until slice steps (Some n)
+  pub had : turns ≡ turns_until slice steps (Some n)
   pub before : n < done
   pub most : turns ≤ done
 
@@ -75,22 +75,22 @@ sliced-going d slice steps_all r s now x y before_end going here sliced = by x.s
         record {
           had = subst (λ f. Had slice steps_all (r * slice + min slice (steps_all - r * slice)) f y.turns) (sym after.still) (had_of after.told tells);
           first = subst (TellsFirst d y.turns s) (sym after.still)
-              (TellsFirst-as d (r * slice + min slice (steps_all - r * slice)) y.turns s s (first_of None (r * slice) after.told) (sym after.turns) refl whole);
+              (TellsFirst-as d (r * slice + min slice (steps_all - r * slice)) y.turns s s (first_of None (r * slice) after.told) (sym after.had) refl whole);
         }
       where
         had_of : (told : Option ℕ) → TellsFirst d (min slice (steps_all - r * slice)) (steps d (r * slice) s) told →
             Had slice steps_all (r * slice + min slice (steps_all - r * slice)) (first_of None (r * slice) told) y.turns
-        had_of None tells = after.turns
+        had_of None tells = after.had
         had_of (Some m) tells = record {
-          turns = after.turns ∙ sym (turns_until-end slice steps_all r m before_end tells.before);
+          had = after.had ∙ sym (turns_until-end slice steps_all r m before_end tells.before);
           before = (let within = tells.before in omega (arith, within));
-          most = (let all = after.turns in omega (arith, all));
+          most = (let all = after.had in omega (arith, all));
         }
     by (Some m) is had first after =
         subst (IsGoing d slice steps_all (r * slice + min slice (steps_all - r * slice)) s) (sym after)
         (record {
           had = subst (λ f. Had slice steps_all (r * slice + min slice (steps_all - r * slice)) f x.turns) (sym is)
-              (record { turns = had.turns; before = (let b = had.before in omega (arith, b)); most = (let m = had.most in omega (arith, m)) });
+              (record { had = had.had; before = (let b = had.before in omega (arith, b)); most = (let m = had.most in omega (arith, m)) });
           first = going.first;
         })
 
@@ -110,9 +110,9 @@ sliced-turns d slice steps_all done turns s now x y going sliced = by x.still re
     by : (f : Option ℕ) → x.still ≡ f → Had slice steps_all done f x.turns → AfterSlice_of d done turns now x y f → x.turns + (if goes_on done y.still then turns else 0) ≡ y.turns
     by None is had after =
         let on : goes_on done y.still ≡ true = ap (goes_on done) after.still ∙ sym (goes_on-first done after.told done (omega arith)) in
-        ap (λ b. x.turns + (if b then turns else 0)) on ∙ omega (arith, had, after.turns)
+        ap (λ b. x.turns + (if b then turns else 0)) on ∙ omega (arith, had, after.had)
     by (Some n) is had after =
-        let off : goes_on done y.still ≡ false = ap (λ (z : Rest). goes_on done z.still) after ∙ ap (goes_on done) is ∙ lt-leb n done had.before in
+        let off : goes_on done y.still ≡ false = ap (λ (z : Rest). goes_on done z.still) after ∙ ap (goes_on done) is ∙ lt-leb done n had.before in
         ap (λ b. x.turns + (if b then turns else 0)) off ∙ omega arith ∙ ap (λ (z : Rest). z.turns) (sym after)
 
 -- ---- guests behind rounds
@@ -209,7 +209,7 @@ Going-round d slice steps_all done turns old mid new gs hs ks c c' c'' xs ys lon
           let before : IsGoing d slice steps_all (r * slice) (state_at old gs j) x.0 = subst (λ k. IsGoing d slice steps_all k (state_at old gs j) x.0) at (going.each j (state_at old gs j) x.0 from x.1) in
           turns_for-append j (rounds_until slice steps_all (firsts ys) r) (round_behind (r * slice) n 0 (firsts ys))
           ∙ ap (λ k. k + turns_for j (round_behind (r * slice) n 0 (firsts ys))) (ap (turns_for j) (sym same) ∙ going.had j x.0 x.1)
-          ∙ ap (λ k. x.0.turns + k) (turns_for-at (r * slice) n 0 j (firsts ys) y.still (slice_get-map (λ (z : Rest). z.still) ys j ∙ ap (option_map (λ (z : Rest). z.still)) is))
+          ∙ ap (λ k. x.0.turns + k) (sym (ap (λ i. turns_for i (round_behind (r * slice) n 0 (firsts ys))) (let none : 0 + j ≡ j = omega arith in none)) ∙ turns_for-at (r * slice) n 0 j (firsts ys) y.still (slice_get-map (λ (z : Rest). z.still) ys j ∙ ap (option_map (λ (z : Rest). z.still)) is))
           ∙ sliced-turns d slice steps_all (r * slice) n (state_at old gs j) (state_at mid hs j) x.0 y before (after.each j (state_at mid hs j) x.0 y there x.1 is);
     }
   where
@@ -245,7 +245,7 @@ Going-end d slice steps_all done old new gs hs c c' rests long going ends = reco
   where
     turns_of_rest : (rest : Rest) → (rest.still ≡ None → done ≡ steps_all) → (f : Option ℕ) → rest.still ≡ f → Had slice steps_all done f rest.turns → rest.turns ≡ turns_until slice steps_all rest.still
     turns_of_rest rest end None is had = had ∙ end is ∙ ap (turns_until slice steps_all) (sym is)
-    turns_of_rest rest end (Some n) is had = had.turns ∙ ap (turns_until slice steps_all) (sym is)
+    turns_of_rest rest end (Some n) is had = had.had ∙ ap (turns_until slice steps_all) (sym is)
 
 -- ---- a round under way
 
@@ -298,7 +298,7 @@ Begun-slice d done k turns told old new gs hs c c' valid stands one =
 
 pub Begun-no_slice : (d : Desc) (done k turns n : ℕ) (h : Machinery) (gs : List Guest) (c : Option ℕ) → n < done → Begun d (round_behind done turns k (Some n ∷ [])) h h gs gs c c
 Begun-no_slice d done k turns n h gs c before =
-    subst (λ b. Begun d (if b then (k, turns) ∷ [] else []) h h gs gs c c) (sym (lt-leb n done before)) (record { goes_on = λ plan last ls l rest. rest })
+    subst (λ b. Begun d (if b then (k, turns) ∷ [] else []) h h gs gs c c) (sym (lt-leb done n before)) (record { goes_on = λ plan last ls l rest. rest })
 
 -- ---- a list with another element
 

@@ -25,6 +25,7 @@ use Rattle.pg_monitor.specs.Turns.{CountsTurns}
 use Rattle.pg_monitor.proofs.PlanLemmas.{Followed-own}
 use Rattle.pg_shown.specs.Begun.{IsBegun}
 use Rattle.pg_shown.specs.Runs.{GuestRun, guests_of}
+use Rattle.pg_shown.specs.Setting.{CanRun}
 use Rattle.pg_shown.proofs.StartedLemmas.{IsLoaded, on-room, on-small, on-first, on-outside, on-psw, on-steps, on-untrapped, on-loads, on-pokes, on-bottom, begun-count, begun-states}
 use Rattle.pg_shown.proofs.SettingLemmas.{granted-same, guests-length}
 use Rattle.pg_run_still.specs.declared.rounds.Rest.{Rest}
@@ -83,6 +84,9 @@ rested-is d (s ∷ ss) (r ∷ rs) (v ∷ vs) count long at =
 abbrev pub standing : GuestRun → GuestRun
 standing r = record r { slice = 1; steps = 0 }
 
+pub standing-can : (r : GuestRun) → CanGo r → CanRun (standing r)
+standing-can r can = record { states = can.states; some = omega arith; counted = (let none : length r.states * 0 ≡ 0 = grind arith in omega (arith, none)) }
+
 module _ (r : GuestRun) (old on new : Machinery) (before after : Monitor) (rests : List Rest) where
   abbrev d : Desc
   d = r.desc
@@ -101,13 +105,13 @@ module _ (r : GuestRun) (old on new : Machinery) (before after : Monitor) (rests
     first : virtuals on.state.cells (guests_of r) ≡ r.states
     first = begun-states r (kept_by before) on h.begun
 
-    ran : RanRounds d r.slice r.steps on new (guests_of r) after.guests None after.current rests
+    abbrev ran : RanRounds d r.slice r.steps on new (guests_of r) after.guests None after.current rests
     ran =
         subst (λ e. RanRounds e r.slice r.steps on new (guests_of r) after.guests None after.current rests) h.desc
         (subst (λ o. RanRounds (desc_of before) r.slice r.steps on new (guests_of r) after.guests o after.current rests) h.begun.current
         (subst (λ gs. RanRounds (desc_of before) r.slice r.steps on new gs after.guests before.current after.current rests) h.begun.guests h.ran))
 
-    plan : List (ℕ × ℕ)
+    abbrev plan : List (ℕ × ℕ)
     plan = plan_until r rests ran.rounds
 
     count : length rests ≡ length r.states
@@ -116,7 +120,7 @@ module _ (r : GuestRun) (old on new : Machinery) (before after : Monitor) (rests
     each : AreRests d r.slice r.steps r.states rests
     each = subst (λ ss. AreRests d r.slice r.steps ss rests) first ran.each
 
-    direct : ℕ
+    abbrev direct : ℕ
     direct = direct_of d (guests_of r) plan r.states
 
     same-direct : direct_of d (guests_of r) plan (virtuals on.state.cells (guests_of r)) ≡ direct
@@ -171,6 +175,12 @@ module _ (r : GuestRun) (old on new : Machinery) (before after : Monitor) (rests
         (let counted = tally.untrapped in let was = on-untrapped (standing r) old on h.loaded in let can = h.loaded.can_count.untrapped in let most = direct-most in let few = turns-most in
         counted ∙ omega (arith, was, can, most, few))
 
+    pub rose-steps : on.tally.steps ≤ new.tally.steps
+    rose-steps = (let rose = run-steps in omega (arith, rose))
+
+    pub rose-untrapped : on.tally.untrapped ≤ new.tally.untrapped
+    rose-untrapped = (let rose = run-untrapped in omega (arith, rose))
+
     run-left : RanStill r rests ran.rounds old new
     run-left = record {
       count = count;
@@ -194,7 +204,7 @@ module _ (r : GuestRun) (old on new : Machinery) (before after : Monitor) (rests
       bottom = subst (λ b. BottomTurns (turns_of plan) direct b new.bottom) (on-bottom (standing r) old on h.loaded) bottom;
     }
 
-    pub run-have : (ran_code : Rested) → ran_code.monitor ≡ after → ran_code.rests ≡ rests → ran_code.turns ≡ new.tally.steps - on.tally.steps →
+    pub run-have : (ran_code : Rested) → ran_code.monitor ≡ after → ran_code.rests.items ≡ rests → ran_code.turns ≡ new.tally.steps - on.tally.steps →
         ran_code.direct ≡ new.tally.untrapped - on.tally.untrapped → HaveRested r ran_code old new
     run-have code monitor told turns untrapped = record {
       rounds = ran.rounds;

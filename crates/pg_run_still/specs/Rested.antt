@@ -13,9 +13,9 @@ use Rattle.pg_run_still.specs.Running.{RanStill, plan_until, rested}
 -- guests that ran: what the run left of the hardware, in so many rounds, and how their turns were counted
 pub record HaveRested (r : GuestRun) (ran : Rested) (old new : Machinery) : Type 0 where
   pub rounds : ℕ
-  pub ran_still : RanStill r ran.rests rounds old new
+  pub ran_still : RanStill r ran.rests.items rounds old new
   pub machine : desc_of ran.monitor ≡ r.desc
   pub stands : Stands r.desc new.state ran.monitor.guests ran.monitor.current
-  pub states : virtuals new.state.cells ran.monitor.guests ≡ rested r.desc r.states ran.rests
-  pub turns : ran.turns ≡ turns_of (plan_until r ran.rests rounds)
-  pub direct : ran.direct ≡ direct_of r.desc (guests_of r) (plan_until r ran.rests rounds) r.states
+  pub states : virtuals new.state.cells ran.monitor.guests ≡ rested r.desc r.states ran.rests.items
+  pub turns : ran.turns ≡ turns_of (plan_until r ran.rests.items rounds)
+  pub direct : ran.direct ≡ direct_of r.desc (guests_of r) (plan_until r ran.rests.items rounds) r.states

@@ -48,7 +48,7 @@ AreBefore done rests = All (λ rest. IsBefore done rest.still) rests
 
 -- a slice of so many turns, behind `done` turns, of a guest that is at a state
 pub record HadSlice (d : Desc) (done turns : ℕ) (s : State) (after : Rest) : Type 0 where
-  pub turns : after.turns ≡ done + turns
+  pub had : after.turns ≡ done + turns
   pub told : Option ℕ
   pub first : TellsFirst d turns s told
   pub still : after.still ≡ first_of None done told

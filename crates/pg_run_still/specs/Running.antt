@@ -78,7 +78,7 @@ rest_said turns (Some n) = codes "still after " ++ decimal n ++ codes " steps" +
 
 -- the lines before the state of a guest: its number, and behind how many steps it is still, or how many it had
 unfoldable pub head_text : ℕ → Rest → List ℕ
-head_text k rest = codes "guest " ++ decimal k ++ 10 ∷ [] ++ rest_said rest.turns rest.still
+head_text k rest = codes "guest " ++ decimal k ++ 10 ∷ [] ++ (rest_said rest.turns rest.still)
 
 -- guests from number k on, each with what is told of it and its state
 abbrev pub rests_text : ℕ → ℕ → List State → List Rest → List ℕ

@@ -1,6 +1,6 @@
 //! Rounds of guests that run until they are still.
 
-ghost use Rattle.std.specs.Prelude.{◌≡◌, ℕ, ◌+◌, ◌<◌, ◌≤◌, ◌^◌, [], ◌∷◌, All, IfSome, length, map, None, Some, slice_get};
+ghost use Rattle.std.specs.Prelude.{◌≡◌, ℕ, ◌+◌, ◌<◌, ◌≤◌, ◌^◌, [], ◌∷◌, All, IfSome, false, length, None, Some, slice_get};
 ghost use Rattle.pg_meaning.specs.States.{State};
 ghost use Rattle.pg_hw.specs.Serving.{IsServed};
 ghost use Rattle.pg_control.specs.Guests.{virtuals};
@@ -46,7 +46,7 @@ pub fn run_rounds<H: Settling>(
     requires counted { steps < 2 ^ 63 }
     ensures stands { Stands (desc_of monitor.old) (H.machinery hw.new).state monitor.new.guests monitor.new.current }
     ensures ran { RanRounds (desc_of monitor.old) slice steps (H.machinery hw.old) (H.machinery hw.new) monitor.old.guests monitor.new.guests
-        monitor.old.current monitor.new.current result }
+        monitor.old.current monitor.new.current result.items }
     ensures machine { monitor.new.accepted.machine.now ≡ monitor.old.accepted.machine.now }
     ensures granted { monitor.new.granted ≡ monitor.old.granted }
     ensures fixed { H.fixed hw.new ≡ H.fixed hw.old }
@@ -67,8 +67,8 @@ pub fn run_rounds<H: Settling>(
 /// So many guests, none of which has had a turn.
 fn none_had(count: usize) -> Rests
     requires { count ≤ 8 }
-    ensures count { length result ≡ count }
-    ensures each { All (λ rest. rest ≡ record { turns = 0; still = None }) result }
+    ensures count { length result.items ≡ count }
+    ensures each { All (λ rest. rest ≡ record { turns = 0; still = None }) result.items }
 {
     let mut rests = ArrayVec::new();
     for _ in 0..count {

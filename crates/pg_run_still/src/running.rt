@@ -1,6 +1,6 @@
 //! Runs of images that end: from the hardware on.
 
-ghost use Rattle.std.specs.Prelude.{◌≤◌, OnErr, OnOk, IfOk, length};
+ghost use Rattle.std.specs.Prelude.{◌≡◌, ◌≤◌, OnErr, IfOk};
 ghost use Rattle.pg_hw.specs.Serving.{IsServed};
 ghost use Rattle.pg_control.specs.Counting.{CanCount};
 ghost use Rattle.pg_shown.specs.Runs.{run_of};
@@ -37,7 +37,7 @@ impl<'m> Rested<'m> {
 
     /// What is told of each.
     pub fn rests(&self) -> &[Rest]
-        ensures { result.now ≡ self.now.rests }
+        ensures { result.now ≡ self.now.rests.items }
     {
         self.rests.as_slice()
     }

@@ -1,6 +1,7 @@
 //! The text of guests that ran until they were still.
 
-ghost use Rattle.std.specs.Prelude.{◌≡◌, ◌+◌, ◌<◌, ◌≤◌, ◌^◌, ◌++◌, All, length};
+ghost use Rattle.std.specs.Prelude.{◌≡◌, ◌+◌, ◌<◌, ◌≤◌, ◌^◌, [], ◌∷◌, ◌++◌, All, codes, length};
+ghost use Rattle.std.specs.Fmt.{decimal};
 ghost use Rattle.pg_edge.specs.Sink.{Puts};
 ghost use Rattle.pg_image.specs.Lines.{state_text};
 ghost use Rattle.pg_control.specs.Guests.{virtual, virtuals};
@@ -71,21 +72,24 @@ fn put_one<S: Sink, H: Hardware>(
 fn head_of(number: usize, rest: Rest) -> Line
     ensures { result.items ≡ head_text number rest }
 {
+    match rest.still {
+        Some(steps) => head_with(number, b"still after ", steps),
+        None => head_with(number, b"after ", rest.turns),
+    }
+}
+
+/// The lines of a guest of which these words and so many steps are told.
+fn head_with(number: usize, words: &[u8], steps: u64) -> Line
+    requires { length words.now ≤ 12 }
+    ensures { result.items ≡ codes "guest " ++ decimal number ++ 10 ∷ [] ++ (words.now ++ decimal steps ++ codes " steps" ++ 10 ∷ []) }
+{
     let mut line = Line::new();
     push(&mut line, b"guest ");
     push(&mut line, dec(number as u64).as_slice());
     line.push(b'\n');
-    let steps = match rest.still {
-        Some(steps) => {
-            push(&mut line, b"still after ");
-            steps
-        }
-        None => {
-            push(&mut line, b"after ");
-            rest.turns
-        }
-    };
+    push(&mut line, words);
     push(&mut line, dec(steps).as_slice());
-    push(&mut line, b" steps\n");
+    push(&mut line, b" steps");
+    line.push(b'\n');
     line
 }

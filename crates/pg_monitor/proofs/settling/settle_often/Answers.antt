@@ -1,7 +1,7 @@
 use Rattle.std.proofs.Common.{◌∙◌, refl, sym, ◌+◌, ◌-◌, subst, arith}
 use Rattle.pg_control.specs.Guests.{virtual}
 use Rattle.pg_monitor.specs.Settling.{TellsFirst}
-use Rattle.pg_monitor.proofs.SettleLemmas.{TellsFirst-none, TellsFirst-then, TellsFirst-as}
+use Rattle.pg_monitor.proofs.SettleLemmas.{TellsFirst-none, TellsFirst-then, TellsFirst-as, first-fits}
 use Rattle.pg_monitor.proofs.WentLemmas.{Went-none, Went-then, Went-count}
 use Rattle.pg_monitor.proofs.settling.settle_often.Goals as goal
 
@@ -12,6 +12,12 @@ loop-left-init g c = record {
   first = TellsFirst-none c.args.m.now.desc (c.args.n - c.args.n) _ (omega arith);
   fixed = refl;
 }
+
+pub first_of-still-requires : goal.first_of-still-requires
+first_of-still-requires g c =
+    let told = c.settle_on-settled.ensures.told in
+    first-fits c.args.m.now.desc (c.args.n - c.loop-left.left) c.settle_on-settled.result.done _ c.settle_on-settled.result.still told.first
+    (omega (arith, c.loop-left.invariant.most, told.within, c.ranges.n.fits))
 
 pub loop-left-preserved : goal.loop-left-preserved
 loop-left-preserved g c =

@@ -27,6 +27,10 @@ interpret-told-requires-clause-holds g c =
     (entry-read d _ _ _ _ c.shape.ensures.numbers c.peek.ensures c.unpack.ensures.psw)) in
     halted.holds
 
+pub overflow_sub-still : goal.overflow_sub-still
+overflow_sub-still g c =
+    (let least = burst_length-some c.args.m.now.desc c.args.most (g.H.Hardware.machinery c.args.hw.now).state c.requires.some in omega (arith, least, c.burst_settling-settled.ensures.count))
+
 pub returns-in-U-clause-told : goal.returns-in-U-clause-told
 returns-in-U-clause-told g c =
     let d = c.args.m.now.desc in
@@ -46,8 +50,8 @@ returns-in-U-clause-went g c =
     (record { state = c.burst_settling-settled.ensures.state; tally = c.burst_settling-settled.ensures.tally; bottom = c.burst_settling-settled.ensures.bottom })
     (ap (λ (x : Psw). with_psw c.args.guest.now (record c.args.guest.now.psw { p = x.p })) c.psw-real.ensures)
 
-pub returns-in-S-then-still-clause-told : goal.returns-in-S-then-still-clause-told
-returns-in-S-then-still-clause-told g c =
+pub returns-then-told-clause-told : goal.returns-then-told-clause-told
+returns-then-told-clause-told g c =
     let d = c.args.m.now.desc in
     let stopped : Stopped d c.burst_settling-settled.result.done (g.H.Hardware.machinery c.args.hw.now).state c.args.guest.now =
     Stopped-burst d _ _ _ c.args.guest.now (accepted-alike d c.args.guest.now.psw.mode c.requires.accepted) c.args.m.now.valid c.requires.runs c.requires.some c.burst_settling-settled.ensures.count
@@ -58,11 +62,11 @@ returns-in-S-then-still-clause-told g c =
     record {
       some = (let least = burst_length-some d c.args.most (g.H.Hardware.machinery c.args.hw.now).state c.requires.some in omega (arith, least, c.burst_settling-settled.ensures.count));
       within = (let most = burst_length-most d c.args.most (g.H.Hardware.machinery c.args.hw.now).state in omega (arith, most, c.burst_settling-settled.ensures.count));
-      first = tells-still d _ _ _ _ c.args.guest.now _ stopped (accepted-alike d c.args.guest.now.psw.mode c.requires.accepted) c.args.m.now.valid c.requires.runs c.burst_settling-settled.ensures.count halted (c.interpret-told.ensures.still c.if-still.true);
+      first = tells-still d _ _ _ _ c.args.guest.now _ stopped (accepted-alike d c.args.guest.now.psw.mode c.requires.accepted) c.args.m.now.valid c.requires.runs c.burst_settling-settled.ensures.count halted (c.interpret-told.ensures.still c.if-told.true);
     }
 
-pub returns-in-S-then-still-clause-went : goal.returns-in-S-then-still-clause-went
-returns-in-S-then-still-clause-went g c =
+pub returns-then-told-clause-went : goal.returns-then-told-clause-went
+returns-then-told-clause-went g c =
     let d = c.args.m.now.desc in
     let stopped : Stopped d c.burst_settling-settled.result.done (g.H.Hardware.machinery c.args.hw.now).state c.args.guest.now =
     Stopped-burst d _ _ _ c.args.guest.now (accepted-alike d c.args.guest.now.psw.mode c.requires.accepted) c.args.m.now.valid c.requires.runs c.requires.some c.burst_settling-settled.ensures.count
@@ -74,8 +78,8 @@ returns-in-S-then-still-clause-went g c =
     (record { state = c.burst_settling-settled.ensures.state; tally = c.burst_settling-settled.ensures.tally; bottom = c.burst_settling-settled.ensures.bottom })
     c.interpret-told.ensures.interpreted
 
-pub returns-in-S-else-clause-told : goal.returns-in-S-else-clause-told
-returns-in-S-else-clause-told g c =
+pub returns-else-told-clause-told : goal.returns-else-told-clause-told
+returns-else-told-clause-told g c =
     let d = c.args.m.now.desc in
     let stopped : Stopped d c.burst_settling-settled.result.done (g.H.Hardware.machinery c.args.hw.now).state c.args.guest.now =
     Stopped-burst d _ _ _ c.args.guest.now (accepted-alike d c.args.guest.now.psw.mode c.requires.accepted) c.args.m.now.valid c.requires.runs c.requires.some c.burst_settling-settled.ensures.count
@@ -86,11 +90,11 @@ returns-in-S-else-clause-told g c =
     record {
       some = (let least = burst_length-some d c.args.most (g.H.Hardware.machinery c.args.hw.now).state c.requires.some in omega (arith, least, c.burst_settling-settled.ensures.count));
       within = (let most = burst_length-most d c.args.most (g.H.Hardware.machinery c.args.hw.now).state in omega (arith, most, c.burst_settling-settled.ensures.count));
-      first = tells-moves d _ _ _ _ c.args.guest.now _ stopped (accepted-alike d c.args.guest.now.psw.mode c.requires.accepted) c.args.m.now.valid c.requires.runs c.burst_settling-settled.ensures.count halted (c.interpret-told.ensures.moves c.if-still.false);
+      first = tells-moves d _ _ _ _ c.args.guest.now _ stopped (accepted-alike d c.args.guest.now.psw.mode c.requires.accepted) c.args.m.now.valid c.requires.runs c.burst_settling-settled.ensures.count halted (c.interpret-told.ensures.moves c.if-told.false);
     }
 
-pub returns-in-S-else-clause-went : goal.returns-in-S-else-clause-went
-returns-in-S-else-clause-went g c =
+pub returns-else-told-clause-went : goal.returns-else-told-clause-went
+returns-else-told-clause-went g c =
     let d = c.args.m.now.desc in
     let stopped : Stopped d c.burst_settling-settled.result.done (g.H.Hardware.machinery c.args.hw.now).state c.args.guest.now =
     Stopped-burst d _ _ _ c.args.guest.now (accepted-alike d c.args.guest.now.psw.mode c.requires.accepted) c.args.m.now.valid c.requires.runs c.requires.some c.burst_settling-settled.ensures.count

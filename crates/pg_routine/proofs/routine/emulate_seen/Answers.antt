@@ -164,4 +164,4 @@ returns-in-Done-clause-moves g c is same =
       is = ap (outcome_in c.step_in-ended.new.frame) c.in-Done.is;
       writes = c.as_slice-writes.ensures;
     } in
-    c.leaves-still.ensures.moves is (done-next _ _ _ _ _ _ _ _ _ _ done same) (done-kept _ _ _ _ _ _ _ _ _ _ done same)
+    c.leaves-still.ensures.moved is (done-next _ _ _ _ _ _ _ _ _ _ done same) (done-kept _ _ _ _ _ _ _ _ _ _ done same)

@@ -1,8 +1,10 @@
-use Rattle.std.proofs.Common.{◌≡◌, ◌+◌, ◌∙◌, sym, ap, slice_set, arith}
+use Rattle.std.proofs.Common.{◌≡◌, ◌+◌, ◌∙◌, sym, ap, slice_index, slice_set, arith}
 use Rattle.pg_word.specs.Psw.{cause_number, packed_trap, unpacked}
 use Rattle.pg_meaning.specs.States.{State, shape_of}
 use Rattle.pg_hw.specs.Machinery.{Machinery}
+use Rattle.pg_routine.specs.Granting.{guest_at}
 use Rattle.pg_routine.proofs.GrantLaws.{guest-length, guest-cell, guest-set}
+use Rattle.pg_routine.proofs.KeepLemmas.{trapped-still, trapped-loads, trapped-stores}
 use Rattle.pg_routine.proofs.StoreLemmas.{PokedWithin-one}
 use Rattle.pg_routine.proofs.routine.trap.Goals as goal
 
@@ -34,8 +36,21 @@ returns-clause-psw g c =
 pub returns-clause-still : goal.returns-clause-still
 returns-clause-still g c is =
     let cells = (g.H.Hardware.machinery c.args.hw.now).state.cells in
+    let d = c.args.m.now.desc in
     let guest = guest_at cells c.args.base c.args.size c.args.psw.now in
-    trapped-still c.args.m.now.desc guest (cause_number c.args.cause) TODO TODO
+    let some = guest-length cells c.args.base c.args.size c.requires.within in
+    let loads : unpacked d.address (slice_index guest.cells 1) ≡ c.args.psw.now = sym (returns-clause-psw g c) ∙ c.swaps_nothing-still.ensures.loads is in
+    let held : slice_index guest.cells 0 ≡ c.peek-2.result = guest-cell cells c.args.base c.args.size 0 c.peek-2.result (omega (arith, some, c.requires.guest.size_least)) c.peek-2.ensures in
+    trapped-still d guest (cause_number c.args.cause) loads (held ∙ c.swaps_nothing-still.ensures.stores is ∙ c.pack_trap-word.ensures.word ∙ ap (λ s. packed_trap s c.args.psw.now c.number.result) c.shape-shape.ensures.numbers
+    ∙ ap (packed_trap (shape_of d) c.args.psw.now) c.number.ensures.number)
 
 pub returns-clause-moves : goal.returns-clause-moves
-returns-clause-moves g c is same = TODO
+returns-clause-moves g c is same =
+    let cells = (g.H.Hardware.machinery c.args.hw.now).state.cells in
+    let d = c.args.m.now.desc in
+    let guest = guest_at cells c.args.base c.args.size c.args.psw.now in
+    let some = guest-length cells c.args.base c.args.size c.requires.within in
+    let held : slice_index guest.cells 0 ≡ c.peek-2.result = guest-cell cells c.args.base c.args.size 0 c.peek-2.result (omega (arith, some, c.requires.guest.size_least)) c.peek-2.ensures in
+    c.swaps_nothing-still.ensures.swaps is (returns-clause-psw g c ∙ trapped-loads d guest (cause_number c.args.cause) same)
+    (sym held ∙ trapped-stores d guest (cause_number c.args.cause) (omega (arith, some, c.requires.guest.size_least)) same ∙ sym (c.pack_trap-word.ensures.word ∙ ap (λ s. packed_trap s c.args.psw.now c.number.result) c.shape-shape.ensures.numbers
+    ∙ ap (packed_trap (shape_of d) c.args.psw.now) c.number.ensures.number))

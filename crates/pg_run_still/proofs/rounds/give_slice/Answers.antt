@@ -1,4 +1,4 @@
-use Rattle.std.proofs.Common.{◌≡◌, refl, sym, ◌∙◌, ap, subst, arith, Option, None, Some}
+use Rattle.std.proofs.Common.{◌≡◌, [], ◌∷◌, refl, sym, ◌∙◌, ap, subst, arith, Option, None, Some}
 use Rattle.pg_control.proofs.PlanLemmas.{grants-length}
 use Rattle.pg_monitor.specs.Schedules.{Begun}
 use Rattle.pg_run_still.specs.Rounds.{round_behind}
@@ -22,7 +22,7 @@ pub returns-in-None-clause-begun : goal.returns-in-None-clause-begun
 returns-in-None-clause-begun g c =
     let d = c.args.monitor.now.accepted.machine.now.desc in
     subst (λ f. Begun d (round_behind c.args.done c.args.turns c.args.k (f ∷ [])) (g.H.Hardware.machinery c.args.hw.now) (g.H.Hardware.machinery c.settle-told.new.hw)
-        c.args.monitor.now.guests c.settle-told.new.self.guests c.args.monitor.now.current c.settle-told.new.self.current) (sym c.behind-still.ensures)
+        c.args.monitor.now.guests c.settle-told.new.self.guests c.args.monitor.now.current c.settle-told.new.self.current) (sym c.behind.ensures)
     (Begun-slice d c.args.done c.args.k c.args.turns c.settle-told.result _ _ _ _ _ _ c.args.monitor.now.accepted.machine.now.valid c.requires.stands c.settle-told.ensures.turned)
 
 pub returns-in-None-clause-rest : goal.returns-in-None-clause-rest
@@ -30,10 +30,10 @@ returns-in-None-clause-rest g c s at =
     let d = c.args.monitor.now.accepted.machine.now.desc in
     subst (AfterSlice_of d c.args.done c.args.turns s c.args.rest _) (sym c.in-None.is)
     (record {
-      turns = refl;
+      had = refl;
       told = c.settle-told.result;
       first = told-of d c.args.turns (g.H.Hardware.machinery c.args.hw.now) c.args.monitor.now.guests c.args.k s c.settle-told.result c.requires.known c.settle-told.ensures.first at;
-      still = c.behind-still.ensures;
+      still = c.behind.ensures;
     })
 
 pub returns-in-None-clause-number : goal.returns-in-None-clause-number

@@ -1,4 +1,4 @@
-use Rattle.std.proofs.Common.{◌≡◌, ℕ, ◌+◌, ◌<◌, ◌≤◌, inl, inr, List, length, take, Some, slice_get, slice_set, refl, sym, ◌∙◌, ap, subst, arith, take_all}
+use Rattle.std.proofs.Common.{◌≡◌, ℕ, ◌+◌, ◌<◌, ◌≤◌, inl, inr, List, length, take, Some, slice_get, slice_set, slice_index_or, [], ◌∷◌, refl, sym, ◌∙◌, ap, subst, arith, take_all}
 use Rattle.std.proofs.lemmas.Bool.{cases_lt}
 use Rattle.std.proofs.lemmas.List.{length-map, length-set, length-take-le}
 use Rattle.std.proofs.lemmas.List.Elements.{All-get_or}
@@ -61,3 +61,16 @@ loop-k-preserved g c =
   where
     rests_at : List Rest → ℕ → Rest
     rests_at rests k = slice_index_or rests k no_turns
+
+pub returns-clause-round : goal.returns-clause-round
+returns-clause-round g c =
+    let l = c.loop-k in
+    let before = l.invariant in
+    let d = c.args.monitor.now.accepted.machine.now.desc in
+    let all : take l.k l.rests ≡ l.rests = take_all l.k l.rests (omega (arith, before.count, c.loop-k-test.false)) in
+    record {
+      count = before.count;
+      begun = subst (λ rs. Begun d (round_behind c.args.done c.args.turns 0 (firsts rs)) (g.H.Hardware.machinery c.args.hw.now) (g.H.Hardware.machinery l.hw) c.args.monitor.now.guests l.monitor.guests
+          c.args.monitor.now.current l.monitor.current) all before.begun;
+      each = λ j s x y from is is'. before.each j s x y (let within = slice_get_within l.rests j y is' in omega (arith, within, before.count, c.loop-k-test.false)) from is is';
+    }

@@ -13,7 +13,7 @@ invariant-loop-done g l = record {
   fixed : g.H.Hardware.fixed l.hw ≡ g.H.Hardware.fixed l.initial.hw;
   most : l.done ≤ l.steps;
   going : Going l.initial.monitor.accepted.machine.now.desc l.slice l.steps l.done (g.H.Hardware.machinery l.initial.hw) (g.H.Hardware.machinery l.hw)
-      l.initial.monitor.guests l.monitor.guests l.initial.monitor.current l.monitor.current l.rests;
+      l.initial.monitor.guests l.monitor.guests l.initial.monitor.current l.monitor.current l.rests.items;
 }
 
 abbrev pub decreases-loop-done : goal.decreases-loop-done
