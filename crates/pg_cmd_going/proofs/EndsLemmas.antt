@@ -60,7 +60,7 @@ stays d s turns n k (Some m) is behind tells =
     let whole : n + (k - n) ≡ k = omega (arith, behind) in
     ap (λ i. steps d i s) (sym whole) ∙ sym (steps-add d n (k - n) s) ∙ steps-stay d (k - n) (steps d n s) still
 
-stay-still : (j : JudgedRun) (ran : Rested) (rounds : ℕ) (old new : Machinery) → RanStill (guests_in j) ran.rests rounds old new → StayStill j.desc j.images ran.rests
+stay-still : (j : JudgedRun) (ran : Rested) (rounds : ℕ) (old new : Machinery) → RanStill (guests_in j) ran.rests.items rounds old new → StayStill j.desc j.images ran.rests.items
 unfolding bare
 stay-still j ran rounds old new left at n k image rest is is' still behind =
     let s : State = power_on image (length image) in
@@ -69,16 +69,16 @@ stay-still j ran rounds old new left at n k image rest is is' still behind =
 
 -- the guests ran
 pub go-ran : (j : JudgedRun) (ran : Rested) (old new : World) → verdict_on (judged_by j) ≡ Accepted → IsAccepted j.desc → All (λ image. length image ≡ j.grant) j.images →
-    (have : HaveRested (guests_in j) ran old.hw new.hw) → new.files ≡ old.files → new.save_faults ≡ old.save_faults → GoEnds j old new Done (text_of_rest (guests_in j) ran.rests have.rounds)
+    (have : HaveRested (guests_in j) ran old.hw new.hw) → new.files ≡ old.files → new.save_faults ≡ old.save_faults → GoEnds j old new Done (text_of_rest (guests_in j) ran.rests.items have.rounds)
 go-ran j ran old new is accepted filled have files saves = record {
-  by_verdict = ends-left (verdict_on (judged_by j)) (GoneEnd j) Plain (judged_by j) old new Done (text_of_rest (guests_in j) ran.rests have.rounds) is
+  by_verdict = ends-left (verdict_on (judged_by j)) (GoneEnd j) Plain (judged_by j) old new Done (text_of_rest (guests_in j) ran.rests.items have.rounds) is
       (record {
         status = refl;
         accepted = accepted;
         granted = filled;
-        rests = ran.rests;
+        rests = ran.rests.items;
         rounds = have.rounds;
-        reached = reached-each j.desc j.images ran.rests;
+        reached = reached-each j.desc j.images ran.rests.items;
         stay = stay-still j ran have.rounds old.hw new.hw have.ran_still;
         wording = refl;
         ran = have.ran_still;
@@ -89,13 +89,13 @@ go-ran j ran old new is accepted filled have files saves = record {
 
 -- what is told of guests that ran is the text of their run
 pub rested-text : (r : GuestRun) (ran : Rested) (old h : Machinery) (guests : List Guest) (rests : List Rest) (turns direct : ℕ) → (have : HaveRested r ran old h) → guests ≡ ran.monitor.guests →
-    rests ≡ ran.rests → turns ≡ ran.turns → direct ≡ ran.direct → still_text r.desc.word (virtuals h.state.cells guests) rests turns direct ≡ text_of_rest r ran.rests have.rounds
+    rests ≡ ran.rests.items → turns ≡ ran.turns → direct ≡ ran.direct → still_text r.desc.word (virtuals h.state.cells guests) rests turns direct ≡ text_of_rest r ran.rests.items have.rounds
 rested-text r ran old h guests rests turns direct have are_guests are_rests are_turns are_direct =
     ap (λ gs. still_text r.desc.word (virtuals h.state.cells gs) rests turns direct) are_guests
     ∙ ap (λ ss. still_text r.desc.word ss rests turns direct) have.states
-    ∙ ap (λ rs. still_text r.desc.word (rested r.desc r.states ran.rests) rs turns direct) are_rests
-    ∙ ap (λ n. still_text r.desc.word (rested r.desc r.states ran.rests) ran.rests n direct) (are_turns ∙ have.turns)
-    ∙ ap (still_text r.desc.word (rested r.desc r.states ran.rests) ran.rests _) (are_direct ∙ have.direct)
+    ∙ ap (λ rs. still_text r.desc.word (rested r.desc r.states ran.rests.items) rs turns direct) are_rests
+    ∙ ap (λ n. still_text r.desc.word (rested r.desc r.states ran.rests.items) ran.rests.items n direct) (are_turns ∙ have.turns)
+    ∙ ap (still_text r.desc.word (rested r.desc r.states ran.rests.items) ran.rests.items _) (are_direct ∙ have.direct)
 
 -- of each guest something is told
 rested-long : (d : Desc) (ss : List State) (rests : List Rest) → length rests ≡ length ss → length (rested d ss rests) ≡ length ss
@@ -103,9 +103,9 @@ rested-long d [] rests same = refl
 rested-long d (s ∷ ss) [] same = absurd (omega (arith, same))
 rested-long d (s ∷ ss) (r ∷ rs) same = ap suc (rested-long d ss rs (omega (arith, same)))
 
-pub rested-count : (r : GuestRun) (ran : Rested) (old h : Machinery) → HaveRested r ran old h → length ran.rests ≡ length ran.monitor.guests
+pub rested-count : (r : GuestRun) (ran : Rested) (old h : Machinery) → HaveRested r ran old h → length ran.rests.items ≡ length ran.monitor.guests
 rested-count r ran old h have =
-    have.ran_still.count ∙ sym (rested-long r.desc r.states ran.rests have.ran_still.count) ∙ ap length (sym have.states) ∙ length-map ran.monitor.guests (virtual h.state.cells)
+    have.ran_still.count ∙ sym (rested-long r.desc r.states ran.rests.items have.ran_still.count) ∙ ap length (sym have.states) ∙ length-map ran.monitor.guests (virtual h.state.cells)
 
 -- they lie within the storage
 pub rested-within : (r : GuestRun) (ran : Rested) (old h : Machinery) → HaveRested r ran old h → AreWithin h.state ran.monitor.guests

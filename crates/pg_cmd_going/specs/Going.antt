@@ -27,7 +27,7 @@ files_of w = record { desc = w.desc; images = w.images; cert = w.cert; grant = w
 
 -- the run of what they hold
 abbrev pub judged_go_of : GoWords → Loaded → JudgedRun
-judged_go_of w l = record { desc = l.desc; images = l.images; slice = w.slice; steps = w.steps; grant = w.grant; report = l.report }
+judged_go_of w l = record { desc = l.desc; images = l.images; slice = w.slice; steps = w.steps.count; grant = w.grant; report = l.report }
 
 -- description, room, images and certificate, and then the run
 unfoldable pub GoDue : GoWords → Option Files → Step Refusal JudgedRun

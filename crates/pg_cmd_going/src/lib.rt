@@ -20,13 +20,14 @@
 //! output cannot be written, 10 where memory is refused, and 11 where a file is not there. No file is saved. What each status means is
 //! a clause (`carry_go`).
 //!
-//! - `request`: the words. `preparing`: the files, to a run that can be done. `carry`: the run and its text.
+//! - `request`: the words. `preparing`: the files, to a `plan`, a run that can be done. `carry`: the run and its text.
 #![tactic(auto)]
 
 ghost use Rattle.std.specs.Prelude.{◌≡◌};
 ghost use Rattle.pg_steps.specs.Able.{IsAble};
 
 mod carry;
+mod plan;
 mod preparing;
 mod request;
 
@@ -37,7 +38,7 @@ use pg_steps::{Status, StopWatcher};
 use std::alloc::Global;
 
 pub use carry::carry_go;
-pub use request::{GoWords, MOST_STEPS, asked_by};
+pub use request::{GoWords, MOST_STEPS, StepsAtMost, asked_by};
 
 /// How the program is called.
 pub const USAGE: &[u8] = b"usage: pg_go DESC CERT IMAGE.. --grant G [--steps N] [--slice K]\n";

@@ -26,11 +26,18 @@ pub struct GoWords {
     /// How many cells are granted to each guest.
     pub grant: Grant,
     /// How many steps each guest does at most.
-    pub steps: u64,
+    pub steps: StepsAtMost,
     /// How many steps a guest does before the next has its turn.
     pub slice: Slice,
-    /// They can be counted.
-    pub ghost few: { steps ≤ 2 ^ 57 },
+}
+
+/// How many steps a guest does at most.
+#[derive(Clone, Copy)]
+pub struct StepsAtMost {
+    /// The number.
+    pub count: u64,
+    /// Eight guests of so many can be counted.
+    pub ghost few: { count ≤ 2 ^ 57 },
 }
 
 /// What words have said so far.
@@ -38,7 +45,7 @@ pub struct GoWords {
 struct Draft<'a> {
     files: Vec<&'a str>,
     grant: Option<Grant>,
-    steps: Option<u64>,
+    steps: Option<StepsAtMost>,
     slice: Option<Slice>,
 }
 
@@ -80,12 +87,30 @@ fn words_of(alloc: Global, words: &[String]) -> Result<GoWords, Untaken> {
     while let [word, behind @ ..] = left {
         left = draft.take(word.as_str(), behind)?;
     }
-    whole(alloc, &draft)
+    whole(alloc, draft)
 }
 
 /// What a draft asks for, where nothing is left out.
-fn whole(alloc: Global, draft: &Draft<'_>) -> Result<GoWords, Untaken> {
-    let ([desc, cert, images @ ..], Some(grant)) = (draft.files.as_slice(), draft.grant) else {
+fn whole(alloc: Global, draft: Draft<'_>) -> Result<GoWords, Untaken> {
+    let Draft {
+        files,
+        grant,
+        steps,
+        slice,
+    } = draft;
+    let grant = match grant {
+        Some(grant) => grant,
+        None => return Err(Untaken::Words),
+    };
+    let slice = match slice {
+        Some(slice) => slice,
+        None => Slice::new(USUAL_SLICE),
+    };
+    let steps = match steps {
+        Some(steps) => steps,
+        None => StepsAtMost { count: MOST_STEPS },
+    };
+    let [desc, cert, images @ ..] = files.as_slice() else {
         return Err(Untaken::Words);
     };
     if images.is_empty() || images.len() > MOST_IMAGES {
@@ -96,8 +121,8 @@ fn whole(alloc: Global, draft: &Draft<'_>) -> Result<GoWords, Untaken> {
         cert: file_name(alloc, cert)?,
         images: images_of(alloc, images)?,
         grant,
-        steps: draft.steps.unwrap_or(MOST_STEPS),
-        slice: draft.slice.unwrap_or(Slice::new(USUAL_SLICE)),
+        steps,
+        slice,
     })
 }
 
@@ -147,10 +172,16 @@ impl<'a> Draft<'a> {
             }
             _ if word.starts_with('-') => Err(Untaken::Words),
             _ => {
-                self.files.push(word)?;
+                self.take_file(word)?;
                 Ok(behind)
             }
         }
+    }
+
+    /// Takes the name of a file. The error is want of memory.
+    fn take_file(&mut self, name: &'a str) -> Result<(), AllocError> {
+        self.files.push(name)?;
+        Ok(())
     }
 }
 
@@ -163,11 +194,9 @@ fn grant_of(word: &str) -> Result<Grant, Untaken> {
 }
 
 /// So many steps, 0 to `MOST_STEPS`.
-fn steps_of(word: &str) -> Result<u64, Untaken>
-    ensures { IfOk result (λ steps. steps ≤ 2 ^ 57) }
-{
+fn steps_of(word: &str) -> Result<StepsAtMost, Untaken> {
     match word.parse::<u64>() {
-        Ok(steps) if steps <= MOST_STEPS => Ok(steps),
+        Ok(count) if count <= MOST_STEPS => Ok(StepsAtMost { count }),
         _ => Err(Untaken::Words),
     }
 }

@@ -14,10 +14,13 @@ use Rattle.pg_steps.proofs.AbleLemmas.{size-small}
 use Rattle.pg_steps.proofs.CarryLemmas.{carries-done, carries-broken, carries-starved}
 use Rattle.pg_judged.specs.Judged.{verdict_on}
 use Rattle.pg_judged.proofs.TellingLemmas.{carries-told}
-use Rattle.pg_tool_run.specs.Plans.{judged_go}
-use Rattle.pg_tool_run.specs.Run.{guests_in, judged_by, run_command}
-use Rattle.pg_tool_run.proofs.EndsLemmas.{run-told, run-ran, ran-text}
-use Rattle.pg_tool_run.proofs.run.carry_run.Goals as goal
+use Rattle.pg_tool_run.specs.Run.{guests_in, judged_by}
+use Rattle.pg_run_still.specs.Rested.{HaveRested}
+use Rattle.pg_run_still.specs.Running.{text_of_rest}
+use Rattle.pg_cmd_going.specs.Going.{go_command}
+use Rattle.pg_cmd_going.specs.Plans.{judged_go}
+use Rattle.pg_cmd_going.proofs.EndsLemmas.{go-told, go-ran, rested-text, rested-count, rested-within}
+use Rattle.pg_cmd_going.proofs.carry.carry_go.Goals as goal
 
 -- ---- the verdict is told
 
@@ -99,12 +102,12 @@ returns-in-Ok-put_rested-clause-carries g c =
     subst (λ (m : Machine). HaveRested (run_of m p.images p.slice p.steps) c.in-Ok-run_until_still.ran (g.H.Hardware.machinery c.args.hw.now) (g.H.Hardware.machinery c.run_until_still.new.hw)) c.of-accepted.ensures.same
     (subst (λ (xs : List (List ℕ)). HaveRested (run_of c.of-accepted.result.machine.now xs p.slice p.steps) c.in-Ok-run_until_still.ran (g.H.Hardware.machinery c.args.hw.now) (g.H.Hardware.machinery c.run_until_still.new.hw)) c.as_slice-images.ensures c.in-Ok-run_until_still.ensures.rested) in
     let told = rested-text r ran_code old.hw new.hw c.guests.result.now c.rests.result.now c.turns.result c.direct.result have c.guests.ensures c.rests.ensures c.turns.ensures c.direct.ensures in
-    let put : Puts {T = Unit {0}} {E = Failed} old.out.written new.out.written old.out.faults new.out.faults (text_of_rest r ran_code.rests have.rounds) c.put_rested.result =
+    let put : Puts {T = Unit {0}} {E = Failed} old.out.written new.out.written old.out.faults new.out.faults (text_of_rest r ran_code.rests.items have.rounds) c.put_rested.result =
     subst (λ t. Puts {T = Unit {0}} {E = Failed} old.out.written new.out.written old.out.faults new.out.faults t c.put_rested.result) told c.put_rested.ensures in
     let ends = go-ran j ran_code old new is (c.in-Ok.ensures.accepts is) p.filled have c.prepare_go.ensures.reads.same_files
     c.prepare_go.ensures.reads.same_saves in
-    let whole = subst (λ x. Puts {T = Unit {0}} {E = Failed} old.out.written new.out.written old.out.faults new.out.faults (text_of_rest r ran_code.rests have.rounds) x) c.in-Ok-put_rested.is put in
-    carries-done (go_command c.args.words.now) old new j (text_of_rest r ran_code.rests have.rounds) c.in-Ok.ensures.comes ends whole.whole
+    let whole = subst (λ x. Puts {T = Unit {0}} {E = Failed} old.out.written new.out.written old.out.faults new.out.faults (text_of_rest r ran_code.rests.items have.rounds) x) c.in-Ok-put_rested.is put in
+    carries-done (go_command c.args.words.now) old new j (text_of_rest r ran_code.rests.items have.rounds) c.in-Ok.ensures.comes ends whole.whole
 
 pub returns-clause-carries : goal.returns-clause-carries
 returns-clause-carries g c =
@@ -119,9 +122,9 @@ returns-clause-carries g c =
     subst (λ (m : Machine). HaveRested (run_of m p.images p.slice p.steps) c.in-Ok-run_until_still.ran (g.H.Hardware.machinery c.args.hw.now) (g.H.Hardware.machinery c.run_until_still.new.hw)) c.of-accepted.ensures.same
     (subst (λ (xs : List (List ℕ)). HaveRested (run_of c.of-accepted.result.machine.now xs p.slice p.steps) c.in-Ok-run_until_still.ran (g.H.Hardware.machinery c.args.hw.now) (g.H.Hardware.machinery c.run_until_still.new.hw)) c.as_slice-images.ensures c.in-Ok-run_until_still.ensures.rested) in
     let told = rested-text r ran_code old.hw new.hw c.guests.result.now c.rests.result.now c.turns.result c.direct.result have c.guests.ensures c.rests.ensures c.turns.ensures c.direct.ensures in
-    let put : Puts {T = Unit {0}} {E = Failed} old.out.written new.out.written old.out.faults new.out.faults (text_of_rest r ran_code.rests have.rounds) c.put_rested.result =
+    let put : Puts {T = Unit {0}} {E = Failed} old.out.written new.out.written old.out.faults new.out.faults (text_of_rest r ran_code.rests.items have.rounds) c.put_rested.result =
     subst (λ t. Puts {T = Unit {0}} {E = Failed} old.out.written new.out.written old.out.faults new.out.faults t c.put_rested.result) told c.put_rested.ensures in
     let ends = go-ran j ran_code old new is (c.in-Ok.ensures.accepts is) p.filled have c.prepare_go.ensures.reads.same_files
     c.prepare_go.ensures.reads.same_saves in
-    let broken = subst (λ x. Puts {T = Unit {0}} {E = Failed} old.out.written new.out.written old.out.faults new.out.faults (text_of_rest r ran_code.rests have.rounds) x) c.in-Err-put_rested.is put in
-    carries-broken (go_command c.args.words.now) old new j Done (text_of_rest r ran_code.rests have.rounds) c.in-Ok.ensures.comes ends (record { cause = broken.cause; front = broken.front })
+    let broken = subst (λ x. Puts {T = Unit {0}} {E = Failed} old.out.written new.out.written old.out.faults new.out.faults (text_of_rest r ran_code.rests.items have.rounds) x) c.in-Err-put_rested.is put in
+    carries-broken (go_command c.args.words.now) old new j Done (text_of_rest r ran_code.rests.items have.rounds) c.in-Ok.ensures.comes ends (record { cause = broken.cause; front = broken.front })

@@ -24,7 +24,7 @@ invariant_of-result g c =
     let least : 2 ≤ c.cells.result = omega (arith, c.cells.ensures.cells, c.cells.ensures.least) in
     let some : 1 ≤ c.steps.result = omega (arith, c.steps.ensures.steps, c.steps.ensures.least) in
     record {
-      can_go = can-go l.judged.machine l.images c.cells.result c.steps.result r.steps least c.in-Ok.ensures.each few c.in-Ok.ensures.room some r.few;
+      can_go = can-go l.judged.machine l.images c.cells.result c.steps.result r.steps.count least c.in-Ok.ensures.each few c.in-Ok.ensures.room some r.steps.few;
       filled = All-weaker (Fills w c.cells.result) (λ (image : List ℕ). length image ≡ c.cells.result) (λ image h. h.whole) l.images c.in-Ok.ensures.each;
     }
 
@@ -50,4 +50,4 @@ returns-in-Ok-clause-comes g c =
     let came = subst (λ n. GuestsDue Plain (of r.images n) told (Came l)) c.cells.ensures.cells
     (subst (λ xs. GuestsDue Plain (of xs c.cells.result) told (Came l)) c.as_slice.ensures.names c.in-Ok.ensures.comes) in
     let run : ℕ → ℕ → ℕ → JudgedRun = λ grant slice steps. record { desc = l.desc; images = l.images; slice = slice; steps = steps; grant = grant; report = l.report } in
-    (l, came, ap (λ n. run n c.steps.result r.steps) c.cells.ensures.cells ∙ ap (λ n. run r.grant n r.steps) c.steps.ensures.steps)
+    (l, came, ap (λ n. run n c.steps.result r.steps.count) c.cells.ensures.cells ∙ ap (λ n. run r.grant n r.steps.count) c.steps.ensures.steps)
