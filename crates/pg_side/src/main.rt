@@ -1,41 +1,30 @@
-//! The programs beside `pgv`, in one: each is a module, and is meant by its name.
+//! The programs beside `pgv`, in one: each is meant by its name.
 //!
-//!     pg_explain, pg_trace, pg_dimacs, pg_solve, pg_import, pg_export WORDS..
+//!     pg_explain, pg_trace, pg_go, pg_dimacs, pg_solve, pg_import, pg_export WORDS..
 //!     pg_side NAME WORDS..
 //!
-//! The name that is called says which one is meant, where its last part, behind every `/`, is one of the six; else the first word
-//! does. Where neither does, a line on standard error names the six, and the status is 3. `--help` and `--version` as the first
+//! The name that is called says which one is meant, where its last part, behind every `/`, is one of the seven; else the first
+//! word does. Where neither does, a line on standard error names the seven, and the status is 3. `--help` and `--version` as the first
 //! word behind the name are answered on standard output.
 //!
-//! - `side`: the programs and their names. `words`: which program the words of the command line mean. `forms`: how each takes its
-//!   words, and what is wrong with words that are not taken.
-//! - `explain`: why a machine is refused. `trace`: what each step of a run does. `dimacs`: the clauses of a question. `solve`: the
-//!   solver on clauses. `import`, `export`: findings of other solvers, logs for other checkers.
-//! - `files`: files to machines and certificates, and what is put and saved. `stop`: why a program goes no further.
+//! Here it is found which program is meant (`words`), and that one is called. How they take their words is in `pg_cli_forms`, why a
+//! machine is refused in `pg_cmd_explain`, what each step of a run does in `pg_cmd_trace`, runs that end in `pg_cmd_going`, findings of other solvers in
+//! `pg_cmd_import`, the clauses of a question and logs for other checkers in `pg_cmd_proofs`, and the solver on clauses in
+//! `pg_cmd_solve`.
 //!
-//! A program beside these is a variant of `Side` and a module. Nothing that `pgv` does stands on any of them.
+//! A program beside these is a variant of `Side` and a `run` of its own. Nothing that `pgv` does stands on any of them.
 #![tactic(auto)]
 
-mod dimacs;
-mod explain;
-mod export;
-mod files;
-mod forms;
-mod import;
-mod side;
-mod solve;
-mod stop;
-mod trace;
 mod words;
 
-use crate::forms::{complaint, named_by};
-use crate::side::{Call, Side};
 use crate::words::{Asked, asks_for, called, own};
+use pg_cli_forms::{Call, Side, complaint, named_by};
 use pg_cli_says::{
     Beside, Ended, Holding, LastRead, Lines, Reading, Seen, Ticker, Watching, WordsWatcher,
     say_no_text, say_why, words,
 };
 use pg_cli_version::VERSION;
+use pg_cmd_proofs::{dimacs, export};
 use pg_edge::{Failed, Shelf, Sink};
 use pg_host::streams::write_whole;
 use pg_host::{DirShelf, Progress, StdSink};
@@ -52,7 +41,7 @@ fn main(rt: HostRuntime) -> ExitCode {
         Some(call) => ExitCode::from(run(&rt, call)),
         None => {
             let _ = eprintln!(rt;
-                "usage: pg_side pg_explain|pg_trace|pg_dimacs|pg_solve|pg_import|pg_export WORDS.."
+                "usage: pg_side pg_explain|pg_trace|pg_go|pg_dimacs|pg_solve|pg_import|pg_export WORDS.."
             );
             ExitCode::from(3)
         }
@@ -70,8 +59,13 @@ fn run(rt: &HostRuntime, call: Call) -> u8 {
 /// The status of a program for whose words there is no memory.
 fn starved(rt: &HostRuntime, side: Side) -> u8 {
     match side {
-        Side::Solve => solve::starved(rt),
-        Side::Explain | Side::Trace | Side::Dimacs | Side::Import | Side::Export => {
+        Side::Solve => pg_cmd_solve::starved(rt),
+        Side::Explain
+        | Side::Trace
+        | Side::Go
+        | Side::Dimacs
+        | Side::Import
+        | Side::Export => {
             say_why(&mut rt.stderr(), side.program(), Status::Memory, None, None);
             Status::Memory.code()
         }
@@ -107,11 +101,12 @@ fn answer(rt: &HostRuntime, side: Side, words: &[String]) -> u8 {
 /// How a program is called.
 fn usage(side: Side) -> &'static [u8] {
     match side {
-        Side::Explain => explain::USAGE,
-        Side::Trace => trace::USAGE,
+        Side::Explain => pg_cmd_explain::USAGE,
+        Side::Trace => pg_cmd_trace::USAGE,
+        Side::Go => pg_cmd_going::USAGE,
         Side::Dimacs => dimacs::USAGE,
-        Side::Solve => solve::USAGE,
-        Side::Import => import::USAGE,
+        Side::Solve => pg_cmd_solve::USAGE,
+        Side::Import => pg_cmd_import::USAGE,
         Side::Export => export::USAGE,
     }
 }
@@ -135,9 +130,9 @@ fn run_on(rt: &HostRuntime, side: Side, words: &[String]) -> u8 {
 /// reads. None of any other.
 fn unwatched(rt: &HostRuntime, side: Side, words: &[String]) -> Option<u8> {
     match side {
-        Side::Solve => Some(solve::run(rt, words)),
-        Side::Explain => explain::refused(rt, words),
-        Side::Trace | Side::Dimacs | Side::Import | Side::Export => None,
+        Side::Solve => Some(pg_cmd_solve::run(rt, words)),
+        Side::Explain => pg_cmd_explain::refused(rt, &mut rt.stderr(), words),
+        Side::Trace | Side::Go | Side::Dimacs | Side::Import | Side::Export => None,
     }
 }
 
@@ -194,17 +189,21 @@ fn carry<F: Shelf, S: Sink, W: StopWatcher + WordsWatcher>(
     match side {
         Side::Explain => {
             let mut layout = None;
-            let status = explain::run(alloc, words, shelf, out, &mut layout, watcher);
-            explain::say_layout(rt, layout);
+            let status = pg_cmd_explain::run(alloc, words, shelf, out, &mut layout, watcher);
+            pg_cmd_explain::say_layout(&mut rt.stderr(), layout);
             status
         }
         Side::Trace => {
             let mut hw = Rig::new(alloc);
-            trace::run(alloc, words, shelf, out, &mut hw, watcher)
+            pg_cmd_trace::run(alloc, words, shelf, out, &mut hw, watcher)
+        }
+        Side::Go => {
+            let mut hw = Rig::new(alloc);
+            pg_cmd_going::run(alloc, words, shelf, out, &mut hw, watcher)
         }
         Side::Dimacs => dimacs::run(alloc, words, shelf, out, watcher),
-        Side::Solve => solve::run(rt, words),
-        Side::Import => import::run(alloc, words, shelf, out, watcher),
+        Side::Solve => pg_cmd_solve::run(rt, words),
+        Side::Import => pg_cmd_import::run(alloc, words, shelf, out, watcher),
         Side::Export => export::run(alloc, words, shelf, out, watcher),
     }
 }

@@ -1,0 +1,2 @@
+pub mod MendedLemmas
+pub mod ExplainLemmas

@@ -1,0 +1,106 @@
+//! What there is to tell, found in files; and the mended description, saved before any of it is told.
+
+ghost use Rattle.std.specs.Prelude.{◌≡◌, ◌≤◌, IfOk, IfErr, IfSome, None};
+ghost use Rattle.pg_judged.specs.Views.{judged};
+ghost use Rattle.pg_reasons.specs.Mending.{IsMendedBy};
+ghost use Rattle.pg_steps.specs.Steps.{Came};
+ghost use Rattle.pg_cmd_explain.specs.Explaining.{ExplainDue, HaltsAt, LacksNamed, MendsOnly, explain_words};
+
+use crate::load::{Loaded, load};
+use crate::mend::{MendFault, mend};
+use crate::request::Request;
+use pg_edge::Shelf;
+use pg_judged::JudgedMachine;
+use pg_out_mended::Layout;
+use pg_reasons::{Part, Reasons, Wish, tell_reasons};
+use pg_steps::Stop;
+use std::alloc::{AllocError, Global};
+
+/// What there is to tell.
+#[derive(Drop)]
+pub struct Found {
+    /// The machine, and what is kept of its certificate.
+    pub judged: JudgedMachine,
+    /// What is told of them.
+    pub told: Reasons,
+}
+
+/// Why nothing is told.
+#[derive(Drop)]
+pub enum Halt {
+    /// A file is not there, is not read or is refused, or memory was.
+    Stopped(Stop),
+    /// The description has no instruction of the name.
+    Lacking,
+    /// The mended description could not be saved.
+    Unsaved,
+}
+
+/// What is told of the machine that is asked for; the mended description is saved where that is asked for, and `layout` becomes its
+/// layout.
+pub fn find<F: Shelf>(
+    alloc: Global,
+    request: &Request<'_>,
+    shelf: &mut F,
+    layout: &mut Option<Layout>,
+) -> Result<Found, Halt>
+    ensures due { IfOk result (λ f. ExplainDue (explain_words request.now) (F.files shelf.old) (Came (judged f.judged))) }
+    ensures mends { IfOk result (λ f. MendsOnly (explain_words request.now).mend (judged f.judged) (F.files shelf.old) (F.files shelf.new)) }
+    ensures halts { IfErr result (HaltsAt (explain_words request.now) (F.files shelf.old) (F.files shelf.new)
+        (F.reads shelf.old) (F.reads shelf.new) (F.saves shelf.old) (F.saves shelf.new)) }
+    ensures reads { F.reads shelf.old ≤ F.reads shelf.new }
+    ensures saves { F.saves shelf.old ≤ F.saves shelf.new }
+{
+    let loaded = match load(alloc, shelf, request) {
+        Ok(loaded) => loaded,
+        Err(stop) => return Err(Halt::Stopped(stop)),
+    };
+    let part = match part_of(&loaded.judged, request) {
+        Some(part) => part,
+        None => return Err(Halt::Lacking),
+    };
+    let told = match reasons(alloc, request, &loaded.judged, part) {
+        Ok(told) => told,
+        Err(_) => return Err(Halt::Stopped(Stop::Memory)),
+    };
+    match mend(alloc, shelf, request, &loaded, &told) {
+        Ok(saved) => *layout = saved,
+        Err(MendFault::Memory) => return Err(Halt::Stopped(Stop::Memory)),
+        Err(MendFault::Unsaved) => return Err(Halt::Unsaved),
+    }
+    Ok(Found {
+        judged: loaded.judged,
+        told,
+    })
+}
+
+/// What is told of a machine and what is kept of its certificate. The error is want of memory.
+fn reasons(
+    alloc: Global,
+    request: &Request<'_>,
+    judged: &JudgedMachine,
+    part: Part,
+) -> Result<Reasons, AllocError>
+    ensures { IfOk result (λ told. IfSome told.mended (λ g. IsMendedBy judged.now.machine.desc judged.now.report g.machine.desc)) }
+{
+    let wish = Wish {
+        part,
+        is_readable: request.options.is_readable,
+    };
+    let budget = request.options.budget();
+    tell_reasons(alloc, &judged.machine, &judged.report, wish, budget)
+}
+
+/// What of the report the words ask for. None where the description has no such instruction.
+fn part_of(judged: &JudgedMachine, request: &Request<'_>) -> Option<Part>
+    ensures { result ≡ None → LacksNamed (explain_words request.now) judged.now.machine.desc }
+{
+    let Some(name) = request.instr else {
+        return Some(Part::All);
+    };
+    let instr = judged.machine.find(name)?;
+    match request.kind {
+        None => Some(Part::Instr(instr)),
+        Some(kind) => Some(Part::Kind(instr, kind)),
+    }
+}

@@ -1,0 +1,71 @@
+//! Writes the clauses of a question about an instruction, for people with a solver of their own.
+//!
+//!     pg_dimacs DESC INSTR KIND
+//!
+//! KIND is `privileged`, `control`, `mode`, `location`, `bound`, `ucontrol`, `ulocation` or `ubound`. What is written is a
+//! formula in the format DIMACS CNF, which can be true exactly where two states show the kind of the instruction (`pg_formula`).
+//! Refusals have the lines and statuses of `pgv`, and where the clauses are written the status is 0. The words are read in `request`.
+
+ghost use Rattle.std.specs.Prelude.{◌≡◌, ◌<◌, length, slice_get, Some, IfOk};
+ghost use Rattle.pg_ast.specs.declared.tree.Instr.{Instr as Instrs};
+ghost use Rattle.pg_ask.specs.Question.{question};
+ghost use Rattle.pg_formula.specs.Dimacs.{IsQuestionText};
+
+mod request;
+
+use crate::dimacs::request::{Request, asked_by};
+use pg_ask::ask;
+use pg_cli_says::{Lacking, WordsWatcher};
+use pg_cmd_told::files::{file_name, find, machine, put};
+use pg_cmd_told::{Stop, ended};
+use pg_edge::{Shelf, Sink};
+use pg_formula::text_of;
+use pg_machine::Machine;
+use pg_steps::StopWatcher;
+use std::alloc::{AllocError, Global};
+
+/// How the program is called.
+pub const USAGE: &[u8] = b"usage: pg_dimacs DESC INSTR KIND\n";
+
+/// Puts the clauses of the question that the words ask for, the program's name first, and gives the status 0; else puts a line, and
+/// gives another status.
+pub fn run<F: Shelf, S: Sink, W: StopWatcher + WordsWatcher>(
+    alloc: Global,
+    words: &[String],
+    shelf: &mut F,
+    out: &mut S,
+    watcher: &mut W,
+) -> u8 {
+    let shown = show(alloc, words, shelf, out);
+    ended(alloc, USAGE, shown, out, watcher)
+}
+
+/// Puts the clauses of the question that the words ask for. The answer is the status.
+fn show<F: Shelf, S: Sink>(
+    alloc: Global,
+    words: &[String],
+    shelf: &mut F,
+    out: &mut S,
+) -> Result<u8, Stop> {
+    let request = asked_by(words).ok_or(Stop::Words)?;
+    let name = file_name(alloc, request.names.file)?;
+    let machine = machine(alloc, shelf, &name)?;
+    let instr = find(&machine, request.names.instr).ok_or(Stop::Lacking(Lacking::Instr))?;
+    let text = written(alloc, &machine, instr, &request)?;
+    put(out, text.as_slice())?;
+    Ok(0)
+}
+
+/// The question of an instruction as text: lines of comment, and its clauses. The error is want of memory.
+fn written(
+    alloc: Global,
+    machine: &Machine,
+    instr: usize,
+    request: &Request<'_>,
+) -> Result<Vec<u8>, AllocError>
+    requires { instr < length machine.now.desc.instrs }
+    ensures { IfOk result (λ text. (i : Instrs) → slice_get machine.now.desc.instrs instr ≡ Some i → IsQuestionText (question machine.now.desc i request.now.kind) text.items) }
+{
+    let asked = ask(alloc, machine, instr, request.kind)?;
+    text_of(alloc, &request.names, &asked)
+}

@@ -1,0 +1,71 @@
+//! The texts of a finding that is refuted.
+
+ghost use Rattle.std.specs.Prelude.{◌≡◌, ◌<◌, length, slice_get, Some, IfOk};
+ghost use Rattle.pg_ast.specs.declared.tree.Instr.{Instr as Instrs};
+ghost use Rattle.pg_ask.specs.Question.{question};
+ghost use Rattle.pg_cert.specs.declared.cert.Finding.TheVariants.{Refuted};
+ghost use Rattle.pg_cert.specs.Texts.{instr_of, kind_of};
+ghost use Rattle.pg_imported.specs.Imported.{IsOfText};
+ghost use Rattle.pg_cmd_proofs.specs.Exported.{AreTexts};
+
+use pg_ask::ask;
+use pg_cert::{Cert, Finding, instr_of, kind_of};
+use pg_cmd_told::Stop;
+use pg_formula::{Names, lrat_of, text_of};
+use pg_machine::Machine;
+use pg_proof::ActList;
+use std::alloc::{AllocError, Global};
+
+/// The texts of a finding.
+#[derive(Drop)]
+pub struct Texts {
+    /// Its log, LRAT.
+    pub log: Vec<u8>,
+    /// The clauses of its question, DIMACS.
+    pub clauses: Vec<u8>,
+}
+
+/// The texts of the finding at a place of a certificate that was made anew, where it is refuted. `Shown` and `Open` come where it
+/// is not, and `Memory`.
+pub fn texts_at(
+    alloc: Global,
+    machine: &Machine,
+    cert: &Cert,
+    place: usize,
+    names: &Names<'_>,
+) -> Result<Texts, Stop>
+    requires made { IsOfText machine.now.desc cert.now }
+    requires there { place < length cert.now.findings }
+    ensures { IfOk result (λ t. (i : Instrs) → slice_get machine.now.desc.instrs (instr_of cert.now.family place) ≡ Some i → AreTexts (question machine.now.desc i (kind_of cert.now.family place)) t.log.items t.clauses.items) }
+{
+    match &cert.findings.as_slice()[place] {
+        Finding::Refuted(acts) => texts_of(alloc, machine, cert, place, acts, names),
+        Finding::Shown(..) => Err(Stop::Shown),
+        Finding::Spent(..) => Err(Stop::Open),
+    }
+}
+
+/// The same of the log that stands at a place.
+fn texts_of(
+    alloc: Global,
+    machine: &Machine,
+    cert: &Cert,
+    place: usize,
+    acts: &ActList,
+    names: &Names<'_>,
+) -> Result<Texts, Stop>
+    requires made { IsOfText machine.now.desc cert.now }
+    requires at { slice_get cert.now.findings place ≡ Some (Refuted acts.now) }
+    ensures { IfOk result (λ t. (i : Instrs) → slice_get machine.now.desc.instrs (instr_of cert.now.family place) ≡ Some i → AreTexts (question machine.now.desc i (kind_of cert.now.family place)) t.log.items t.clauses.items) }
+{
+    let instr = instr_of(cert.family, place);
+    let kind = kind_of(cert.family, place);
+    let asked = ask(alloc, machine, instr, kind)?;
+    // no log that was read is so long: it has a byte for each act
+    if acts.len() >= 1 << 32 {
+        return Err(Stop::Memory);
+    }
+    let log = lrat_of(alloc, asked.cnf(), acts)?;
+    let clauses = text_of(alloc, names, &asked)?;
+    Ok(Texts { log, clauses })
+}

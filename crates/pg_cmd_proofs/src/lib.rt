@@ -1,0 +1,7 @@
+//! Questions and logs as other solvers and checkers have them, for programs beside `pgv`, each a module.
+//!
+//! `dimacs`: the clauses of a question. `export`: the log of a finding that is refuted.
+#![tactic(auto)]
+
+pub mod dimacs;
+pub mod export;

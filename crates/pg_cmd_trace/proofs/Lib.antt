@@ -1,0 +1,4 @@
+pub mod Undone
+pub mod RunTexts
+pub mod RunLemmas
+pub mod TracingLemmas

@@ -1,0 +1,4 @@
+pub mod Plans
+pub mod Judging
+pub mod Done
+pub mod Tracing

@@ -1,0 +1,169 @@
+//! What the words of the command line ask for.
+
+ghost use Rattle.std.specs.Prelude.{◌≤◌, length, IfSome};
+
+use pg_asked::{BareWords, FileName, Grant, Steps};
+use pg_cmd_told::files::file_name;
+use pg_traced::Shows;
+use std::alloc::{AllocError, Global};
+
+/// A run that is to be shown.
+#[derive(Drop)]
+pub struct TraceWords {
+    /// The run, as `pgv bare` is asked for it.
+    pub bare: BareWords,
+    /// Which steps have a line.
+    pub shows: Shows,
+    /// The name of the file with the certificate of the machine, where the words name one.
+    pub cert: Option<FileName>,
+    /// Whether the run is asked for as JSON.
+    pub is_json: bool,
+}
+
+/// What words have said so far.
+#[derive(Drop)]
+struct Draft<'a> {
+    desc: Option<&'a str>,
+    image: Option<&'a str>,
+    grant: Option<Grant>,
+    steps: Option<Steps>,
+    cert: Option<&'a str>,
+    only_traps: bool,
+    counts: bool,
+    is_json: bool,
+}
+
+/// What the words ask for, the program's name first; none where they are others. The error is want of memory.
+pub fn asked_by(alloc: Global, words: &[String]) -> Result<Option<TraceWords>, AllocError> {
+    match draft_of(words) {
+        Some(draft) => whole(alloc, draft),
+        None => Ok(None),
+    }
+}
+
+/// What a draft asks for, where nothing is left out. JSON is of all steps.
+fn whole(alloc: Global, draft: Draft<'_>) -> Result<Option<TraceWords>, AllocError> {
+    if draft.is_json && (draft.counts || draft.only_traps) {
+        return Ok(None);
+    }
+    let shows = match (draft.counts, draft.only_traps) {
+        (true, _) => Shows::Counts,
+        (false, true) => Shows::Traps,
+        (false, false) => Shows::Steps,
+    };
+    match (draft.desc, draft.image, draft.grant, draft.steps) {
+        (Some(desc), Some(image), Some(grant), Some(steps)) => Ok(Some(TraceWords {
+            bare: BareWords {
+                desc: file_name(alloc, desc)?,
+                image: file_name(alloc, image)?,
+                grant,
+                steps,
+            },
+            shows,
+            cert: match draft.cert {
+                Some(cert) => Some(file_name(alloc, cert)?),
+                None => None,
+            },
+            is_json: draft.is_json,
+        })),
+        _ => Ok(None),
+    }
+}
+
+/// What the words say, each thing once.
+fn draft_of(words: &[String]) -> Option<Draft<'_>> {
+    let [_, words @ ..] = words else {
+        return None;
+    };
+    let mut draft = Draft {
+        desc: None,
+        image: None,
+        grant: None,
+        steps: None,
+        cert: None,
+        only_traps: false,
+        counts: false,
+        is_json: false,
+    };
+    let mut left = words;
+    while let [word, behind @ ..] = left {
+        left = draft.take(word.as_str(), behind)?;
+    }
+    Some(draft)
+}
+
+impl<'a> Draft<'a> {
+    /// Takes a word, and where it wants one the word behind it; what is left. None where it is not taken.
+    fn take(&mut self, word: &'a str, behind: &'a [String]) -> Option<&'a [String]>
+        ensures { IfSome result (λ left. length left.now ≤ length behind.now) }
+    {
+        match word {
+            "--grant" if self.grant.is_none() => {
+                let [number, behind @ ..] = behind else {
+                    return None;
+                };
+                self.grant = Some(grant_of(number.as_str())?);
+                Some(behind)
+            }
+            "--steps" if self.steps.is_none() => {
+                let [number, behind @ ..] = behind else {
+                    return None;
+                };
+                self.steps = Some(steps_of(number.as_str())?);
+                Some(behind)
+            }
+            "--cert" if self.cert.is_none() => {
+                let [name, behind @ ..] = behind else {
+                    return None;
+                };
+                self.cert = Some(name.as_str());
+                Some(behind)
+            }
+            "--only-traps" if !self.only_traps => {
+                self.only_traps = true;
+                Some(behind)
+            }
+            "--counts" if !self.counts => {
+                self.counts = true;
+                Some(behind)
+            }
+            "--json" if !self.is_json => {
+                self.is_json = true;
+                Some(behind)
+            }
+            _ => {
+                self.take_file(word)?;
+                Some(behind)
+            }
+        }
+    }
+
+    /// Takes the name of a file: the description's first. None where it begins as an option does, or is one too many.
+    fn take_file(&mut self, name: &'a str) -> Option<()> {
+        if name.starts_with('-') {
+            return None;
+        }
+        match (self.desc, self.image) {
+            (None, _) => self.desc = Some(name),
+            (Some(_), None) => self.image = Some(name),
+            (Some(_), Some(_)) => return None,
+        }
+        Some(())
+    }
+}
+
+/// The grant of a number, 2 to 1,048,575.
+fn grant_of(word: &str) -> Option<Grant> {
+    match word.parse::<u32>() {
+        Ok(cells) if (2..=1_048_575).contains(&cells) => Some(Grant::new(cells)),
+        _ => None,
+    }
+}
+
+/// So many steps, 0 to 1,000,000.
+fn steps_of(word: &str) -> Option<Steps> {
+    match word.parse::<u64>() {
+        Ok(count) if count <= 1_000_000 => Some(Steps::new(count)),
+        _ => None,
+    }
+}
