@@ -50,7 +50,15 @@ pub fn carry_go<F: Shelf, S: Sink, H: Settling, W: StopWatcher>(
         Err(_) => return Status::Memory,
     };
     let machine = &plan.judged.machine;
-    match put_rested(out, machine, ran.guests(), ran.rests(), ran.turns(), ran.direct(), hw) {
+    match put_rested(
+        out,
+        machine,
+        ran.guests(),
+        ran.rests(),
+        ran.turns(),
+        ran.direct(),
+        hw,
+    ) {
         Ok(()) => Status::Done,
         Err(_) => Status::WriteFault,
     }

@@ -31,14 +31,13 @@ mod plan;
 mod preparing;
 mod request;
 
+pub use carry::carry_go;
 use pg_edge::{Shelf, Sink};
 use pg_hw::Settling;
 use pg_report::put_text;
 use pg_steps::{Status, StopWatcher};
-use std::alloc::Global;
-
-pub use carry::carry_go;
 pub use request::{GoWords, MOST_STEPS, StepsAtMost, asked_by};
+use std::alloc::Global;
 
 /// How the program is called.
 pub const USAGE: &[u8] = b"usage: pg_go DESC CERT IMAGE.. --grant G [--steps N] [--slice K]\n";

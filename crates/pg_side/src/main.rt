@@ -60,12 +60,7 @@ fn run(rt: &HostRuntime, call: Call) -> u8 {
 fn starved(rt: &HostRuntime, side: Side) -> u8 {
     match side {
         Side::Solve => pg_cmd_solve::starved(rt),
-        Side::Explain
-        | Side::Trace
-        | Side::Go
-        | Side::Dimacs
-        | Side::Import
-        | Side::Export => {
+        Side::Explain | Side::Trace | Side::Go | Side::Dimacs | Side::Import | Side::Export => {
             say_why(&mut rt.stderr(), side.program(), Status::Memory, None, None);
             Status::Memory.code()
         }

@@ -156,7 +156,7 @@ pub returns-in-Done-clause-moves : goal.returns-in-Done-clause-moves
 returns-in-Done-clause-moves g c is same =
     let effect : Effect = record { writes = c.step_in-ended.new.frame.writes; psw = c.step_in-ended.new.frame.next } in
     let done : IsDone c.args.m.now.desc (g.H.Hardware.machinery c.args.hw.now).state.cells c.args.base c.args.size c.args.psw.now c.span_of-span.result.from c.span_of-span.result.len
-        (outcome_in c.step_in-ended.new.frame c.step_in-ended.result) effect c.as_slice-writes.result.now = record {
+    (outcome_in c.step_in-ended.new.frame c.step_in-ended.result) effect c.as_slice-writes.result.now = record {
       within = c.requires.within;
       from_is = c.span_of-span.ensures.from;
       len_is = c.span_of-span.ensures.len;

@@ -22,7 +22,7 @@ pub returns-in-None-clause-begun : goal.returns-in-None-clause-begun
 returns-in-None-clause-begun g c =
     let d = c.args.monitor.now.accepted.machine.now.desc in
     subst (λ f. Begun d (round_behind c.args.done c.args.turns c.args.k (f ∷ [])) (g.H.Hardware.machinery c.args.hw.now) (g.H.Hardware.machinery c.settle-told.new.hw)
-        c.args.monitor.now.guests c.settle-told.new.self.guests c.args.monitor.now.current c.settle-told.new.self.current) (sym c.behind.ensures)
+    c.args.monitor.now.guests c.settle-told.new.self.guests c.args.monitor.now.current c.settle-told.new.self.current) (sym c.behind.ensures)
     (Begun-slice d c.args.done c.args.k c.args.turns c.settle-told.result _ _ _ _ _ _ c.args.monitor.now.accepted.machine.now.valid c.requires.stands c.settle-told.ensures.turned)
 
 pub returns-in-None-clause-rest : goal.returns-in-None-clause-rest

@@ -8,4 +8,3 @@ Found rest = rest.still ≡ None → ⊥
 
 pub loop-rest-init : goal.loop-rest-init
 loop-rest-init c = record { none = All-nil Found }
-
