@@ -48,12 +48,19 @@ fn show<F: Shelf, S: Sink>(
     out: &mut S,
 ) -> Result<u8, Stop> {
     let request = asked_by(words).ok_or(Stop::Words)?;
-    let name = file_name(alloc, request.names.file)?;
-    let machine = machine(alloc, shelf, &name)?;
-    let instr = find(&machine, request.names.instr).ok_or(Stop::Lacking(Lacking::Instr))?;
-    let text = written(alloc, &machine, instr, &request)?;
+    let text = load(alloc, shelf, &request)?;
     put(out, text.as_slice())?;
     Ok(0)
+}
+
+/// The question that the words ask for, as text.
+fn load<F: Shelf>(alloc: Global, shelf: &mut F, request: &Request<'_>) -> Result<Vec<u8>, Stop> {
+    let name = file_name(alloc, request.names.file)?;
+    let machine = machine(alloc, shelf, &name)?;
+    match find(&machine, request.names.instr) {
+        Some(instr) => Ok(written(alloc, &machine, instr, request)?),
+        None => Err(Stop::Lacking(Lacking::Instr)),
+    }
 }
 
 /// The question of an instruction as text: lines of comment, and its clauses. The error is want of memory.

@@ -13,14 +13,21 @@ pub fn is_taken(
 ) -> Result<bool, AllocError> {
     let mut checker = Checker::new(alloc, cnf)?;
     for step in steps {
-        if checker.numbered() >= u32::MAX as usize - 1 {
+        if !takes(&mut checker, step)? {
             return Ok(false);
-        }
-        match checker.add(step) {
-            Ok(_) => {}
-            Err(ProofFault::Memory) => return Err(AllocError),
-            Err(_) => return Ok(false),
         }
     }
     Ok(checker.closed() == closed)
+}
+
+/// Whether a checker takes a step. The error is want of memory.
+fn takes(checker: &mut Checker, step: &Step) -> Result<bool, AllocError> {
+    if checker.numbered() >= u32::MAX as usize - 1 {
+        return Ok(false);
+    }
+    match checker.add(step) {
+        Ok(_) => Ok(true),
+        Err(ProofFault::Memory) => Err(AllocError),
+        Err(_) => Ok(false),
+    }
 }
