@@ -56,9 +56,16 @@ fn show<F: Shelf, S: Sink>(
 /// The question that the words ask for, as text.
 fn load<F: Shelf>(alloc: Global, shelf: &mut F, request: &Request<'_>) -> Result<Vec<u8>, Stop> {
     let name = file_name(alloc, request.names.file)?;
-    let machine = machine(alloc, shelf, &name)?;
-    match find(&machine, request.names.instr) {
-        Some(instr) => Ok(written(alloc, &machine, instr, request)?),
+    match machine(alloc, shelf, &name) {
+        Ok(machine) => written_of(alloc, &machine, request),
+        Err(stop) => Err(stop),
+    }
+}
+
+/// The same of a machine.
+fn written_of(alloc: Global, machine: &Machine, request: &Request<'_>) -> Result<Vec<u8>, Stop> {
+    match find(machine, request.names.instr) {
+        Some(instr) => Ok(written(alloc, machine, instr, request)?),
         None => Err(Stop::Lacking(Lacking::Instr)),
     }
 }

@@ -16,6 +16,7 @@ mod request;
 
 use crate::export::making::{Texts, texts_at};
 use crate::export::request::{Request, asked_by};
+use pg_asked::FileName;
 use pg_cert::Cert;
 use pg_cli_says::{Lacking, WordsWatcher};
 use pg_cmd_told::files::{certificate, file_name, machine, put, save};
@@ -61,9 +62,22 @@ fn export<F: Shelf, S: Sink>(
 fn load<F: Shelf>(alloc: Global, shelf: &mut F, request: &Request<'_>) -> Result<Texts, Stop> {
     let desc = file_name(alloc, request.names.file)?;
     let cert = file_name(alloc, request.cert)?;
-    let machine = machine(alloc, shelf, &desc)?;
-    match certificate(alloc, shelf, &machine, &cert) {
-        Ok(migrated) => texts_asked(alloc, &machine, &migrated.cert, request),
+    match machine(alloc, shelf, &desc) {
+        Ok(machine) => load_beside(alloc, shelf, request, &machine, &cert),
+        Err(stop) => Err(stop),
+    }
+}
+
+/// The same of a machine, with the certificate of a file.
+fn load_beside<F: Shelf>(
+    alloc: Global,
+    shelf: &mut F,
+    request: &Request<'_>,
+    machine: &Machine,
+    cert: &FileName,
+) -> Result<Texts, Stop> {
+    match certificate(alloc, shelf, machine, cert) {
+        Ok(migrated) => texts_asked(alloc, machine, &migrated.cert, request),
         Err(stop) => Err(stop),
     }
 }

@@ -12,22 +12,20 @@ pub fn is_taken(
     closed: bool,
 ) -> Result<bool, AllocError> {
     let mut checker = Checker::new(alloc, cnf)?;
+    takes(&mut checker, steps, closed)
+}
+
+/// The same of a checker that has taken none yet.
+fn takes(checker: &mut Checker, steps: &[Step], closed: bool) -> Result<bool, AllocError> {
     for step in steps {
-        if !takes(&mut checker, step)? {
+        if checker.numbered() >= u32::MAX as usize - 1 {
             return Ok(false);
+        }
+        match checker.add(step) {
+            Ok(_) => {}
+            Err(ProofFault::Memory) => return Err(AllocError),
+            Err(_) => return Ok(false),
         }
     }
     Ok(checker.closed() == closed)
-}
-
-/// Whether a checker takes a step. The error is want of memory.
-fn takes(checker: &mut Checker, step: &Step) -> Result<bool, AllocError> {
-    if checker.numbered() >= u32::MAX as usize - 1 {
-        return Ok(false);
-    }
-    match checker.add(step) {
-        Ok(_) => Ok(true),
-        Err(ProofFault::Memory) => Err(AllocError),
-        Err(_) => Ok(false),
-    }
 }
