@@ -1,7 +1,6 @@
 -- What `pg_explain` leaves, by what its parts answer.
 use Rattle.std.proofs.Common.{◌≡◌, ℕ, ◌≤◌, ◌<◌, List, [], ◌∷◌, length, cond, Option, None, Some, Result, Ok, Err, inl, inr, refl, sym, ◌∙◌, ap, subst, arith}
 use Rattle.std.specs.Prelude.{IsSomeAnd}
-use Rattle.std.specs.Str.{bytes_eq}
 use Rattle.std.proofs.lemmas.Slice.Eq.{bytes_eq-Decides}
 use Rattle.pg_ast.specs.declared.tree.Desc.{Desc}
 use Rattle.pg_cert.specs.declared.report.Report.{Report}
@@ -16,12 +15,10 @@ use Rattle.pg_judged.specs.Meaning.{VerdictMeans}
 use Rattle.pg_judged.proofs.JudgedLemmas.{certificate-read, desc-valid}
 use Rattle.pg_read.specs.Answer.{most_desc_bytes}
 use Rattle.pg_report.specs.declared.line.DescriptionLine.{DescriptionLine}
-use Rattle.pg_report.specs.declared.line.RefusalLine.TheVariants.{Description}
 use Rattle.pg_steps.specs.Answering.{Comes}
 use Rattle.pg_steps.specs.Classes.{Class, Ended, Unwritten, Unread, OutOfMemory, class_of}
 use Rattle.pg_steps.specs.Commands.{Carries, CarriesAs}
 use Rattle.pg_steps.specs.FileSteps.{FileFault, Absent, Faulty, HoldsWithin, FromFile}
-use Rattle.pg_steps.specs.Refusals.{of_file}
 use Rattle.pg_steps.specs.Steps.{Came, Refused, Then, Gives}
 use Rattle.pg_steps.specs.World.{World, Output, IsUntouched, SavesOnly}
 use Rattle.pg_steps.specs.declared.refusal.Refusal.{Refusal}

@@ -8,7 +8,6 @@ use Rattle.pg_type.specs.declared.kind.Kind.{Kind}
 use Rattle.pg_proof.specs.declared.step.Act.{Act}
 use Rattle.pg_proof.specs.Log.{IsClosedLog}
 use Rattle.pg_ask.specs.Question.{question}
-use Rattle.pg_cert.specs.declared.cert.Finding.{Finding}
 use Rattle.pg_cert.specs.declared.cert.Finding.TheVariants.{Refuted}
 use Rattle.pg_cert.specs.declared.cert.Cert.{Cert}
 use Rattle.pg_cert.specs.declared.line.Heading.{Heading}
