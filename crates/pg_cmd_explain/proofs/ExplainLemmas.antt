@@ -1,7 +1,6 @@
 -- What `pg_explain` leaves, by what its parts answer.
 use Rattle.std.proofs.Common.{◌≡◌, ℕ, ◌≤◌, ◌<◌, List, [], ◌∷◌, length, cond, Option, None, Some, Result, Ok, Err, inl, inr, refl, sym, ◌∙◌, ap, subst, arith}
 use Rattle.std.specs.Prelude.{IsSomeAnd}
-use Rattle.std.specs.Str.{bytes_eq}
 use Rattle.std.proofs.lemmas.Slice.Eq.{bytes_eq-Decides}
 use Rattle.pg_ast.specs.declared.tree.Desc.{Desc}
 use Rattle.pg_cert.specs.declared.report.Report.{Report}
@@ -14,26 +13,24 @@ use Rattle.pg_inputs.specs.Descriptions.{DescDue, TextDue}
 use Rattle.pg_judged.specs.Judged.{Judged, verdict_on, verdict_status}
 use Rattle.pg_judged.specs.Meaning.{VerdictMeans}
 use Rattle.pg_judged.proofs.JudgedLemmas.{certificate-read, desc-valid}
-use Rattle.pg_judged.proofs.TellingLemmas.{verdict-ended}
 use Rattle.pg_read.specs.Answer.{most_desc_bytes}
 use Rattle.pg_report.specs.declared.line.DescriptionLine.{DescriptionLine}
-use Rattle.pg_report.specs.declared.line.RefusalLine.TheVariants.{Description}
 use Rattle.pg_steps.specs.Answering.{Comes}
 use Rattle.pg_steps.specs.Classes.{Class, Ended, Unwritten, Unread, OutOfMemory, class_of}
 use Rattle.pg_steps.specs.Commands.{Carries, CarriesAs}
 use Rattle.pg_steps.specs.FileSteps.{FileFault, Absent, Faulty, HoldsWithin, FromFile}
-use Rattle.pg_steps.specs.Refusals.{of_file}
 use Rattle.pg_steps.specs.Steps.{Came, Refused, Then, Gives}
 use Rattle.pg_steps.specs.World.{World, Output, IsUntouched, SavesOnly}
 use Rattle.pg_steps.specs.declared.refusal.Refusal.{Refusal}
 use Rattle.pg_steps.specs.declared.refusal.Stop.{Stop}
 use Rattle.pg_steps.specs.declared.status.Status.{Status}
 use Rattle.pg_steps.specs.declared.status.Status.TheVariants as status
-use Rattle.pg_steps.proofs.CarryLemmas.{carries-stopped, carries-ended, carries-broken, carries-unsaved}
+use Rattle.pg_steps.proofs.CarryLemmas.{carries-stopped, carries-unsaved}
 use Rattle.pg_steps.proofs.StepLemmas.{comes-stopped, comes-behind}
 use Rattle.pg_cmd_explain.specs.Explaining.{ExplainWords, EitherJudgedDue, ExplainDue, LacksNamed, MendsOnly, VerdictExplained, explain_command, HaltsAt, PutAs, HaltTold, stated_as}
 use Rattle.pg_cmd_explain.specs.Mended.{HoldsMended}
 use Rattle.pg_cmd_told.specs.Either.{EitherDue}
+use Rattle.pg_cmd_told.proofs.CertLemmas.{comes-later}
 use Rattle.pg_cmd_explain.specs.declared.found.Halt.{Halt}
 use Rattle.pg_cmd_explain.specs.declared.found.Halt.TheVariants as halt
 
@@ -128,16 +125,21 @@ pub put-as : (text : List ℕ) (due : Status) (old new : Output) (r : Result (Un
 put-as text due old new (Ok x) ended h = subst (λ (k : Class). PutAs text due old new due k) (sym ended) (refl, h.whole)
 put-as text due old new (Err e) ended h = record { cause = h.cause; front = h.front }
 
+explained-as : (w : ExplainWords) (old new : World) (j : Judged) (text : List ℕ) (given : Status) (k : Class) → ExplainDue w old.files (Came j) → MendsOnly w.mend j old.files new.files →
+    PutAs text (verdict_status (verdict_on j)) old.out new.out given k → CarriesAs (explain_command w) old new given k
+explained-as w old new j text given Ended due mends h =
+    let told : VerdictExplained w j old new given = record { status = h.0; means = due-means w.desc w.cert old.files j due; mends = mends } in
+    inr (record { work = j; is_due = due; came = record { text = text; ends = inl told; written = h.1 } })
+explained-as w old new j text given Unwritten due mends h =
+    let told : VerdictExplained w j old new (verdict_status (verdict_on j)) = record { status = refl; means = due-means w.desc w.cert old.files j due; mends = mends } in
+    inr (inl (record { work = j; is_due = due; given = verdict_status (verdict_on j); text = text; ends = inl told; front = h }))
+explained-as w old new j text given Unread due mends h = absurd h
+explained-as w old new j text given OutOfMemory due mends h = absurd h
+
 -- the verdict was told
-pub explained-carried : (w : ExplainWords) (old new : World) (j : Judged) (text : List ℕ) (r : Result (Unit {0}) Failed) → ExplainDue w old.files (Came j) →
-    MendsOnly w.mend j old.files new.files → Puts old.out.written new.out.written old.out.faults new.out.faults text r →
-    Carries (explain_command w) old new (stated_as r (verdict_status (verdict_on j)))
-explained-carried w old new j text (Ok x) due mends h =
-    let told : VerdictExplained w j old new (verdict_status (verdict_on j)) = record { status = refl; means = due-means w.desc w.cert old.files j due; mends = mends } in
-    carries-ended (explain_command w) old new j (verdict_status (verdict_on j)) text (verdict-ended (verdict_on j)) due (inl told) h.whole
-explained-carried w old new j text (Err e) due mends h =
-    let told : VerdictExplained w j old new (verdict_status (verdict_on j)) = record { status = refl; means = due-means w.desc w.cert old.files j due; mends = mends } in
-    carries-broken (explain_command w) old new j (verdict_status (verdict_on j)) text due (inl told) (record { cause = h.cause; front = h.front })
+pub explained-carried : (w : ExplainWords) (old new : World) (j : Judged) (text : List ℕ) (given : Status) → ExplainDue w old.files (Came j) → MendsOnly w.mend j old.files new.files →
+    PutAs text (verdict_status (verdict_on j)) old.out new.out given (class_of given) → Carries (explain_command w) old new given
+explained-carried w old new j text given due mends h = record { by_class = explained-as w old new j text given (class_of given) due mends h }
 
 lacking-as : (w : ExplainWords) (old new : World) (j : Judged) (text : List ℕ) (given : Status) (k : Class) → ExplainDue w old.files (Came j) → LacksNamed w j.desc → IsUntouched old new →
     PutAs text status.Words old.out new.out given k → CarriesAs (explain_command w) old new given k
@@ -161,3 +163,14 @@ halted-carried w old new halt.Unsaved given h told same =
     let left = subst (λ (mend : Option (List ℕ)). SavesOnly mend old.files new.files) (sym h.3) h.4 in
     subst (λ (s : Status). Carries (explain_command w) old new s) (sym told.0)
     (carries-unsaved (explain_command w) old new h.0 h.2 h.1 h.3 h.5 told.1 left)
+
+-- why it halts behind steps that only read
+pub halts-later : (w : ExplainWords) (was mid now : Option Files) (before reads later saves after : ℕ) (why : Halt) → mid ≡ was → before ≤ reads →
+    HaltsAt w mid now reads later saves after why → HaltsAt w was now before later saves after why
+halts-later w was mid now before reads later saves after (halt.Stopped stop) same earlier h =
+    let k = subst (λ (o : Option Files). HaltsAt w o now reads later saves after (halt.Stopped stop)) same h in
+    (comes-later (λ (j : Judged). j) (ExplainDue w was) before reads later (Err stop) earlier k.0, k.1, k.2)
+halts-later w was mid now before reads later saves after halt.Lacking same earlier h =
+    subst (λ (o : Option Files). HaltsAt w o now reads later saves after halt.Lacking) same h
+halts-later w was mid now before reads later saves after halt.Unsaved same earlier h =
+    subst (λ (o : Option Files). HaltsAt w o now reads later saves after halt.Unsaved) same h

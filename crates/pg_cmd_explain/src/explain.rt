@@ -2,11 +2,15 @@
 
 ghost use Rattle.std.specs.Prelude.{◌≡◌, ◌≤◌};
 ghost use Rattle.pg_hw.specs.Machinery.{Machinery};
+ghost use Rattle.pg_judged.specs.Judged.{verdict_on, verdict_status};
+ghost use Rattle.pg_judged.specs.Views.{judged};
+ghost use Rattle.pg_steps.specs.Answering.{OnlyReads};
+ghost use Rattle.pg_steps.specs.Classes.{class_of};
 ghost use Rattle.pg_steps.specs.Commands.{Carries};
 ghost use Rattle.pg_steps.specs.World.{SavesOnly, output};
-ghost use Rattle.pg_cmd_explain.specs.Explaining.{HaltTold, beside, explain_command, explain_words, stated_as};
+ghost use Rattle.pg_cmd_explain.specs.Explaining.{HaltTold, PutAs, beside, explain_command, explain_words, stated_as};
 
-use crate::found::{Halt, find};
+use crate::found::{Found, Halt, find};
 use crate::json::put_json;
 use crate::request::{Request, asked_by};
 use crate::source::source_saved;
@@ -84,12 +88,21 @@ fn carry<F: Shelf, S: Sink, W: StopWatcher + WordsWatcher>(
     ensures later { S.faults out.old ≤ S.faults out.new }
 {
     match find(alloc, request, shelf, layout) {
-        Ok(found) => stated(
-            out.put(found.told.text.as_slice()),
-            status_of(found.judged.report.verdict()),
-        ),
+        Ok(found) => put_found(&found, out),
         Err(halt) => halted(&halt, out, watcher),
     }
+}
+
+/// Puts what is told, and answers with the status of the verdict.
+fn put_found<S: Sink>(found: &Found, out: &mut S) -> Status
+    ensures told { PutAs found.now.told.text.items (verdict_status (verdict_on (judged found.now.judged)))
+        (output S.Sink out.old) (output S.Sink out.new) result (class_of result) }
+    ensures later { S.faults out.old ≤ S.faults out.new }
+{
+    stated(
+        out.put(found.told.text.as_slice()),
+        status_of(found.judged.report.verdict()),
+    )
 }
 
 /// Says why nothing is told, where that has a line, and answers with which status.
@@ -132,10 +145,23 @@ fn carry_json<F: Shelf, S: Sink, W: StopWatcher + WordsWatcher>(
 ) -> u8
     ensures files { SavesOnly (explain_words request.now).mend (F.files shelf.old) (F.files shelf.new) }
 {
-    let found = match find(alloc, request, shelf, layout) {
-        Ok(found) => found,
-        Err(halt) => return halted(&halt, out, watcher).code(),
-    };
+    match find(alloc, request, shelf, layout) {
+        Ok(found) => put_found_json(alloc, request, &found, shelf, out, watcher),
+        Err(halt) => halted(&halt, out, watcher).code(),
+    }
+}
+
+/// Puts what is told as JSON, and answers with the status of the verdict; else puts a line, and answers with another status.
+fn put_found_json<F: Shelf, S: Sink, W: StopWatcher + WordsWatcher>(
+    alloc: Global,
+    request: &Request<'_>,
+    found: &Found,
+    shelf: &mut F,
+    out: &mut S,
+    watcher: &mut W,
+) -> u8
+    ensures reads { OnlyReads F.Shelf shelf.old shelf.new }
+{
     let answer = match put_json(alloc, request, &found.judged, &found.told, shelf, out) {
         Ok(()) => Ok(status_of(found.judged.report.verdict()).code()),
         Err(stop) => Err(stop),

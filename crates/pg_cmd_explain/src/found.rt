@@ -1,6 +1,7 @@
 //! What there is to tell, found in files; and the mended description, saved before any of it is told.
 
-ghost use Rattle.std.specs.Prelude.{◌≡◌, ◌≤◌, IfOk, IfErr, IfSome, None};
+ghost use Rattle.std.specs.Prelude.{◌≡◌, ◌≤◌, ℕ, IfOk, IfErr, IfSome, None, Option};
+ghost use Rattle.pg_edge.specs.Shelf.{Files};
 ghost use Rattle.pg_judged.specs.Views.{judged};
 ghost use Rattle.pg_reasons.specs.Mending.{IsMendedBy};
 ghost use Rattle.pg_steps.specs.Steps.{Came};
@@ -55,23 +56,57 @@ pub fn find<F: Shelf>(
         Ok(loaded) => loaded,
         Err(stop) => return Err(Halt::Stopped(stop)),
     };
-    let part = match part_of(&loaded.judged, request) {
-        Some(part) => part,
-        None => return Err(Halt::Lacking),
-    };
-    let told = match reasons(alloc, request, &loaded.judged, part) {
-        Ok(told) => told,
-        Err(_) => return Err(Halt::Stopped(Stop::Memory)),
-    };
-    match mend(alloc, shelf, request, &loaded, &told) {
-        Ok(saved) => *layout = saved,
-        Err(MendFault::Memory) => return Err(Halt::Stopped(Stop::Memory)),
-        Err(MendFault::Unsaved) => return Err(Halt::Unsaved),
+    match tell(alloc, request, shelf, &loaded, layout) {
+        Ok(told) => Ok(Found {
+            judged: loaded.judged,
+            told,
+        }),
+        Err(halt) => Err(halt),
     }
-    Ok(Found {
-        judged: loaded.judged,
-        told,
-    })
+}
+
+/// What is told of the machine that was loaded; the mended description is saved where that is asked for.
+fn tell<F: Shelf>(
+    alloc: Global,
+    request: &Request<'_>,
+    shelf: &mut F,
+    loaded: &Loaded,
+    layout: &mut Option<Layout>,
+) -> Result<Reasons, Halt>
+    requires due { ExplainDue (explain_words request.now) (F.files shelf.old) (Came (judged loaded.now.judged)) }
+    ensures mends { IfOk result (λ _. MendsOnly (explain_words request.now).mend (judged loaded.now.judged) (F.files shelf.old) (F.files shelf.new)) }
+    ensures halts { IfErr result (HaltsAt (explain_words request.now) (F.files shelf.old) (F.files shelf.new)
+        (F.reads shelf.old) (F.reads shelf.new) (F.saves shelf.old) (F.saves shelf.new)) }
+    ensures reads { F.reads shelf.new ≡ F.reads shelf.old }
+    ensures saves { F.saves shelf.old ≤ F.saves shelf.new }
+{
+    let told = match wished(alloc, request, &loaded.judged) {
+        Ok(told) => told,
+        Err(halt) => return Err(halt),
+    };
+    match mend(alloc, shelf, request, loaded, &told) {
+        Ok(saved) => {
+            *layout = saved;
+            Ok(told)
+        }
+        Err(MendFault::Memory) => Err(Halt::Stopped(Stop::Memory)),
+        Err(MendFault::Unsaved) => Err(Halt::Unsaved),
+    }
+}
+
+/// What is told of what the words ask for.
+fn wished(alloc: Global, request: &Request<'_>, machine: &JudgedMachine) -> Result<Reasons, Halt>
+    ensures mended { IfOk result (λ told. IfSome told.mended (λ g. IsMendedBy machine.now.machine.desc machine.now.report g.machine.desc)) }
+    ensures halts { (told : Option Files) (reads saves : ℕ) → ExplainDue (explain_words request.now) told (Came (judged machine.now)) →
+        IfErr result (HaltsAt (explain_words request.now) told told reads reads saves saves) }
+{
+    match part_of(machine, request) {
+        Some(part) => match reasons(alloc, request, machine, part) {
+            Ok(told) => Ok(told),
+            Err(_) => Err(Halt::Stopped(Stop::Memory)),
+        },
+        None => Err(Halt::Lacking),
+    }
 }
 
 /// What is told of a machine and what is kept of its certificate. The error is want of memory.

@@ -48,15 +48,43 @@ pub fn put_json<F: Shelf, S: Sink>(
 ) -> Result<(), Stop>
     ensures reads { OnlyReads F.Shelf shelf.old shelf.new }
 {
-    let beside = Beside {
-        sources: sources_of(alloc, request.desc, shelf)?,
-        logs: logs_of(alloc, request.cert, shelf)?,
-        broken: broken_instrs(alloc, &judged.machine, &judged.report)?,
-    };
+    match beside_of(alloc, request, judged, shelf) {
+        Ok(beside) => put_parts(alloc, judged, &beside, told, out),
+        Err(stop) => Err(stop),
+    }
+}
+
+/// What is told of instructions beside their marks.
+fn beside_of<F: Shelf>(
+    alloc: Global,
+    request: &Request<'_>,
+    judged: &JudgedMachine,
+    shelf: &mut F,
+) -> Result<Beside, Stop>
+    ensures reads { OnlyReads F.Shelf shelf.old shelf.new }
+{
+    let sources = sources_of(alloc, request.desc, shelf)?;
+    let logs = logs_of(alloc, request.cert, shelf)?;
+    let broken = broken_instrs(alloc, &judged.machine, &judged.report)?;
+    Ok(Beside {
+        sources,
+        logs,
+        broken,
+    })
+}
+
+/// Puts them, one part behind the other.
+fn put_parts<S: Sink>(
+    alloc: Global,
+    judged: &JudgedMachine,
+    beside: &Beside,
+    told: &Reasons,
+    out: &mut S,
+) -> Result<(), Stop> {
     let mut text = Vec::new(alloc);
     push_begin(&mut text, judged)?;
     for instr in 0..judged.machine.count() {
-        put_instr(alloc, out, &mut text, judged, &beside, instr)?;
+        put_instr(alloc, out, &mut text, judged, beside, instr)?;
     }
     push_end(&mut text, told)?;
     put(out, text.as_slice())

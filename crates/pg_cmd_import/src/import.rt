@@ -1,26 +1,29 @@
 //! The new certificate that the words ask for, saved and told.
 
-ghost use Rattle.std.specs.Prelude.{◌≡◌, ◌≤◌, map, string_bytes, IfOk, OnOk};
+ghost use Rattle.std.specs.Prelude.{◌≡◌, ◌≤◌, ◌<◌, length, map, string_bytes, Some, IfOk, OnOk};
 ghost use Rattle.pg_cmd_saving.specs.Saving.{HoldsNow};
 ghost use Rattle.pg_edge.specs.Shelf.{SameBut};
 ghost use Rattle.pg_edge.specs.Told.{BothTold};
+ghost use Rattle.pg_imported.specs.Imported.{IsOfFile};
 ghost use Rattle.pg_judged.specs.Views.{judged};
 ghost use Rattle.pg_steps.specs.Answering.{OnlyReads};
 ghost use Rattle.pg_steps.specs.Classes.{class_of};
 ghost use Rattle.pg_steps.specs.FileSteps.{HoldsWithin};
 ghost use Rattle.pg_steps.specs.World.{output};
+ghost use Rattle.pg_verify.specs.Taking.{instr_named};
 ghost use Rattle.pg_cmd_import.specs.Saved.{AsksImport, IsImport, IsImported, EndsImported, SavesOnce, ToldBehindAs};
 ghost use Rattle.pg_cmd_import.specs.declared.request.Request.{Request as Requests};
 
 use crate::making::{Written, new_certificate};
 use crate::request::{Request, asked_by};
 use pg_asked::FileName;
+use pg_cert::Cert;
 use pg_cli_says::{Lacking, WordsWatcher};
 use pg_cmd_told::files::{certificate, file_name, find, machine, put, save};
 use pg_cmd_told::{ProofFault, Stop, ended};
 use pg_edge::{LoadFault, Shelf, Sink};
 use pg_judged::tell_verdict;
-use pg_migrate::Migrated;
+use pg_machine::Machine;
 use pg_report::{CertificateLine, RefusalLine};
 use pg_steps::{Status, StopWatcher, load_file, stop_of};
 use std::alloc::{AllocError, Global};
@@ -37,6 +40,17 @@ struct Sources {
     desc: FileName,
     cert: FileName,
     proof: FileName,
+}
+
+/// What is read of files beside the description.
+#[derive(Drop)]
+struct Read {
+    /// The certificate, made anew.
+    cert: Cert,
+    /// The number of the instruction.
+    instr: usize,
+    /// What another solver wrote.
+    bytes: Vec<u8>,
 }
 
 /// Imports what the words ask for, the program's name first, and gives the status of the verdict; else puts a line, and gives another
@@ -100,19 +114,40 @@ fn prepare<F: Shelf>(alloc: Global, request: &Request<'_>, shelf: &mut F) -> Res
         Ok(machine) => machine,
         Err(stop) => return Err(stop),
     };
-    let migrated = match certificate(alloc, shelf, &machine, &sources.cert) {
-        Ok(migrated) => migrated,
+    match read_beside(alloc, request, shelf, &sources, &machine) {
+        Ok(read) => {
+            let Read { cert, instr, bytes } = read;
+            new_certificate(alloc, machine, cert, instr, request, bytes.as_slice())
+        }
+        Err(stop) => Err(stop),
+    }
+}
+
+/// What is read of the other files, in their order.
+fn read_beside<F: Shelf>(
+    alloc: Global,
+    request: &Request<'_>,
+    shelf: &mut F,
+    sources: &Sources,
+    machine: &Machine,
+) -> Result<Read, Stop>
+    requires cert { sources.now.cert ≡ request.now.cert.now }
+    ensures of_file { IfOk result (λ r. IsOfFile (F.files shelf.old) request.now.cert.now machine.now.desc r.cert) }
+    ensures there { IfOk result (λ r. r.instr < length machine.now.desc.instrs) }
+    ensures named { IfOk result (λ r. instr_named machine.now.desc request.now.instr.now ≡ Some r.instr) }
+    ensures reads { OnlyReads F.Shelf shelf.old shelf.new }
+{
+    let cert = match certificate(alloc, shelf, machine, &sources.cert) {
+        Ok(migrated) => migrated.cert,
         Err(stop) => return Err(stop),
     };
-    let Some(instr) = find(&machine, request.instr) else {
+    let Some(instr) = find(machine, request.instr) else {
         return Err(Stop::Lacking(Lacking::Instr));
     };
-    let bytes = match load_proof(alloc, shelf, &sources.proof) {
-        Ok(bytes) => bytes,
-        Err(stop) => return Err(stop),
-    };
-    let Migrated { report: _, cert } = migrated;
-    new_certificate(alloc, machine, cert, instr, request, bytes.as_slice())
+    match load_proof(alloc, shelf, &sources.proof) {
+        Ok(bytes) => Ok(Read { cert, instr, bytes }),
+        Err(stop) => Err(stop),
+    }
 }
 
 /// What another solver wrote.

@@ -90,13 +90,33 @@ fn taken_finding(
     ensures right { IfOk result (λ t. IsRightAt machine.now.desc cert.now.family place t.finding) }
     ensures line { IfOk result (λ t. string_bytes t.line ≡ import_line request.now.instr.now request.now.word.now t.finding) }
 {
-    let asked = ask(alloc, machine, instr, request.kind)?;
-    let finding = match finding_of(alloc, &asked, bytes) {
-        Ok(finding) => finding,
-        Err(stop) => return Err(stop),
-    };
-    let line = line_of(alloc, request, &finding)?;
-    Ok(Taken { finding, line })
+    match right_finding(alloc, machine, cert, instr, place, request, bytes) {
+        Ok(finding) => match line_of(alloc, request, &finding) {
+            Ok(line) => Ok(Taken { finding, line }),
+            Err(_) => Err(Stop::Memory),
+        },
+        Err(stop) => Err(stop),
+    }
+}
+
+/// The same without the line.
+fn right_finding(
+    alloc: Global,
+    machine: &Machine,
+    cert: &Cert,
+    instr: usize,
+    place: usize,
+    request: &Request<'_>,
+    bytes: &[u8],
+) -> Result<Finding, Stop>
+    requires there { instr < length machine.now.desc.instrs }
+    requires asked { IsPlaceOf cert.now instr request.now.kind place }
+    ensures { IfOk result (IsRightAt machine.now.desc cert.now.family place) }
+{
+    match ask(alloc, machine, instr, request.kind) {
+        Ok(asked) => finding_of(alloc, &asked, bytes),
+        Err(_) => Err(Stop::Memory),
+    }
 }
 
 /// The line that tells what was imported. The error is want of memory.

@@ -8,15 +8,12 @@ use Rattle.pg_type.specs.declared.kind.Kind.{Kind}
 use Rattle.pg_proof.specs.declared.step.Act.{Act}
 use Rattle.pg_proof.specs.Log.{IsClosedLog}
 use Rattle.pg_ask.specs.Question.{question}
-use Rattle.pg_cert.specs.declared.cert.Finding.{Finding}
 use Rattle.pg_cert.specs.declared.cert.Finding.TheVariants.{Refuted}
 use Rattle.pg_cert.specs.declared.cert.Cert.{Cert}
 use Rattle.pg_cert.specs.declared.line.Heading.{Heading}
 use Rattle.pg_cert.specs.Texts.{instr_of, kind_of}
 use Rattle.pg_cert.specs.Validity.{IsValidFinding}
 use Rattle.pg_cert.proofs.Fits.{instr_within}
-use Rattle.pg_formula.specs.Dimacs.{IsQuestionText}
-use Rattle.pg_formula.specs.Lrat.{IsLratText}
 use Rattle.pg_verify.specs.Verified.{IsValidOf}
 use Rattle.pg_migrate.proofs.MadeLemmas.{there}
 use Rattle.pg_cmd_proofs.specs.Exported.{AreTexts}
@@ -46,8 +43,6 @@ are_of d cert n instr kind clauses same_instr same_kind h =
     subst (λ k. (i : Instr) → slice_get d.instrs (instr_of cert.family n) ≡ Some i → clauses ≡ question d i k) same_kind
     (subst (λ j. (i : Instr) → slice_get d.instrs j ≡ Some i → clauses ≡ question d i kind) same_instr h)
 
-pub are_texts : (d : Desc) (cert : Cert) (n : ℕ) (clauses : List (List ℤ)) (log text : List ℕ) → AreOf d cert n clauses → IsLratText clauses log →
-    IsQuestionText clauses text → (i : Instr) → slice_get d.instrs (instr_of cert.family n) ≡ Some i →
-    AreTexts (question d i (kind_of cert.family n)) log text
-are_texts d cert n clauses log text same refuted asked = λ i at.
-    subst (λ cs. AreTexts cs log text) (same i at) (record { refuted = refuted; asked = asked })
+pub are_texts : (d : Desc) (cert : Cert) (n : ℕ) (clauses : List (List ℤ)) (log text : List ℕ) → AreOf d cert n clauses → AreTexts clauses log text →
+    (i : Instr) → slice_get d.instrs (instr_of cert.family n) ≡ Some i → AreTexts (question d i (kind_of cert.family n)) log text
+are_texts d cert n clauses log text same known = λ i at. subst (λ cs. AreTexts cs log text) (same i at) known

@@ -48,12 +48,26 @@ fn show<F: Shelf, S: Sink>(
     out: &mut S,
 ) -> Result<u8, Stop> {
     let request = asked_by(words).ok_or(Stop::Words)?;
-    let name = file_name(alloc, request.names.file)?;
-    let machine = machine(alloc, shelf, &name)?;
-    let instr = find(&machine, request.names.instr).ok_or(Stop::Lacking(Lacking::Instr))?;
-    let text = written(alloc, &machine, instr, &request)?;
+    let text = load(alloc, shelf, &request)?;
     put(out, text.as_slice())?;
     Ok(0)
+}
+
+/// The question that the words ask for, as text.
+fn load<F: Shelf>(alloc: Global, shelf: &mut F, request: &Request<'_>) -> Result<Vec<u8>, Stop> {
+    let name = file_name(alloc, request.names.file)?;
+    match machine(alloc, shelf, &name) {
+        Ok(machine) => written_of(alloc, &machine, request),
+        Err(stop) => Err(stop),
+    }
+}
+
+/// The same of a machine.
+fn written_of(alloc: Global, machine: &Machine, request: &Request<'_>) -> Result<Vec<u8>, Stop> {
+    match find(machine, request.names.instr) {
+        Some(instr) => Ok(written(alloc, machine, instr, request)?),
+        None => Err(Stop::Lacking(Lacking::Instr)),
+    }
 }
 
 /// The question of an instruction as text: lines of comment, and its clauses. The error is want of memory.

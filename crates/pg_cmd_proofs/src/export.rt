@@ -9,16 +9,21 @@
 //! The status is 0 where the log is written; refusals are those of `pgv`. The words are read in `request`, and the texts made in
 //! `making`.
 
+ghost use Rattle.pg_imported.specs.Imported.{IsOfText};
+
 mod making;
 mod request;
 
 use crate::export::making::{Texts, texts_at};
 use crate::export::request::{Request, asked_by};
+use pg_asked::FileName;
+use pg_cert::Cert;
 use pg_cli_says::{Lacking, WordsWatcher};
 use pg_cmd_told::files::{certificate, file_name, machine, put, save};
 use pg_cmd_told::{Stop, ended};
 use pg_edge::{Shelf, Sink};
 use pg_imported::place_of;
+use pg_machine::Machine;
 use pg_steps::StopWatcher;
 use std::alloc::Global;
 
@@ -57,16 +62,40 @@ fn export<F: Shelf, S: Sink>(
 fn load<F: Shelf>(alloc: Global, shelf: &mut F, request: &Request<'_>) -> Result<Texts, Stop> {
     let desc = file_name(alloc, request.names.file)?;
     let cert = file_name(alloc, request.cert)?;
-    let machine = machine(alloc, shelf, &desc)?;
-    let migrated = match certificate(alloc, shelf, &machine, &cert) {
-        Ok(migrated) => migrated,
-        Err(stop) => return Err(stop),
+    match machine(alloc, shelf, &desc) {
+        Ok(machine) => load_beside(alloc, shelf, request, &machine, &cert),
+        Err(stop) => Err(stop),
+    }
+}
+
+/// The same of a machine, with the certificate of a file.
+fn load_beside<F: Shelf>(
+    alloc: Global,
+    shelf: &mut F,
+    request: &Request<'_>,
+    machine: &Machine,
+    cert: &FileName,
+) -> Result<Texts, Stop> {
+    match certificate(alloc, shelf, machine, cert) {
+        Ok(migrated) => texts_asked(alloc, machine, &migrated.cert, request),
+        Err(stop) => Err(stop),
+    }
+}
+
+/// The texts of the finding that the words ask for, in a certificate that was made anew.
+fn texts_asked(
+    alloc: Global,
+    machine: &Machine,
+    cert: &Cert,
+    request: &Request<'_>,
+) -> Result<Texts, Stop>
+    requires { IsOfText machine.now.desc cert.now }
+{
+    let Some(instr) = machine.find(request.names.instr) else {
+        return Err(Stop::Lacking(Lacking::Instr));
     };
-    let instr = machine
-        .find(request.names.instr)
-        .ok_or(Stop::Lacking(Lacking::Instr))?;
-    match place_of(&migrated.cert, instr, request.kind) {
-        Some(place) => texts_at(alloc, &machine, &migrated.cert, place, &request.names),
+    match place_of(cert, instr, request.kind) {
+        Some(place) => texts_at(alloc, machine, cert, place, &request.names),
         None => Err(Stop::Lacking(Lacking::Kind)),
     }
 }

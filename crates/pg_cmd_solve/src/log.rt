@@ -12,6 +12,11 @@ pub fn is_taken(
     closed: bool,
 ) -> Result<bool, AllocError> {
     let mut checker = Checker::new(alloc, cnf)?;
+    takes(&mut checker, steps, closed)
+}
+
+/// The same of a checker that has taken none yet.
+fn takes(checker: &mut Checker, steps: &[Step], closed: bool) -> Result<bool, AllocError> {
     for step in steps {
         if checker.numbered() >= u32::MAX as usize - 1 {
             return Ok(false);

@@ -1,5 +1,5 @@
 -- The text of a run, put in three parts.
-use Rattle.std.proofs.Common.{◌≡◌, ℕ, List, ◌++◌, length, Option, Result, Ok, Err, inl, inr, refl, ◌∙◌, ap, subst, arith}
+use Rattle.std.proofs.Common.{◌≡◌, ℕ, List, ◌++◌, length, Option, Ok, Err, inl, inr, refl, ◌∙◌, ap, subst, arith}
 use Rattle.pg_edge.specs.Told.{BothTold}
 use Rattle.pg_edge.specs.Sink.{Adds, AddsFront, Puts}
 use Rattle.pg_edge.proofs.PutsLaws.{Adds-append, AddsFront-append, Puts-stopped}

@@ -1,5 +1,5 @@
 -- What a trace leaves, by what its parts answer.
-use Rattle.std.proofs.Common.{◌≡◌, ◌≢◌, ℕ, ◌+◌, ◌≤◌, List, Option, None, Some, Result, Ok, Err, inl, inr, refl, sym, ◌∙◌, ap, subst, arith}
+use Rattle.std.proofs.Common.{◌≡◌, ℕ, ◌+◌, ◌≤◌, List, Option, None, Some, Result, Ok, Err, inl, inr, refl, sym, ◌∙◌, ap, subst, arith}
 use Rattle.std.specs.Prelude.{OnOk, OnErr, IfSome, IsErrOf}
 use Rattle.pg_alloc.specs.Fit.{kept_cells}
 use Rattle.pg_asked.specs.declared.bare.BareWords.{BareWords}
@@ -34,7 +34,7 @@ use Rattle.pg_valid.specs.Valid.{IsValid}
 use Rattle.pg_cmd_told.specs.Either.{EitherDue}
 use Rattle.pg_cmd_trace.specs.Done.{IsShown, PutsText, PutsRun, ended_as}
 use Rattle.pg_cmd_trace.specs.Plans.{RunDue, kept_beside}
-use Rattle.pg_cmd_trace.specs.Tracing.{TraceWork, behind_run, TraceDue, telling_by, PutsFront, LetsRun, ForbidsRun, RunShown, VerdictShown, WorkLeaves, TracesAs, Traces, trace_work}
+use Rattle.pg_cmd_trace.specs.Tracing.{TraceWork, behind_run, TraceDue, telling_by, PutsFront, LetsRun, ForbidsRun, RunShown, WorkLeaves, TracesAs, Traces}
 use Rattle.pg_cmd_trace.specs.declared.request.TraceWords.{TraceWords}
 use Rattle.pg_cmd_trace.proofs.Undone.{not-done}
 use Rattle.pg_cmd_trace.proofs.RunLemmas.{run-due, anywhere}

@@ -2,7 +2,7 @@
 
 ghost use Rattle.std.specs.Prelude.{◌≡◌, ◌*◌, ◌++◌, ◌≤◌, All, OnOk, OnErr, IfSome, IsErrOf, Some, length};
 ghost use Rattle.pg_cert.specs.Verdicts.{kind_count};
-ghost use Rattle.pg_judged.specs.Views.{judged};
+ghost use Rattle.pg_judged.specs.Telling.{ToldAs};
 ghost use Rattle.pg_report.specs.Verdicts.{DoMarkWordsFit};
 ghost use Rattle.pg_edge.specs.Count.{Rose};
 ghost use Rattle.pg_steps.specs.Able.{IsAble};
@@ -100,19 +100,21 @@ fn carry_judged<S: Sink, H: Hardware>(
     ensures later { S.faults out.old ≤ S.faults out.new }
 {
     if !is_accepted(report.verdict()) {
-        return tell_verdict(out, &judged(plan.machine, report));
+        return tell_refused(plan, report, out);
     }
     let telling = told_of(shows, Some(monitor_of(report.family)));
     ended(put_run(alloc, &plan, hw, out, telling))
 }
 
-/// A machine, and what is kept of a certificate of it.
-pub fn judged(machine: Machine, report: Report) -> JudgedMachine
-    requires whole { length report.marks ≡ length machine.desc.instrs * kind_count report.family }
-    requires fit { All (DoMarkWordsFit machine.desc.word) report.marks }
-    ensures { judged result ≡ record { desc = machine.desc; report = report } }
+/// Tells the verdict of a certificate of the machine of a plan.
+pub fn tell_refused<S: Sink>(plan: Plan, report: Report, out: &mut S) -> Status
+    requires whole { length report.marks ≡ length plan.machine.desc.instrs * kind_count report.family }
+    requires fit { All (DoMarkWordsFit plan.machine.desc.word) report.marks }
+    ensures told { ToldAs (record { desc = plan.machine.desc; report = report }) (output S.Sink out.old) (output S.Sink out.new) result (class_of result) }
+    ensures later { S.faults out.old ≤ S.faults out.new }
 {
-    JudgedMachine { machine, report }
+    let Plan { machine, .. } = plan;
+    tell_verdict(out, &JudgedMachine { machine, report })
 }
 
 /// How the program ends, by how the text was put.

@@ -1,6 +1,6 @@
 //! A run as JSON: `docs/DATA.md` has its keys.
 
-ghost use Rattle.std.specs.Prelude.{◌≡◌, ◌*◌, All, OnOk, length};
+ghost use Rattle.std.specs.Prelude.{◌≡◌, ◌*◌, All, OnOk, IfSome, length};
 ghost use Rattle.pg_cert.specs.Verdicts.{kind_count};
 ghost use Rattle.pg_report.specs.Verdicts.{DoMarkWordsFit};
 ghost use Rattle.pg_steps.specs.Able.{IsAble};
@@ -8,7 +8,7 @@ ghost use Rattle.pg_steps.specs.Answering.{OnlyReads};
 ghost use Rattle.pg_tool_plain.specs.Bare.{reached};
 ghost use Rattle.pg_cmd_trace.specs.Plans.{planned_run};
 
-use crate::carry::{ended, judged};
+use crate::carry::{ended, tell_refused};
 use crate::monitor::monitor_of;
 use crate::plan::Plan;
 use crate::request::TraceWords;
@@ -17,7 +17,7 @@ use pg_cert::Report;
 use pg_cli_version::VERSION;
 use pg_edge::{Shelf, Sink};
 use pg_hw::Hardware;
-use pg_judged::{is_accepted, tell_verdict};
+use pg_judged::is_accepted;
 use pg_out_json::{push, push_head, push_number, push_string, put_run};
 use pg_steps::{Status, StopWatcher, stopped};
 use pg_traced::{Monitor, TraceFault};
@@ -36,10 +36,18 @@ pub fn carry_json<F: Shelf, S: Sink, H: Hardware, W: StopWatcher>(
     requires able { IsAble H.Hardware hw.old }
     ensures reads { OnlyReads F.Shelf shelf.old shelf.new }
 {
-    let work = match load_work(alloc, words, shelf) {
-        Ok(work) => work,
-        Err(stop) => return stopped(&stop, out, watcher),
-    };
+    match load_work(alloc, words, shelf) {
+        Ok(work) => put_work(alloc, work, hw, out),
+        Err(stop) => stopped(&stop, out, watcher),
+    }
+}
+
+/// Does the work, and puts it.
+fn put_work<S: Sink, H: Hardware>(alloc: Global, work: Work, hw: &mut H, out: &mut S) -> Status
+    requires able { IsAble H.Hardware hw.old }
+    requires whole { IfSome work.report (λ r. length r.marks ≡ length work.plan.machine.desc.instrs * kind_count r.family) }
+    requires fit { IfSome work.report (λ r. All (DoMarkWordsFit work.plan.machine.desc.word) r.marks) }
+{
     let Work { plan, report } = work;
     match report {
         None => ended(put_json(alloc, &plan, hw, out, None)),
@@ -60,7 +68,7 @@ fn carry_accepted<S: Sink, H: Hardware>(
     requires fit { All (DoMarkWordsFit plan.machine.desc.word) report.marks }
 {
     if !is_accepted(report.verdict()) {
-        return tell_verdict(out, &judged(plan.machine, report));
+        return tell_refused(plan, report, out);
     }
     let monitor = monitor_of(report.family);
     ended(put_json(alloc, &plan, hw, out, Some(monitor)))

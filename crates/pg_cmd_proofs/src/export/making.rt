@@ -6,9 +6,10 @@ ghost use Rattle.pg_ask.specs.Question.{question};
 ghost use Rattle.pg_cert.specs.declared.cert.Finding.TheVariants.{Refuted};
 ghost use Rattle.pg_cert.specs.Texts.{instr_of, kind_of};
 ghost use Rattle.pg_imported.specs.Imported.{IsOfText};
+ghost use Rattle.pg_proof.specs.Log.{IsClosedLog};
 ghost use Rattle.pg_cmd_proofs.specs.Exported.{AreTexts};
 
-use pg_ask::ask;
+use pg_ask::{Asked, ask};
 use pg_cert::{Cert, Finding, instr_of, kind_of};
 use pg_cmd_told::Stop;
 use pg_formula::{Names, lrat_of, text_of};
@@ -60,12 +61,27 @@ fn texts_of(
 {
     let instr = instr_of(cert.family, place);
     let kind = kind_of(cert.family, place);
-    let asked = ask(alloc, machine, instr, kind)?;
+    match ask(alloc, machine, instr, kind) {
+        Ok(asked) => both_of(alloc, &asked, acts, names),
+        Err(_) => Err(Stop::Memory),
+    }
+}
+
+/// The log of a question, and its clauses.
+fn both_of(
+    alloc: Global,
+    asked: &Asked<'_>,
+    acts: &ActList,
+    names: &Names<'_>,
+) -> Result<Texts, Stop>
+    requires { IsClosedLog asked.now.cnf.clauses acts.now }
+    ensures { IfOk result (λ t. AreTexts asked.now.cnf.clauses t.log.items t.clauses.items) }
+{
     // no log that was read is so long: it has a byte for each act
     if acts.len() >= 1 << 32 {
         return Err(Stop::Memory);
     }
     let log = lrat_of(alloc, asked.cnf(), acts)?;
-    let clauses = text_of(alloc, names, &asked)?;
+    let clauses = text_of(alloc, names, asked)?;
     Ok(Texts { log, clauses })
 }

@@ -1,9 +1,6 @@
-use Rattle.std.proofs.Common.{refl, sym, ◌∙◌, ap, subst}
-use Rattle.pg_judged.specs.Judged.{verdict_status}
+use Rattle.std.proofs.Common.{refl}
 use Rattle.pg_judged.specs.Views.{judged}
-use Rattle.pg_steps.specs.Commands.{Carries}
-use Rattle.pg_steps.specs.declared.status.Status.{Status}
-use Rattle.pg_cmd_explain.specs.Explaining.{beside, explain_command, explain_words, stated_as}
+use Rattle.pg_cmd_explain.specs.Explaining.{beside, explain_words}
 use Rattle.pg_cmd_explain.proofs.ExplainLemmas.{explained-carried, halted-carried, mends-saves}
 use Rattle.pg_cmd_explain.proofs.explain.carry.Goals as goal
 
@@ -11,10 +8,8 @@ pub returns-in-Ok-clause-carries : goal.returns-in-Ok-clause-carries
 returns-in-Ok-clause-carries g c = λ hw.
     let w = explain_words c.args.request.now in
     let old = beside g.F.Shelf g.S.Sink hw c.args.shelf.now c.args.out.now in
-    let new = beside g.F.Shelf g.S.Sink hw c.find.new.shelf c.put.new.self in
-    let is = c.stated.ensures ∙ ap (stated_as c.put.result) (c.status_of.ensures ∙ ap verdict_status c.verdict.ensures) in
-    subst (λ (s : Status). Carries (explain_command w) old new s) (sym is)
-    (explained-carried w old new (judged c.in-Ok.found.judged) _ c.put.result c.in-Ok.ensures.due c.in-Ok.ensures.mends c.put.ensures.puts)
+    let new = beside g.F.Shelf g.S.Sink hw c.find.new.shelf c.put_found.new.out in
+    explained-carried w old new (judged c.in-Ok.found.judged) c.in-Ok.found.told.text.items c.put_found.result c.in-Ok.ensures.due c.in-Ok.ensures.mends c.put_found.ensures.told
 
 pub returns-in-Ok-clause-files : goal.returns-in-Ok-clause-files
 returns-in-Ok-clause-files g c = mends-saves (explain_words c.args.request.now).mend (judged c.in-Ok.found.judged) _ _ c.in-Ok.ensures.mends

@@ -6,10 +6,10 @@ use Rattle.pg_cmd_explain.specs.Explaining.{explain_words}
 use Rattle.pg_cmd_explain.proofs.ExplainLemmas.{mends-saves}
 use Rattle.pg_cmd_explain.proofs.explain.carry_json.Goals as goal
 
-pub returns : goal.returns
-returns g c =
+pub returns-in-Ok : goal.returns-in-Ok
+returns-in-Ok g c =
     let mend = (explain_words c.args.request.now).mend in
     record {
-      files = subst (λ (o : Option Files). SavesOnly mend (g.F.Shelf.files c.args.shelf.now) o) (sym c.put_json.ensures.reads.same_files)
+      files = subst (λ (o : Option Files). SavesOnly mend (g.F.Shelf.files c.args.shelf.now) o) (sym c.put_found_json.ensures.reads.same_files)
           (mends-saves mend (judged c.in-Ok.found.judged) _ _ c.in-Ok.ensures.mends);
     }

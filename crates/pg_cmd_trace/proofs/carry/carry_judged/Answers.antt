@@ -2,7 +2,6 @@ use Rattle.std.proofs.Common.{◌≡◌, Some, refl, sym, ◌∙◌, ap, subst}
 use Rattle.std.specs.Prelude.{OnOk, OnErr}
 use Rattle.pg_cert.specs.declared.report.Verdict.TheVariants.{Accepted}
 use Rattle.pg_judged.specs.Judged.{Judged, verdict_on}
-use Rattle.pg_judged.specs.Telling.{ToldAs}
 use Rattle.pg_steps.specs.Classes.{class_of}
 use Rattle.pg_steps.specs.World.{output}
 use Rattle.pg_steps.specs.declared.status.Status.{Status}
@@ -18,12 +17,11 @@ use Rattle.pg_cmd_trace.proofs.carry.carry_judged.Goals as goal
 pub returns-then-not-is_accepted-clause-left : goal.returns-then-not-is_accepted-clause-left
 returns-then-not-is_accepted-clause-left g c =
     let old = output g.S.Sink c.args.out.now in
-    let new = output g.S.Sink c.tell_verdict.new.out in
+    let new = output g.S.Sink c.tell_refused.new.out in
     let hw = g.H.Hardware.machinery c.args.hw.now in
     let j : Judged = record { desc = c.args.plan.machine.desc; report = c.args.report } in
-    let told = subst (λ (x : Judged). ToldAs x old new c.tell_verdict.result (class_of c.tell_verdict.result)) c.judged.ensures c.tell_verdict.ensures.told in
-    verdict-left c.args.shows (record { run = planned_run c.args.plan; report = Some c.args.report }) j old new hw hw c.tell_verdict.result (class_of c.tell_verdict.result)
-    (record { named = refl; desc = refl; other = λ is. c.is_accepted.ensures.no c.if-not-is_accepted.true (c.verdict.ensures ∙ is) }) refl told
+    verdict-left c.args.shows (record { run = planned_run c.args.plan; report = Some c.args.report }) j old new hw hw c.tell_refused.result (class_of c.tell_refused.result)
+    (record { named = refl; desc = refl; other = λ is. c.is_accepted.ensures.no c.if-not-is_accepted.true (c.verdict.ensures ∙ is) }) refl c.tell_refused.ensures.told
 
 -- it does
 pub returns-clause-left : goal.returns-clause-left

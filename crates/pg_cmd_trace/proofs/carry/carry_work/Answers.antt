@@ -1,4 +1,4 @@
-use Rattle.std.proofs.Common.{◌≡◌, Option, None, sym, subst}
+use Rattle.std.proofs.Common.{Option, None, sym, subst}
 use Rattle.std.specs.Prelude.{OnOk, OnErr}
 use Rattle.pg_cert.specs.declared.report.Report.{Report}
 use Rattle.pg_steps.specs.Classes.{class_of}

@@ -1,4 +1,4 @@
-use Rattle.std.proofs.Common.{Option, Ok, Err, ap, subst, arith}
+use Rattle.std.proofs.Common.{Option, Ok, Err, subst}
 use Rattle.pg_cert.specs.declared.report.Report.{Report}
 use Rattle.pg_edge.specs.Shelf.{Files}
 use Rattle.pg_steps.specs.Answering.{Comes}

@@ -1,0 +1,14 @@
+use Rattle.std.proofs.Common.{sym, subst}
+use Rattle.pg_cnf.specs.declared.clause.Cnf.{Cnf}
+use Rattle.pg_formula.specs.Lrat.{IsLratText}
+use Rattle.pg_proof.specs.Log.{IsClosedLog}
+use Rattle.pg_cmd_proofs.proofs.export.making.both_of.Goals as goal
+
+pub lrat_of-requires-clause-closed : goal.lrat_of-requires-clause-closed
+lrat_of-requires-clause-closed c = subst (λ (x : Cnf). IsClosedLog x.clauses c.args.acts.now) (sym c.cnf.ensures) c.requires
+
+pub returns : goal.returns
+returns c = record {
+  refuted = subst (λ (x : Cnf). IsLratText x.clauses c.in_ok-log.log.items) c.cnf.ensures c.in_ok-log.ensures.closed;
+  asked = c.in_ok-clauses.ensures;
+}
