@@ -41,15 +41,18 @@ LEAST_CELLS = 14
 CODES = {"add": 1, "jmp": 2, "svc": 3, "down": 4, "lpsw": 5}
 
 SMALL = (0, 1, 2, 3, 5, 6)
-LARGE = (333, 499, 500, 501, 999, 1000)
+LARGE = (166, 333, 498, 499, 500)
 """Counts of a loop; two or three steps go with each of them."""
 
 SLICES = (1, 1, 2, 2, 3, 3, 4, 7, 999, 1000, 1000)
 
 FEW_STEPS = (0, 1, 2, 3, 4, 5, 6, 7, 12, 60, 999, 1000, 1001, 2000, 3000)
 
-LOOK = 3100
+LOOK = 1100
 """Steps in which a guest is looked at; one that is still later is taken to be never."""
+
+MOST_TURNS = 3000
+"""A slice of more turns stands only where steps are told that are few."""
 
 SPOILED = ("--grant=8", "--grant", "--steps", "--slice", "-", "--", "-x", "--help", "--budget", "--json", "x.img", "\udcff", "")
 
@@ -135,12 +138,14 @@ def _going(rng: Random, case: Case) -> Case:
     options = dict(zip(given[::2], given[1::2]))
     ends = _ends(case, files, int(options["--grant"]))
     if rng.random() < 0.8:
-        slice_ = rng.choice([*SLICES, *(end + by for end in ends if end is not None and end < LOOK for by in (0, 1, 2) if end + by)])
-        options["--slice"] = str(slice_)
+        edges = [end + by for end in ends if end is not None for by in (0, 1, 2) if end + by]
+        options["--slice"] = str(rng.choice([*SLICES, *edges]))
+    spelled = options.get("--slice", "")
+    slice_ = int(spelled) if spelled.isdigit() and int(spelled) else SLICE
     if rng.random() < 0.9:
-        options["--steps"] = str(_steps(rng, ends, int(options["--slice"]) if options.get("--slice", "").isdigit() else SLICE))
-    if None not in ends and rng.random() < 0.5:
-        options["--steps"] = str(rng.choice([1_000_000, 10**9, MOST_STEPS - 1, MOST_STEPS, MOST_STEPS]))
+        options["--steps"] = str(_steps(rng, ends, slice_))
+    if None not in ends and slice_ <= MOST_TURNS and rng.random() < 0.5:
+        options["--steps"] = str(rng.choice([1_000_000, 10**9, MOST_STEPS - 1, MOST_STEPS]))
         if rng.random() < 0.7:
             del options["--steps"]
     parts = [[name] for name in files]
