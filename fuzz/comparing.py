@@ -206,7 +206,7 @@ class Comparison:
         """None where the model has no answer; an outcome where it failed, and of a side program."""
         try:
             if _is_of_side(case.words):
-                return self.by_side_model(case.words[1:])
+                return self.by_side_model(case)
             answered = answer(case.words, self.load, self.questions, self.can_save, self.on)
             return on_full_output(answered) if case.is_full else answered
         except NotModelled:
@@ -214,11 +214,13 @@ class Comparison:
         except Exception:  # a fault of the model is a difference too, and its input is wanted
             return _failed()
 
-    def by_side_model(self, words: Sequence[str]) -> Outcome:
+    def by_side_model(self, case: Case) -> Outcome:
         """The outcome of `pg_go`, of which nothing on standard error is compared."""
         if not is_side(self.questions.program):
             raise NotModelled
-        answered = going.answer(words, self.load, self.questions)
+        answered = going.answer(case.words[1:], self.load, self.questions)
+        if case.is_full:
+            answered = on_full_output(answered)
         return Outcome(answered.status, answered.output, b"")
 
     def compared(self, model: Answered | Outcome, program: Outcome, before: Mapping[str, bytes | None] | None) -> Outcome:

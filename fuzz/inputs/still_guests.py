@@ -156,7 +156,7 @@ def _going(rng: Random, case: Case) -> Case:
         words.insert(rng.randint(0, len(words)), rng.choice(SPOILED))
     if rng.random() < 0.01:
         words[words.index("--grant") + 1] = rng.choice(["1", "0", "+8", "08", "1048576", str(MOST_STEPS + 1), ""])
-    return case._replace(words=(NAME, *words), other_words=None)
+    return case._replace(words=(NAME, *words), other_words=None, is_full=rng.random() < 0.02)
 
 
 def _ends(case: Case, names: Sequence[str], grant: int) -> list[int | None]:
