@@ -143,7 +143,7 @@ def _going(rng: Random, case: Case) -> Case:
     spelled = options.get("--slice", "")
     slice_ = int(spelled) if spelled.isdigit() and int(spelled) else SLICE
     if rng.random() < 0.9:
-        options["--steps"] = str(_steps(rng, ends, slice_))
+        options["--steps"] = str(_steps(rng, ends, slice_ if slice_ <= MOST_TURNS else SLICE))
     if None not in ends and slice_ <= MOST_TURNS and rng.random() < 0.5:
         options["--steps"] = str(rng.choice([1_000_000, 10**9, MOST_STEPS - 1, MOST_STEPS]))
         if rng.random() < 0.7:
