@@ -92,8 +92,9 @@ def never(rng: Random, grant: int) -> Cells:
 
 
 def trapping(rng: Random, grant: int) -> Cells:
-    """Traps, mostly for ever: what they load leads to a trap, in either mode, by `trap;`, a memory trap or a word that means nothing."""
-    loaded = status(rng.choice([0, 0, 1]), rng.choice([0, 1, 2, 2, 3, 4, grant]), rng.choice([0, 0, 1, grant]), rng.choice([grant, 3, 0]))
+    """Traps, mostly for ever: what they load leads to one in either mode, by `trap;`, past memory, or by a word of no meaning."""
+    mode, p = rng.choice([0, 0, 1]), rng.choice([0, 1, 2, 2, 3, 4, grant])
+    loaded = status(mode, p, rng.choice([0, 0, 1, grant]), rng.choice([grant, 3, 0]))
     cells = {1: rng.choice([loaded, loaded, loaded, word("svc"), 0]), 2: rng.choice([word("svc"), word("add", 255, 2, 2), 0])}
     cells[3], cells[4] = rng.choice([word("svc"), word("lpsw", 1)]), rng.choice([word("jmp", 4), word("svc")])
     if rng.random() < 0.4:

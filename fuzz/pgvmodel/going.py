@@ -1,7 +1,7 @@
 """`pg_go`: guests that have turns until they are still, and how many turns those are.
 
-A guest is still where a step leaves its whole state as it is. As of `run`, no monitor stands here: the guest's states are those of a
-bare machine, and how many turns it has follows from the first of them that is still, the steps and the slice.
+A guest is still where a step leaves its whole state as it is. As of `run`, no monitor stands here: the guest's states are those of
+a bare machine, and how many turns it has follows from the first of them that is still, the steps and the slice.
 """
 
 from collections.abc import Sequence
