@@ -16,11 +16,12 @@ from inputs.case import CERTIFICATE_FILE, DESCRIPTION_FILE, SAVED_FILE, Case
 from judging import Ended, Files, Judge, counted
 from judging_generated import GenerationJudge
 from judging_migrations import MigrationJudge
+from pgvmodel import going
 from pgvmodel.answers import CERTIFICATE, DESCRIPTION, IMAGE, SAVED, SOURCE, Answer
 from pgvmodel.command import SAVING, Answered, Generation, Migration, Search, answer, on_full_output
 from pgvmodel.deciding import Solver
 from pgvmodel.error_lines import NO_OUTPUT, fits_refusal
-from pgvmodel.questions import NotModelled, Questions
+from pgvmodel.questions import NotModelled, Questions, is_side
 from pgvmodel.words import SWITCHED_ON
 
 FULL = "/dev/full"
@@ -32,8 +33,10 @@ SECONDS = 120
 REFUSED_FILES = (DESCRIPTION, IMAGE, CERTIFICATE, SOURCE, SAVED)
 """Statuses of which the class of the fault is told beside."""
 
-WATCHED = (*SAVING, "run", "hybrid", "nest", "asm", "disasm", "resume")
+WATCHED = (*SAVING, "run", "hybrid", "nest", "asm", "disasm", "resume", going.NAME)
 """Commands whose files are looked at behind a run: some may change, or none of many."""
+
+CHANGED = b"other files were changed, or saved"
 
 MOST_KEPT = 20
 """Differences of a round that are kept; further ones are counted only."""
@@ -75,6 +78,11 @@ def beside(model: Answer, program: Outcome, longest: int) -> Outcome:
 def with_saved(model: Answer, before: Files | None) -> Files | None:
     """The files that are there behind a run: those before it, and the one that it saves, if it does."""
     return before if model.saved is None else {**before, normpath(model.saved.name): model.saved.content}
+
+
+def _is_of_side(words: Sequence[str]) -> bool:
+    """Whether the words call a side program: its name is the first of them."""
+    return bool(words) and words[0] == going.NAME
 
 
 def _failed() -> Outcome:
@@ -195,14 +203,25 @@ class Comparison:
         return bool(name)
 
     def by_model(self, case: Case) -> Answered | Outcome | None:
-        """None where the model has no answer; an outcome where it failed."""
+        """None where the model has no answer; an outcome where it failed, and of a side program."""
         try:
+            if _is_of_side(case.words):
+                return self.by_side_model(case)
             answered = answer(case.words, self.load, self.questions, self.can_save, self.on)
             return on_full_output(answered) if case.is_full else answered
         except NotModelled:
             return None
         except Exception:  # a fault of the model is a difference too, and its input is wanted
             return _failed()
+
+    def by_side_model(self, case: Case) -> Outcome:
+        """The outcome of `pg_go`, of which nothing on standard error is compared."""
+        if not is_side(self.questions.program):
+            raise NotModelled
+        answered = going.answer(case.words[1:], self.load, self.questions)
+        if case.is_full:
+            answered = on_full_output(answered)
+        return Outcome(answered.status, answered.output, b"")
 
     def compared(self, model: Answered | Outcome, program: Outcome, before: Mapping[str, bytes | None] | None) -> Outcome:
         """What the model has to say of a run: the same outcome, where nothing is wrong with it.
@@ -215,10 +234,10 @@ class Comparison:
             if after != before:
                 self.placed = None
         if isinstance(model, Outcome):
-            return model
+            return model if after == before else model._replace(errors=CHANGED)
         if isinstance(model, Answer):
             outcome = beside(model, program, self.longest())
-            return outcome if after == with_saved(model, before) else outcome._replace(errors=b"other files were changed, or saved")
+            return outcome if after == with_saved(model, before) else outcome._replace(errors=CHANGED)
         ended = Ended(program.status, program.output)
         try:
             complaints = list(self.judges[type(model)].complaints(model, ended, before, after, self))
@@ -263,10 +282,11 @@ class Comparison:
         return Ended(program.status, program.output + (b"" if words else program.errors))
 
     def by_program(self, words: Sequence[str], folder: Path, is_full: bool = False) -> Outcome:
+        of_side = _is_of_side(words)
         with open(FULL if is_full else os.devnull, "wb") as full:
             try:
                 ended = subprocess.run(
-                    [self.program, *words],
+                    [self.questions.program if of_side else self.program, *words],
                     cwd=folder,
                     stdin=subprocess.DEVNULL,
                     stdout=full if is_full else subprocess.PIPE,
@@ -276,7 +296,7 @@ class Comparison:
                 )
             except subprocess.TimeoutExpired:
                 return Outcome(None, b"", b"")
-        return Outcome(ended.returncode, ended.stdout or b"", ended.stderr)
+        return Outcome(ended.returncode, ended.stdout or b"", b"" if of_side else ended.stderr)
 
     def keep(self, folder: Path, case: Case, program: Outcome, model: Outcome) -> Difference:
         """Keeps the files, the words, and what either wrote."""

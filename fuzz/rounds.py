@@ -8,7 +8,7 @@ from random import Random
 
 from inputs import (
     certificates, checks, command_lines, depths, further_guests, further_lines, generations, guests, large, limits, lines, patterns,
-    saved_texts, sources, tampered, windows,
+    saved_texts, sources, still_guests, tampered, windows,
 )
 from inputs.case import DESCRIPTION_FILE, Case, printing, running_bare
 from inputs.checker import Means
@@ -268,6 +268,7 @@ ROUNDS = (
     CheckedRound("guest-hybrids", guests.hybrids),
     CheckedRound("guest-certificates", guests.certified),
     CheckedListRound("guest-rows", guests.rows),
+    CheckedRound("still-guests", still_guests.still_guests),
     RandomRound("operators", operators),
     QuestionRound("certificates", certificates.certificates),
     QuestionRound("spoiled-certificates", certificates.spoiled_certificates),

@@ -41,19 +41,19 @@ class Asked(NamedTuple):
 
 def run(asked: Asked) -> Answer:
     """The room for all guests, the images in order, the certificate and what it comes to, then the run."""
-    storages = _storages(asked)
+    storages = storages_of(asked)
     ask_to_accept(asked.description, asked.file(1), asked.world.question(asked.text))
     return _guests(asked, storages, run_guest)
 
 
 def hybrid(asked: Asked) -> Answer:
     """The same, by a certificate of the hybrid family; the hardware makes the turns that begin in user mode alone."""
-    storages = _storages(asked)
+    storages = storages_of(asked)
     ask_to_accept(asked.description, asked.file(1), asked.world.question(asked.text), HYBRID)
     return _guests(asked, storages, run_hybrid_guest)
 
 
-def _storages(asked: Asked) -> list[list[int]]:
+def storages_of(asked: Asked) -> list[list[int]]:
     """The cells of all guests, for which there has to be room."""
     names, grant = asked.words.files[2:], asked.number("grant")
     ask_for_room(len(names) * grant, asked.description.size - MONITOR_CELLS)

@@ -52,9 +52,14 @@ class Questions:
         return read_formula(ended.stdout)
 
 
+def is_side(program: Path | None) -> bool:
+    """Whether it is `pg_side`, which takes the name of the program that is meant as its first word."""
+    return program is not None and program.name == "pg_side"
+
+
 def asking(program: Path) -> list[str | Path]:
-    """The words that begin a call: `pg_side` takes the name of the program that is meant as its first word."""
-    return [program, "pg_dimacs"] if program.name == "pg_side" else [program]
+    """The words that begin a call."""
+    return [program, "pg_dimacs"] if is_side(program) else [program]
 
 
 def read_formula(text: bytes) -> list[Clause]:

@@ -103,20 +103,20 @@ class Request(NamedTuple):
     saved: str | None = None
 
 
-class _Refused(Exception):
+class RefusedWords(Exception):
     """The words are none that the program takes."""
 
 
 def request(words: Sequence[str], on: Collection[str] = SWITCHED_ON) -> Request | None:
     """What the words ask for of a command that is on, or None where they are refused. Bytes that are no UTF-8 are surrogates."""
-    if not words or words[0] not in FORMS or words[0] not in on or not all(map(_is_text, words)):
+    if not words or words[0] not in FORMS or words[0] not in on or not all(map(is_text, words)):
         return None
     form = FORMS[words[0]]
     try:
         files, given = _sorted_out(words[1:], (*form.options, *form.others))
         spelled = {**given, **dict(zip(form.numbers, files))}
-        numbers = {name: _number(text, RANGES[name]) for name, text in spelled.items() if name in RANGES}
-    except _Refused:
+        numbers = {name: allowed_number(text, RANGES[name]) for name, text in spelled.items() if name in RANGES}
+    except RefusedWords:
         return None
     if not form.takes(len(files)) or any(name not in given for name in form.options):
         return None
@@ -136,10 +136,10 @@ def _sorted_out(words: Sequence[str], wanted: Sequence[str]) -> tuple[list[str],
         elif word.startswith("--"):
             name, joined, value = word[2:].partition("=")
             if name not in wanted or name in given:
-                raise _Refused
+                raise RefusedWords
             given[name] = value if joined else _behind(next(rest, "--"))
         elif _is_dashed(word):
-            raise _Refused
+            raise RefusedWords
         else:
             files.append(word)
     return files, given
@@ -148,7 +148,7 @@ def _sorted_out(words: Sequence[str], wanted: Sequence[str]) -> tuple[list[str],
 def _behind(word: str) -> str:
     """A word behind an option is its value, where it does not look like an option itself."""
     if _is_dashed(word):
-        raise _Refused
+        raise RefusedWords
     return word
 
 
@@ -157,14 +157,14 @@ def _is_dashed(word: str) -> bool:
     return word.startswith("-") and word != "-"
 
 
-def _is_text(word: str) -> bool:
+def is_text(word: str) -> bool:
     """Whether the word came from UTF-8."""
     return not any("\ud800" <= character <= "\udfff" for character in word)
 
 
-def _number(text: str, allowed: range) -> int:
+def allowed_number(text: str, allowed: range) -> int:
     """A number that is allowed; a plus sign and leading zeros may stand before it."""
     match = _DIGITS.fullmatch(text)
     if match is None or int(match[1]) not in allowed:
-        raise _Refused
+        raise RefusedWords
     return int(match[1])

@@ -1,0 +1,189 @@
+#!/usr/bin/env python3
+"""Runs of `pg_go` beside what the model has to answer, worked out by hand; and a monitor with rounds of slices beside the model.
+
+The model finds how many turns a guest has by its first still state alone. Here the turns are made, on one storage, by the monitor
+of `check_runs.py`. Ends with 0 where all is so.
+"""
+
+import argparse
+import sys
+from collections import Counter
+from random import Random
+from typing import NamedTuple
+
+sys.dont_write_bytecode = True  # before the modules of this folder are read, so that it holds sources only
+
+from check_runs import (
+    EMPTY, OPEN, REFUSED_TEXT, Line, Monitor, _Square, accepting, as_text, load, made_edges, made_system, made_tame, monitor, told,
+)
+from inputs.guest_rows import CAUSES, MACHINE
+from pgvmodel.answers import Answer
+from pgvmodel.going import MOST_STEPS, USAGE, Gone, answer, gone
+from pgvmodel.machine import base_of
+
+HERE = b"2: 02000002\n"
+SECOND = b"2: 01050505 02000003 00000000 00000001\n"
+THIRD = b"2: 01050505 01050505 02000004 00000001\n"
+PAIR = b"2: 02000003 02000002\n"
+TRAPS = b"1: 00020008 03000000\n"
+BACK = b"1: 00040008 03000000 00000000 02000002\n"
+"""Jumps to themselves at once, after one sum and after two; two jumps; a trap into itself; and one whose handler leads back."""
+
+
+class Row(NamedTuple):
+    """A machine that is accepted, its guests, what is told of each behind its number, and how many steps and direct ones.
+
+    Steps of None are left out.
+    """
+
+    description: bytes
+    images: tuple[bytes, ...]
+    grant: int
+    steps: int | None
+    slice: int
+    told: tuple[str, ...]
+    turns: int
+    direct: int
+
+
+ROWS = (
+    # The first step changes nothing, and the rest of the slice is done; it ends with the steps where these are fewer.
+    Row(MACHINE, (HERE,), 8, None, 1000, ("still after 0 steps",), 1000, 1000),
+    Row(MACHINE, (HERE,), 8, 5, 1000, ("still after 0 steps",), 5, 5),
+    Row(MACHINE, (HERE,), 8, 1, 1, ("still after 0 steps",), 1, 1),
+    # No step was done that changes nothing.
+    Row(MACHINE, (HERE,), 8, 0, 1, ("after 0 steps",), 0, 0),
+    Row(MACHINE, (SECOND,), 8, 1, 1, ("after 1 steps",), 1, 1),
+    Row(MACHINE, (THIRD,), 8, 2, 3, ("after 2 steps",), 2, 2),
+    # Still behind the last step of a slice: the step that shows it is the first one of the next slice.
+    Row(MACHINE, (SECOND,), 8, None, 1, ("still after 1 steps",), 2, 2),
+    Row(MACHINE, (SECOND,), 8, None, 2, ("still after 1 steps",), 2, 2),
+    Row(MACHINE, (THIRD,), 8, None, 2, ("still after 2 steps",), 4, 4),
+    Row(MACHINE, (THIRD,), 8, 3, 2, ("still after 2 steps",), 3, 3),
+    Row(MACHINE, (THIRD,), 8, None, 3, ("still after 2 steps",), 3, 3),
+    # Two states in turn.
+    Row(MACHINE, (PAIR,), 8, 5, 2, ("after 5 steps",), 5, 5),
+    # svc at 2 stores (s, 2, (0, 8)), jmp 2 at 4 goes back; the sixth step is the third jump.
+    Row(MACHINE, (BACK,), 8, 6, 4, ("after 6 steps",), 6, 3),
+    # The first trap stores (s, 2, ..) and loads (s, 0, (0, 0)), which the second stores: a word of zeros, as all later ones.
+    Row(MACHINE, (b"",), 2, None, 1, ("still after 2 steps",), 3, 0),
+    # The first trap stores what all later ones store; or it stands there already.
+    Row(MACHINE, (TRAPS,), 8, None, 1, ("still after 1 steps",), 2, 0),
+    Row(MACHINE, (b"0: 00020008\n" + TRAPS,), 8, None, 1, ("still after 0 steps",), 1, 0),
+    # The first trap stores supervisor mode, and all later ones user mode.
+    Row(MACHINE, (b"1: 01020008 03000000\n",), 8, None, 1, ("still after 2 steps",), 3, 0),
+    # With causes: a word that means nothing is 06, whether the cell held that or the same without a cause.
+    Row(CAUSES, (b"0: 06020004 00020004\n",), 4, None, 2, ("still after 0 steps",), 2, 0),
+    Row(CAUSES, (b"0: 00020004 00020004\n",), 4, None, 2, ("still after 1 steps",), 2, 0),
+    # The handler of svc adds, and stops with a jump to itself.
+    Row(MACHINE, (b"1: 00040008 03000000\n4: 01070700 02000005\n",), 8, None, 3, ("still after 2 steps",), 3, 2),
+    # Turns of 2, of 2, 2 and 1, and of 2 and 2.
+    Row(MACHINE, (HERE, PAIR, b""), 8, 5, 2, ("still after 0 steps", "after 5 steps", "still after 2 steps"), 11, 7),
+)
+
+USED = Answer(3, USAGE.encode())
+
+LINES = (
+    Line("m c e --grant 2 --steps 0", told(0, "guest 0", "after 0 steps", *EMPTY, "steps 0 direct 0")),
+    Line("--slice 1 m --grant 2 c e", told(0, "guest 0", "still after 2 steps", "size 2", "psw s 0 0 0", "steps 3 direct 0")),
+    Line(
+        f"m c --steps {MOST_STEPS} e --grant +02",
+        told(0, "guest 0", "still after 2 steps", "size 2", "psw s 0 0 0", "steps 1000 direct 0"),
+    ),
+    Line("--help m", Answer(0, USAGE.encode())),
+    # The words: options of two words, each once, and three to ten files.
+    *(Line(words, USED) for words in ("", "m c --grant 2", "m c e", "m c e --grant", "m c e --grant=2", "m c e -- --grant 2")),
+    *(Line(f"m c e --grant 2 {more}", USED) for more in ("-", "-x", "--help", "--budget 3", "--grant 2", "e e e e e e e e")),
+    *(Line(f"m c e --grant {grant}", USED) for grant in ("1", "1048576", "-2", "x")),
+    *(Line(f"m c e --grant 2 --steps {steps}", USED) for steps in (MOST_STEPS + 1, "--slice", "-1")),
+    *(Line(f"m c e --grant 2 --slice {slice_}", USED) for slice_ in (0, 1_000_001)),
+    # The description, the room, the images in order, the certificate and what it comes to.
+    Line("none none none --grant 63", Answer(11, b"")),
+    Line("dir none none --grant 63", Answer(8, b"")),
+    Line("bad none none --grant 63", told(4, "description: grammar 9")),
+    Line("m none none --grant 63", told(7, "room 63 62")),
+    Line("m none none none --grant 32", told(7, "room 64 62")),
+    Line("m none none --grant 62", Answer(11, b"")),
+    Line("m none e i twice short --grant 8", told(5, "image 2: overlap 2")),
+    Line("m none i --grant 6", Answer(11, b"")),
+    Line("m dir i --grant 6", Answer(8, b"")),
+    Line("m hybrid i --grant 6", told(6, "certificate: grammar 1")),
+    Line("m o i --grant 6", OPEN),
+    Line("r rc e e --grant 6", told(1, *REFUSED_TEXT)),
+)
+
+
+def wrong_rows() -> list[str]:
+    """Rows and lines that are answered otherwise. Of a row's text the lines of states are left out."""
+    wrong = []
+    for row in ROWS:
+        names = [f"i{number}" for number in range(len(row.images))]
+        files = {"d": row.description, "c": accepting(row.description), **dict(zip(names, row.images))}
+        steps = () if row.steps is None else ("--steps", str(row.steps))
+        words = ("d", "c", *names, "--grant", str(row.grant), *steps, "--slice", str(row.slice))
+        found = answer(words, files.__getitem__, _Square())
+        lines = [line for line in found.output.decode().splitlines() if line.startswith(("guest", "still", "after", "steps"))]
+        due = [line for number, told_ in enumerate(row.told) for line in (f"guest {number}", told_)]
+        if (found.status, lines) != (0, [*due, f"steps {row.turns} direct {row.direct}"]):
+            wrong.append(f"{row}: {found}")
+    for line in LINES:
+        found = answer(line.words.split(), load, _Square())
+        if found != line.answer:
+            wrong.append(f"{line.words}: {found}, and not {line.answer}")
+    return wrong
+
+
+def by_rounds(run: Monitor, steps: int, slice_: int) -> list[tuple[int | None, int]]:
+    """Slices of turns go round, until each guest was found still or had its steps: behind how many it is, and its turns."""
+    guests = range(len(run.virtual))
+    found: list[int | None] = [None for _ in guests]
+    made = [0 for _ in guests]
+    while any(found[number] is None and made[number] < steps for number in guests):
+        for number in guests:
+            if found[number] is not None:
+                continue
+            for _ in range(min(slice_, steps - made[number])):
+                before = run.guest(number)
+                run.turn(number)
+                if found[number] is None and run.guest(number) == before:
+                    found[number] = made[number]
+                made[number] += 1
+    return list(zip(found, made))
+
+
+def wrong_monitors(count: int, counts: Counter[str]) -> list[str]:
+    """Runs of a monitor whose guests come to other states than the model says, or by other turns."""
+    wrong = []
+    for i in range(count):
+        rng = Random(f"rounds {i}")
+        description, storages = rng.choice([made_tame, made_edges, made_system])(rng)
+        steps, slice_ = rng.choice([0, 1, 2, 3, 5, 20, 60, 60]), rng.choice([1, 1, 2, 3, 7, 60])
+        grant = len(storages[0])
+        alone = [gone(description, list(cells), base_of(n, grant), steps, slice_) for n, cells in enumerate(storages)]
+        run = monitor(description, storages)
+        ends = by_rounds(run, steps, slice_)
+        states = [run.guest(number) for number in range(len(storages))]
+        direct = sum(end.direct for end in alone)
+        if [_told(end) for end in alone] != ends or [end.state for end in alone] != states or direct != run.direct:
+            wrong.append(f"monitor {i}: {ends}, {run.direct} direct, and not {[_told(end) for end in alone]}, {direct} direct")
+        counts.update(guests=len(ends), still=sum(end.is_still for end in alone), turns=sum(end.turns for end in alone))
+    return wrong
+
+
+def _told(end: Gone) -> tuple[int | None, int]:
+    return end.steps if end.is_still else None, end.turns
+
+
+def main() -> int:
+    parser = argparse.ArgumentParser(description=__doc__, formatter_class=argparse.RawDescriptionHelpFormatter)
+    parser.add_argument("--tries", type=int, default=300, metavar="N", help="random runs of a monitor (default: %(default)s)")
+    tries = parser.parse_args().tries
+    counts: Counter[str] = Counter()
+    wrong = [*wrong_rows(), *wrong_monitors(tries, counts)]
+    told_counts = ", ".join(f"{number} {name}" for name, number in counts.items())
+    print("\n".join([*wrong, f"{len(ROWS) + len(LINES)} rows, {tries} monitors with {told_counts}; {len(wrong)} wrong"]))
+    return 1 if wrong else 0
+
+
+if __name__ == "__main__":
+    sys.exit(main())
