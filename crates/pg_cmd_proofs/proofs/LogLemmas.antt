@@ -16,7 +16,7 @@ use Rattle.pg_cert.specs.Validity.{IsValidFinding}
 use Rattle.pg_cert.proofs.Fits.{instr_within}
 use Rattle.pg_verify.specs.Verified.{IsValidOf}
 use Rattle.pg_migrate.proofs.MadeLemmas.{there}
-use Rattle.pg_cmd_proofs.specs.Exported.{AreTexts}
+use Rattle.pg_cmd_proofs.specs.Exported.{AreTexts, AreTextsAt}
 
 closed_of : (clauses : List (List ℤ)) (heading : Heading) (d : Desc) (i : Instr) (kind : Kind) (acts : List Act) →
     IsValidFinding clauses heading d i kind (Refuted acts) → IsClosedLog clauses acts
@@ -43,6 +43,10 @@ are_of d cert n instr kind clauses same_instr same_kind h =
     subst (λ k. (i : Instr) → slice_get d.instrs (instr_of cert.family n) ≡ Some i → clauses ≡ question d i k) same_kind
     (subst (λ j. (i : Instr) → slice_get d.instrs j ≡ Some i → clauses ≡ question d i kind) same_instr h)
 
-pub are_texts : (d : Desc) (cert : Cert) (n : ℕ) (clauses : List (List ℤ)) (log text : List ℕ) → AreOf d cert n clauses → AreTexts clauses log text →
-    (i : Instr) → slice_get d.instrs (instr_of cert.family n) ≡ Some i → AreTexts (question d i (kind_of cert.family n)) log text
-are_texts d cert n clauses log text same known = λ i at. subst (λ cs. AreTexts cs log text) (same i at) known
+pub are_texts_at : (d : Desc) (cert : Cert) (n : ℕ) (acts : List Act) (clauses : List (List ℤ)) (log text : List ℕ) →
+    slice_get cert.findings n ≡ Some (Refuted acts) → AreOf d cert n clauses → AreTexts clauses acts log text → AreTextsAt d cert n log text
+are_texts_at d cert n acts clauses log text found same known = record {
+  acts = acts;
+  found = found;
+  texts = λ i at. subst (λ cs. AreTexts cs acts log text) (same i at) known;
+}

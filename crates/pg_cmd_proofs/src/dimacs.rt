@@ -4,12 +4,15 @@
 //!
 //! KIND is `privileged`, `control`, `mode`, `location`, `bound`, `ucontrol`, `ulocation` or `ubound`. What is written is a
 //! formula in the format DIMACS CNF, which can be true exactly where two states show the kind of the instruction (`pg_formula`).
-//! Refusals have the lines and statuses of `pgv`, and where the clauses are written the status is 0. The words are read in `request`.
+//! Refusals have the lines and statuses of `pgv`, and where the clauses are written the status is 0 (*EndsDimacs*,
+//! `specs/Exported.antt`). The words are read in `request`.
 
-ghost use Rattle.std.specs.Prelude.{◌≡◌, ◌<◌, length, slice_get, Some, IfOk};
+ghost use Rattle.std.specs.Prelude.{◌≡◌, ◌<◌, length, map, slice_get, string_bytes, Some, IfOk, OnOk};
 ghost use Rattle.pg_ast.specs.declared.tree.Instr.{Instr as Instrs};
 ghost use Rattle.pg_ask.specs.Question.{question};
 ghost use Rattle.pg_formula.specs.Dimacs.{IsQuestionText};
+ghost use Rattle.pg_steps.specs.Answering.{OnlyReads};
+ghost use Rattle.pg_cmd_proofs.specs.Exported.{EndsDimacs, IsDimacs, IsOfMachine, PutsDimacs};
 
 mod request;
 
@@ -35,26 +38,40 @@ pub fn run<F: Shelf, S: Sink, W: StopWatcher + WordsWatcher>(
     shelf: &mut F,
     out: &mut S,
     watcher: &mut W,
-) -> u8 {
-    let shown = show(alloc, words, shelf, out);
-    ended(alloc, USAGE, shown, out, watcher)
+) -> u8
+    ensures done { result ≡ 0 → EndsDimacs (map string_bytes words.now) (F.files shelf.old) (S.written out.old) (S.written out.new) }
+    ensures reads { OnlyReads F.Shelf shelf.old shelf.new }
+{
+    let Some(request) = asked_by(words) else {
+        return ended(alloc, USAGE, Err(Stop::Words), out, watcher);
+    };
+    match show(alloc, &request, shelf, out) {
+        Ok(()) => 0,
+        Err(stop) => ended(alloc, USAGE, Err(stop), out, watcher),
+    }
 }
 
-/// Puts the clauses of the question that the words ask for. The answer is the status.
+/// Puts the clauses of the question that is asked for.
 fn show<F: Shelf, S: Sink>(
     alloc: Global,
-    words: &[String],
+    request: &Request<'_>,
     shelf: &mut F,
     out: &mut S,
-) -> Result<u8, Stop> {
-    let request = asked_by(words).ok_or(Stop::Words)?;
-    let text = load(alloc, shelf, &request)?;
-    put(out, text.as_slice())?;
-    Ok(0)
+) -> Result<(), Stop>
+    ensures puts { OnOk result (PutsDimacs (F.files shelf.old) request.now (S.written out.old) (S.written out.new)) }
+    ensures reads { OnlyReads F.Shelf shelf.old shelf.new }
+{
+    match load(alloc, shelf, request) {
+        Ok(text) => put(out, text.as_slice()),
+        Err(stop) => Err(stop),
+    }
 }
 
-/// The question that the words ask for, as text.
-fn load<F: Shelf>(alloc: Global, shelf: &mut F, request: &Request<'_>) -> Result<Vec<u8>, Stop> {
+/// The question that is asked for, as text.
+fn load<F: Shelf>(alloc: Global, shelf: &mut F, request: &Request<'_>) -> Result<Vec<u8>, Stop>
+    ensures is_dimacs { IfOk result (λ text. IsDimacs (F.files shelf.old) request.now text.items) }
+    ensures reads { OnlyReads F.Shelf shelf.old shelf.new }
+{
     let name = file_name(alloc, request.names.file)?;
     match machine(alloc, shelf, &name) {
         Ok(machine) => written_of(alloc, &machine, request),
@@ -63,7 +80,9 @@ fn load<F: Shelf>(alloc: Global, shelf: &mut F, request: &Request<'_>) -> Result
 }
 
 /// The same of a machine.
-fn written_of(alloc: Global, machine: &Machine, request: &Request<'_>) -> Result<Vec<u8>, Stop> {
+fn written_of(alloc: Global, machine: &Machine, request: &Request<'_>) -> Result<Vec<u8>, Stop>
+    ensures { IfOk result (λ text. IsOfMachine machine.now.desc request.now text.items) }
+{
     match find(machine, request.names.instr) {
         Some(instr) => Ok(written(alloc, machine, instr, request)?),
         None => Err(Stop::Lacking(Lacking::Instr)),

@@ -3,13 +3,19 @@
 //!     pg_export DESC CERT INSTR KIND [--cnf FILE]
 //!
 //! CERT is a certificate of the description in DESC, of either family. It is verified whole, and made anew as `pgv migrate` makes
-//! it, before anything is written. The log of the finding of INSTR and KIND is written in the format LRAT, and under `--cnf` the
+//! it, before anything is written. The log that it has of INSTR and KIND is written in the format LRAT, and under `--cnf` the
 //! clauses that it refutes are saved, as `pg_dimacs` writes them (`pg_formula`). A finding that has no log is told in a line.
 //!
-//! The status is 0 where the log is written; refusals are those of `pgv`. The words are read in `request`, and the texts made in
-//! `making`.
+//! The status is 0 where the log is written (*EndsExported*, `specs/Exported.antt`); refusals are those of `pgv`. The words are
+//! read in `request`, and the texts made in `making`.
 
+ghost use Rattle.std.specs.Prelude.{◌≡◌, ◌≤◌, map, string_bytes, IfOk, OnOk};
+ghost use Rattle.pg_edge.specs.Sink.{Adds};
+ghost use Rattle.pg_edge.specs.Told.{BothTold};
 ghost use Rattle.pg_imported.specs.Imported.{IsOfText};
+ghost use Rattle.pg_steps.specs.Answering.{OnlyReads};
+ghost use Rattle.pg_cmd_proofs.specs.Exported.{AreTextsOf, AsksExport, EndsExported, IsExport, IsExported, IsOfCert, SavesBeside, SavesNoOther};
+ghost use Rattle.pg_cmd_proofs.specs.declared.export.request.Request.{Request as Requests};
 
 mod making;
 mod request;
@@ -19,7 +25,7 @@ use crate::export::request::{Request, asked_by};
 use pg_asked::FileName;
 use pg_cert::Cert;
 use pg_cli_says::{Lacking, WordsWatcher};
-use pg_cmd_told::files::{certificate, file_name, machine, put, save};
+use pg_cmd_told::files::{certificate, file_name, find, machine, put, save};
 use pg_cmd_told::{Stop, ended};
 use pg_edge::{Shelf, Sink};
 use pg_imported::place_of;
@@ -37,29 +43,69 @@ pub fn run<F: Shelf, S: Sink, W: StopWatcher + WordsWatcher>(
     shelf: &mut F,
     out: &mut S,
     watcher: &mut W,
-) -> u8 {
-    let told = export(alloc, words, shelf, out);
-    ended(alloc, USAGE, told, out, watcher)
+) -> u8
+    ensures done { result ≡ 0 → EndsExported (map string_bytes words.now) (F.files shelf.old) (F.files shelf.new)
+        (S.written out.old) (S.written out.new) }
+    ensures others { (r : Requests) → AsksExport (map string_bytes words.now) r → SavesNoOther r (F.files shelf.old) (F.files shelf.new) }
+{
+    let Some(request) = asked_by(words) else {
+        return ended(alloc, USAGE, Err(Stop::Words), out, watcher);
+    };
+    match export(alloc, &request, shelf, out) {
+        Ok(()) => 0,
+        Err(stop) => ended(alloc, USAGE, Err(stop), out, watcher),
+    }
 }
 
-/// Puts the log that the words ask for, and saves the clauses before it, where they ask for it. The answer is the status.
+/// Puts the log that is asked for, and saves the clauses before it, where they are asked for too.
 fn export<F: Shelf, S: Sink>(
     alloc: Global,
-    words: &[String],
+    request: &Request<'_>,
     shelf: &mut F,
     out: &mut S,
-) -> Result<u8, Stop> {
-    let request = asked_by(words).ok_or(Stop::Words)?;
-    let texts = load(alloc, shelf, &request)?;
-    if let Some(file) = request.cnf {
-        save(shelf, file, texts.clauses.as_slice())?;
+) -> Result<(), Stop>
+    ensures exported { OnOk result (IsExported request.now (F.files shelf.old) (F.files shelf.new) (S.written out.old) (S.written out.new)) }
+    ensures others { SavesNoOther request.now (F.files shelf.old) (F.files shelf.new) }
+{
+    match load(alloc, shelf, request) {
+        Ok(texts) => tell(shelf, out, request, &texts),
+        Err(stop) => Err(stop),
     }
-    put(out, texts.log.as_slice())?;
-    Ok(0)
+}
+
+/// Saves the clauses, where they are asked for, and puts the log.
+fn tell<F: Shelf, S: Sink>(
+    shelf: &mut F,
+    out: &mut S,
+    request: &Request<'_>,
+    texts: &Texts,
+) -> Result<(), Stop>
+    ensures saved { OnOk result (SavesBeside request.now texts.now.clauses.items (F.files shelf.old) (F.files shelf.new)) }
+    ensures put { OnOk result (BothTold (S.written out.old) (S.written out.new) (Adds texts.now.log.items)) }
+    ensures others { SavesNoOther request.now (F.files shelf.old) (F.files shelf.new) }
+{
+    match save_beside(shelf, request, texts.clauses.as_slice()) {
+        Ok(()) => put(out, texts.log.as_slice()),
+        Err(stop) => Err(stop),
+    }
+}
+
+/// Saves clauses where the words name a file for them.
+fn save_beside<F: Shelf>(shelf: &mut F, request: &Request<'_>, text: &[u8]) -> Result<(), Stop>
+    ensures saved { OnOk result (SavesBeside request.now text.now (F.files shelf.old) (F.files shelf.new)) }
+    ensures others { SavesNoOther request.now (F.files shelf.old) (F.files shelf.new) }
+{
+    match request.cnf {
+        None => Ok(()),
+        Some(file) => save(shelf, file, text),
+    }
 }
 
 /// The texts of the finding that the words ask for.
-fn load<F: Shelf>(alloc: Global, shelf: &mut F, request: &Request<'_>) -> Result<Texts, Stop> {
+fn load<F: Shelf>(alloc: Global, shelf: &mut F, request: &Request<'_>) -> Result<Texts, Stop>
+    ensures is_export { IfOk result (IsExport (F.files shelf.old) request.now) }
+    ensures reads { OnlyReads F.Shelf shelf.old shelf.new }
+{
     let desc = file_name(alloc, request.names.file)?;
     let cert = file_name(alloc, request.cert)?;
     match machine(alloc, shelf, &desc) {
@@ -75,7 +121,11 @@ fn load_beside<F: Shelf>(
     request: &Request<'_>,
     machine: &Machine,
     cert: &FileName,
-) -> Result<Texts, Stop> {
+) -> Result<Texts, Stop>
+    requires cert { cert.now ≡ request.now.cert.now }
+    ensures of_cert { IfOk result (IsOfCert (F.files shelf.old) machine.now.desc request.now) }
+    ensures reads { OnlyReads F.Shelf shelf.old shelf.new }
+{
     match certificate(alloc, shelf, machine, cert) {
         Ok(migrated) => texts_asked(alloc, machine, &migrated.cert, request),
         Err(stop) => Err(stop),
@@ -90,8 +140,9 @@ fn texts_asked(
     request: &Request<'_>,
 ) -> Result<Texts, Stop>
     requires { IsOfText machine.now.desc cert.now }
+    ensures { IfOk result (AreTextsOf machine.now.desc cert.now request.now) }
 {
-    let Some(instr) = machine.find(request.names.instr) else {
+    let Some(instr) = find(machine, request.names.instr) else {
         return Err(Stop::Lacking(Lacking::Instr));
     };
     match place_of(cert, instr, request.kind) {

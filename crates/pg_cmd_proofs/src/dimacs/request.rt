@@ -1,5 +1,8 @@
 //! What the words of the command line ask for.
 
+ghost use Rattle.std.specs.Prelude.{map, string_bytes, IfSome};
+ghost use Rattle.pg_cmd_proofs.specs.Exported.{AsksDimacs};
+
 use pg_cert::reading::kind;
 use pg_formula::Names;
 use pg_type::Kind;
@@ -14,7 +17,9 @@ pub struct Request<'a> {
 }
 
 /// The request of the words, the program's name first: `DESC INSTR KIND`. None where they are others.
-pub fn asked_by(words: &[String]) -> Option<Request<'_>> {
+pub fn asked_by(words: &[String]) -> Option<Request<'_>>
+    ensures { IfSome result (AsksDimacs (map string_bytes words.now)) }
+{
     let [_, file, instr, word] = words else {
         return None;
     };

@@ -1,13 +1,10 @@
 //! The texts of a finding that is refuted.
 
 ghost use Rattle.std.specs.Prelude.{◌≡◌, ◌<◌, length, slice_get, Some, IfOk};
-ghost use Rattle.pg_ast.specs.declared.tree.Instr.{Instr as Instrs};
-ghost use Rattle.pg_ask.specs.Question.{question};
 ghost use Rattle.pg_cert.specs.declared.cert.Finding.TheVariants.{Refuted};
-ghost use Rattle.pg_cert.specs.Texts.{instr_of, kind_of};
 ghost use Rattle.pg_imported.specs.Imported.{IsOfText};
 ghost use Rattle.pg_proof.specs.Log.{IsClosedLog};
-ghost use Rattle.pg_cmd_proofs.specs.Exported.{AreTexts};
+ghost use Rattle.pg_cmd_proofs.specs.Exported.{AreTexts, AreTextsAt};
 
 use pg_ask::{Asked, ask};
 use pg_cert::{Cert, Finding, instr_of, kind_of};
@@ -37,7 +34,7 @@ pub fn texts_at(
 ) -> Result<Texts, Stop>
     requires made { IsOfText machine.now.desc cert.now }
     requires there { place < length cert.now.findings }
-    ensures { IfOk result (λ t. (i : Instrs) → slice_get machine.now.desc.instrs (instr_of cert.now.family place) ≡ Some i → AreTexts (question machine.now.desc i (kind_of cert.now.family place)) t.log.items t.clauses.items) }
+    ensures { IfOk result (λ t. AreTextsAt machine.now.desc cert.now place t.log.items t.clauses.items) }
 {
     match &cert.findings.as_slice()[place] {
         Finding::Refuted(acts) => texts_of(alloc, machine, cert, place, acts, names),
@@ -57,7 +54,7 @@ fn texts_of(
 ) -> Result<Texts, Stop>
     requires made { IsOfText machine.now.desc cert.now }
     requires at { slice_get cert.now.findings place ≡ Some (Refuted acts.now) }
-    ensures { IfOk result (λ t. (i : Instrs) → slice_get machine.now.desc.instrs (instr_of cert.now.family place) ≡ Some i → AreTexts (question machine.now.desc i (kind_of cert.now.family place)) t.log.items t.clauses.items) }
+    ensures { IfOk result (λ t. AreTextsAt machine.now.desc cert.now place t.log.items t.clauses.items) }
 {
     let instr = instr_of(cert.family, place);
     let kind = kind_of(cert.family, place);
@@ -75,7 +72,7 @@ fn both_of(
     names: &Names<'_>,
 ) -> Result<Texts, Stop>
     requires { IsClosedLog asked.now.cnf.clauses acts.now }
-    ensures { IfOk result (λ t. AreTexts asked.now.cnf.clauses t.log.items t.clauses.items) }
+    ensures { IfOk result (λ t. AreTexts asked.now.cnf.clauses acts.now t.log.items t.clauses.items) }
 {
     // no log that was read is so long: it has a byte for each act
     if acts.len() >= 1 << 32 {

@@ -1,6 +1,6 @@
-use Rattle.std.proofs.Common.{sym, subst}
+use Rattle.std.proofs.Common.{sym, subst, ◌≡◌}
 use Rattle.pg_cnf.specs.declared.clause.Cnf.{Cnf}
-use Rattle.pg_formula.specs.Lrat.{IsLratText}
+use Rattle.pg_formula.specs.Lrat.{lrat_text}
 use Rattle.pg_proof.specs.Log.{IsClosedLog}
 use Rattle.pg_cmd_proofs.proofs.export.making.both_of.Goals as goal
 
@@ -9,6 +9,7 @@ lrat_of-requires-clause-closed c = subst (λ (x : Cnf). IsClosedLog x.clauses c.
 
 pub returns : goal.returns
 returns c = record {
-  refuted = subst (λ (x : Cnf). IsLratText x.clauses c.in_ok-log.log.items) c.cnf.ensures c.in_ok-log.ensures.closed;
+  refuted = c.requires;
+  logged = subst (λ (x : Cnf). c.in_ok-log.log.items ≡ lrat_text x.clauses c.args.acts.now) c.cnf.ensures c.in_ok-log.ensures.text;
   asked = c.in_ok-clauses.ensures;
 }
