@@ -1,5 +1,5 @@
 -- What `pg_dimacs` and `pg_export` tell.
-use Rattle.std.specs.Prelude.{◌≡◌, ℕ, ℤ, List, [], ◌∷◌, codes, Option, None, Some, slice_get}
+use Rattle.std.specs.Prelude.{◌≡◌, ◌⊎◌, ℕ, ℤ, List, [], ◌∷◌, codes, Option, None, Some, slice_get}
 use Rattle.pg_ask.specs.Question.{question}
 use Rattle.pg_ast.specs.declared.tree.Desc.{Desc}
 use Rattle.pg_ast.specs.declared.tree.Instr.{Instr}
@@ -102,6 +102,10 @@ SavesBeside r text was now = elim r.cnf [ None ↦ Unit {0} | Some file ↦ Both
 -- and no other file differs
 abbrev pub SavesNoOther : Request → (was now : Option Files) → Type 0
 SavesNoOther r was now = elim r.cnf [ None ↦ now ≡ was | Some file ↦ BothTold was now (SameBut file.now) ]
+
+-- whatever the words are: all files are as they were, or but for the one that they name for the clauses
+abbrev pub SavesNothingElse : List (List ℕ) → (was now : Option Files) → Type 0
+SavesNothingElse words was now = (now ≡ was) ⊎ ((r : Request) × AsksExport words r × SavesNoOther r was now)
 
 -- the clauses were saved where they were to be, and the log was put
 pub record IsExported (r : Request) (was now : Option Files) (old new : Option (List ℕ)) : Type 0 where

@@ -14,8 +14,7 @@ ghost use Rattle.pg_edge.specs.Sink.{Adds};
 ghost use Rattle.pg_edge.specs.Told.{BothTold};
 ghost use Rattle.pg_imported.specs.Imported.{IsOfText};
 ghost use Rattle.pg_steps.specs.Answering.{OnlyReads};
-ghost use Rattle.pg_cmd_proofs.specs.Exported.{AreTextsOf, AsksExport, EndsExported, IsExport, IsExported, IsOfCert, SavesBeside, SavesNoOther};
-ghost use Rattle.pg_cmd_proofs.specs.declared.export.request.Request.{Request as Requests};
+ghost use Rattle.pg_cmd_proofs.specs.Exported.{AreTextsOf, EndsExported, IsExport, IsExported, IsOfCert, SavesBeside, SavesNoOther, SavesNothingElse};
 
 mod making;
 mod request;
@@ -46,7 +45,7 @@ pub fn run<F: Shelf, S: Sink, W: StopWatcher + WordsWatcher>(
 ) -> u8
     ensures done { result ≡ 0 → EndsExported (map string_bytes words.now) (F.files shelf.old) (F.files shelf.new)
         (S.written out.old) (S.written out.new) }
-    ensures others { (r : Requests) → AsksExport (map string_bytes words.now) r → SavesNoOther r (F.files shelf.old) (F.files shelf.new) }
+    ensures others { SavesNothingElse (map string_bytes words.now) (F.files shelf.old) (F.files shelf.new) }
 {
     let Some(request) = asked_by(words) else {
         return ended(alloc, USAGE, Err(Stop::Words), out, watcher);
