@@ -53,6 +53,10 @@ LacksNamed w d = IsSomeAnd w.instr (λ name. instr_named d name ≡ None)
 
 -- ---- what is saved
 
+-- whatever the words are: no file differs, or but for one none does
+abbrev pub SavesAtMostOne : (was now : Option Files) → Type 0
+SavesAtMostOne was now = (saved : Option (List ℕ)) × SavesOnly saved was now
+
 -- nothing, or the description with guards under the name that is given; no other file differs
 abbrev pub MendsOnly : Option (List ℕ) → Judged → Option Files → Option Files → Type 0
 MendsOnly None j was now = now ≡ was

@@ -8,7 +8,7 @@ ghost use Rattle.pg_steps.specs.Answering.{OnlyReads};
 ghost use Rattle.pg_steps.specs.Classes.{class_of};
 ghost use Rattle.pg_steps.specs.Commands.{Carries};
 ghost use Rattle.pg_steps.specs.World.{SavesOnly, output};
-ghost use Rattle.pg_cmd_explain.specs.Explaining.{HaltTold, PutAs, beside, explain_command, explain_words, stated_as};
+ghost use Rattle.pg_cmd_explain.specs.Explaining.{HaltTold, PutAs, SavesAtMostOne, beside, explain_command, explain_words, stated_as};
 
 use crate::found::{Found, Halt, find};
 use crate::json::put_json;
@@ -42,7 +42,9 @@ pub fn run<F: Shelf, S: Sink, W: StopWatcher + WordsWatcher>(
     out: &mut S,
     layout: &mut Option<Layout>,
     watcher: &mut W,
-) -> u8 {
+) -> u8
+    ensures files { SavesAtMostOne (F.files shelf.old) (F.files shelf.new) }
+{
     match asked_by(words) {
         None => stated(put_text(out, USAGE), Status::Words).code(),
         Some(request) if request.is_json => {

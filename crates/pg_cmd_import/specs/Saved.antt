@@ -1,5 +1,5 @@
 -- What `pg_import` saves and tells.
-use Rattle.std.specs.Prelude.{◌≡◌, ℕ, ◌≤◌, List, [], ◌∷◌, ◌++◌, length, codes, string_bytes, Option, Some, Ok}
+use Rattle.std.specs.Prelude.{◌≡◌, ◌⊎◌, ℕ, ◌≤◌, List, [], ◌∷◌, ◌++◌, length, codes, string_bytes, Option, Some, Ok}
 use Rattle.std.specs.Fmt.{decimal}
 use Rattle.pg_ast.specs.declared.tree.Desc.{Desc}
 use Rattle.pg_type.specs.declared.kind.Kind.{Kind}
@@ -9,7 +9,7 @@ use Rattle.pg_cert.specs.declared.cert.Cert.{Cert}
 use Rattle.pg_cert.specs.declared.report.Report.{Report}
 use Rattle.pg_cert.specs.Reading.{read_kind}
 use Rattle.pg_cmd_saving.specs.Saving.{IsWritten, HoldsNow}
-use Rattle.pg_edge.specs.Shelf.{Files, CountsSave}
+use Rattle.pg_edge.specs.Shelf.{Files, SameBut, CountsSave}
 use Rattle.pg_edge.specs.Sink.{Adds}
 use Rattle.pg_edge.specs.Told.{BothTold}
 use Rattle.pg_imported.specs.Imported.{IsOfFile, IsPlaceOf, IsRightAt, IsReplaced}
@@ -44,6 +44,10 @@ pub record IsSavedText (d : Desc) (made : Cert) (instr : ℕ) (kind : Kind) (f :
   pub right : IsRightAt d made.family place f
   pub written : IsWritten d made.family text report
   pub replaced : IsReplaced d made place f written.cert
+
+-- whatever the words are: all files are as they were, or but for the one that they name for the new certificate
+abbrev pub SavesNothingElse : List (List ℕ) → (was now : Option Files) → Type 0
+SavesNothingElse words was now = (now ≡ was) ⊎ ((r : Request) × AsksImport words r × BothTold was now (SameBut r.file.now))
 
 -- the line that tells of a log of so many steps, and the one that tells of two states
 abbrev pub refuted_line : (instr word : List ℕ) → ℕ → List ℕ

@@ -11,8 +11,7 @@ ghost use Rattle.pg_steps.specs.Classes.{class_of};
 ghost use Rattle.pg_steps.specs.FileSteps.{HoldsWithin};
 ghost use Rattle.pg_steps.specs.World.{output};
 ghost use Rattle.pg_verify.specs.Taking.{instr_named};
-ghost use Rattle.pg_cmd_import.specs.Saved.{AsksImport, IsImport, IsImported, EndsImported, SavesOnce, ToldBehindAs};
-ghost use Rattle.pg_cmd_import.specs.declared.request.Request.{Request as Requests};
+ghost use Rattle.pg_cmd_import.specs.Saved.{IsImport, IsImported, EndsImported, SavesNothingElse, SavesOnce, ToldBehindAs};
 
 use crate::making::{Written, new_certificate};
 use crate::request::{Request, asked_by};
@@ -64,8 +63,7 @@ pub fn run<F: Shelf, S: Sink, W: StopWatcher + WordsWatcher>(
 ) -> u8
     ensures done { result ≤ 2 → EndsImported (map string_bytes words.now) (F.files shelf.old) (F.files shelf.new)
         (F.saves shelf.old) (F.saves shelf.new) (output S.Sink out.old) (output S.Sink out.new) result }
-    ensures others { (r : Requests) → AsksImport (map string_bytes words.now) r →
-        BothTold (F.files shelf.old) (F.files shelf.new) (SameBut r.file.now) }
+    ensures others { SavesNothingElse (map string_bytes words.now) (F.files shelf.old) (F.files shelf.new) }
 {
     let Some(request) = asked_by(words) else {
         return ended(alloc, USAGE, Err(Stop::Words), out, watcher);

@@ -6,7 +6,7 @@
 //! another solver wrote for the clauses that `pg_dimacs DESC INSTR KIND` writes: a proof that they cannot all be true, DRAT or LRAT,
 //! or its output with an assignment (`pg_foreign`). Nothing of it is believed: a proof is made a log that a checker takes
 //! (`pg_rup`), and an assignment is tried on all clauses (`answer`). The finding stands in FILE in place of that of CERT, all others
-//! as `pgv migrate` makes them (`pg_imported`); so `pgv verify` takes FILE, where it is within the limit of its length.
+//! as `pgv migrate` makes them (`pg_imported`); so a verifier of its family takes FILE, where it is within the limit of its length.
 //!
 //! On standard output stands what was imported, and the verdict of the new certificate, as `pgv verify` tells it. The status is
 //! that of the verdict: 0 accepted, 1 refused, 2 open; what is then left, of files and sink, is *EndsImported* (`specs/Saved.antt`).

@@ -1,9 +1,10 @@
 -- Words that are taken, one by one.
-use Rattle.std.proofs.Common.{◌≡◌, ℕ, ◌<◌, ◌≤◌, List, [], ◌∷◌, length, get_or, map, codes, Option, None, Some, sym, ◌∙◌, arith}
+use Rattle.std.proofs.Common.{◌≡◌, ℕ, ◌<◌, ◌≤◌, List, [], ◌∷◌, length, get_or, map, Option, None, Some, sym, ◌∙◌, arith}
+use Rattle.std.specs.Prelude.{option_copied}
 use Rattle.pg_cert.specs.Reading.{read_kind}
 use Rattle.pg_cmd_proofs.specs.declared.dimacs.request.Request.{Request as Question}
 use Rattle.pg_cmd_proofs.specs.declared.export.request.Request.{Request}
-use Rattle.pg_cmd_proofs.specs.Exported.{AsksDimacs, AsksExport}
+use Rattle.pg_cmd_proofs.specs.Exported.{AsksDimacs, AsksExport, option_words}
 
 module _ {X : Type 0} (text : X → List ℕ) (b c d : X) where
   -- four words, the first of which is any
@@ -43,6 +44,6 @@ module _ {X : Type 0} (text : X → List ℕ) (b c d e : X) where
       record {
         program = h.0;
         in_order = h.1
-            ∙ (λ i. h.0 ∷ sym file i ∷ sym cert i ∷ sym instr i ∷ sym word i ∷ elim (sym cnf i) [ None ↦ [] | Some name ↦ codes "--cnf" ∷ name.now ∷ [] ]);
+            ∙ (λ i. h.0 ∷ sym file i ∷ sym cert i ∷ sym instr i ∷ sym word i ∷ option_words (option_copied (sym cnf i)));
         is_kind = is_kind;
       }

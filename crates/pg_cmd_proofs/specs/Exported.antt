@@ -1,5 +1,5 @@
 -- What `pg_dimacs` and `pg_export` tell.
-use Rattle.std.specs.Prelude.{◌≡◌, ◌⊎◌, ℕ, ℤ, List, [], ◌∷◌, codes, Option, None, Some, slice_get}
+use Rattle.std.specs.Prelude.{◌≡◌, ◌⊎◌, ℕ, ℤ, List, [], ◌∷◌, codes, Option, None, Some, option_copied, slice_get}
 use Rattle.pg_ask.specs.Question.{question}
 use Rattle.pg_ast.specs.declared.tree.Desc.{Desc}
 use Rattle.pg_ast.specs.declared.tree.Instr.{Instr}
@@ -7,7 +7,7 @@ use Rattle.pg_cert.specs.declared.cert.Cert.{Cert}
 use Rattle.pg_cert.specs.declared.cert.Finding.TheVariants.{Refuted}
 use Rattle.pg_cert.specs.Reading.{read_kind}
 use Rattle.pg_cert.specs.Texts.{instr_of, kind_of}
-use Rattle.pg_edge.specs.Shelf.{Files, SameBut}
+use Rattle.pg_edge.specs.Shelf.{Files}
 use Rattle.pg_edge.specs.Sink.{Adds}
 use Rattle.pg_edge.specs.Told.{BothTold}
 use Rattle.pg_formula.specs.Dimacs.{IsQuestionText}
@@ -17,6 +17,7 @@ use Rattle.pg_inputs.specs.Descriptions.{DescDue}
 use Rattle.pg_proof.specs.declared.step.Act.{Act}
 use Rattle.pg_proof.specs.Log.{IsClosedLog}
 use Rattle.pg_steps.specs.Steps.{Came}
+use Rattle.pg_steps.specs.World.{SavesOnly}
 use Rattle.pg_verify.specs.Taking.{instr_named}
 use Rattle.pg_cmd_proofs.specs.declared.dimacs.request.Request.{Request as Question}
 use Rattle.pg_cmd_proofs.specs.declared.export.making.Texts.{Texts}
@@ -88,31 +89,32 @@ pub record IsExport (told : Option Files) (r : Request) (t : Texts) : Type 0 whe
   pub due : DescDue told r.names.file.now (Came desc)
   pub of_cert : IsOfCert told desc r t
 
+-- the words of the option for a file, where there is one
+abbrev pub option_words : Option (List ℕ) → List (List ℕ)
+option_words None = []
+option_words (Some file) = codes "--cnf" ∷ file ∷ []
+
 -- what the words ask for, of which the first is the program's name
 pub record AsksExport (words : List (List ℕ)) (r : Request) : Type 0 where
   pub program : List ℕ
-  pub in_order : words ≡ program ∷ r.names.file.now ∷ r.cert.now ∷ r.names.instr.now ∷ r.names.word.now
-      ∷ elim r.cnf [ None ↦ [] | Some file ↦ codes "--cnf" ∷ file.now ∷ [] ]
+  pub in_order : words ≡ program ∷ r.names.file.now ∷ r.cert.now ∷ r.names.instr.now ∷ r.names.word.now ∷ option_words (option_copied r.cnf)
   pub is_kind : read_kind r.names.word.now ≡ Some r.kind
 
--- where the words name a file for the clauses, it holds them
-abbrev pub SavesBeside : Request → List ℕ → (was now : Option Files) → Type 0
-SavesBeside r text was now = elim r.cnf [ None ↦ Unit {0} | Some file ↦ BothTold was now (λ _ files. files file.now ≡ Some text) ]
-
--- and no other file differs
-abbrev pub SavesNoOther : Request → (was now : Option Files) → Type 0
-SavesNoOther r was now = elim r.cnf [ None ↦ now ≡ was | Some file ↦ BothTold was now (SameBut file.now) ]
+-- the file of this name, if there is one, holds these clauses
+abbrev pub SavesClauses : Option (List ℕ) → List ℕ → (was now : Option Files) → Type 0
+SavesClauses None text was now = Unit {0}
+SavesClauses (Some file) text was now = BothTold was now (λ _ files. files file ≡ Some text)
 
 -- whatever the words are: all files are as they were, or but for the one that they name for the clauses
 abbrev pub SavesNothingElse : List (List ℕ) → (was now : Option Files) → Type 0
-SavesNothingElse words was now = (now ≡ was) ⊎ ((r : Request) × AsksExport words r × SavesNoOther r was now)
+SavesNothingElse words was now = (now ≡ was) ⊎ ((r : Request) × AsksExport words r × SavesOnly (option_copied r.cnf) was now)
 
 -- the clauses were saved where they were to be, and the log was put
 pub record IsExported (r : Request) (was now : Option Files) (old new : Option (List ℕ)) : Type 0 where
   pub texts : Texts
   pub of_files : IsExport was r texts
-  pub saved : SavesBeside r texts.clauses.items was now
-  pub others : SavesNoOther r was now
+  pub saved : SavesClauses (option_copied r.cnf) texts.clauses.items was now
+  pub others : SavesOnly (option_copied r.cnf) was now
   pub put : BothTold old new (Adds texts.log.items)
 
 -- and the words asked for it

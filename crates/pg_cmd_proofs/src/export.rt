@@ -9,12 +9,13 @@
 //! The status is 0 where the log is written (*EndsExported*, `specs/Exported.antt`); refusals are those of `pgv`. The words are
 //! read in `request`, and the texts made in `making`.
 
-ghost use Rattle.std.specs.Prelude.{◌≡◌, ◌≤◌, map, string_bytes, IfOk, OnOk};
+ghost use Rattle.std.specs.Prelude.{◌≡◌, map, option_copied, string_bytes, IfOk, OnOk};
 ghost use Rattle.pg_edge.specs.Sink.{Adds};
 ghost use Rattle.pg_edge.specs.Told.{BothTold};
 ghost use Rattle.pg_imported.specs.Imported.{IsOfText};
 ghost use Rattle.pg_steps.specs.Answering.{OnlyReads};
-ghost use Rattle.pg_cmd_proofs.specs.Exported.{AreTextsOf, EndsExported, IsExport, IsExported, IsOfCert, SavesBeside, SavesNoOther, SavesNothingElse};
+ghost use Rattle.pg_steps.specs.World.{SavesOnly};
+ghost use Rattle.pg_cmd_proofs.specs.Exported.{AreTextsOf, EndsExported, IsExport, IsExported, IsOfCert, SavesClauses, SavesNothingElse};
 
 mod making;
 mod request;
@@ -64,7 +65,7 @@ fn export<F: Shelf, S: Sink>(
     out: &mut S,
 ) -> Result<(), Stop>
     ensures exported { OnOk result (IsExported request.now (F.files shelf.old) (F.files shelf.new) (S.written out.old) (S.written out.new)) }
-    ensures others { SavesNoOther request.now (F.files shelf.old) (F.files shelf.new) }
+    ensures others { SavesOnly (option_copied request.now.cnf) (F.files shelf.old) (F.files shelf.new) }
 {
     match load(alloc, shelf, request) {
         Ok(texts) => tell(shelf, out, request, &texts),
@@ -79,9 +80,9 @@ fn tell<F: Shelf, S: Sink>(
     request: &Request<'_>,
     texts: &Texts,
 ) -> Result<(), Stop>
-    ensures saved { OnOk result (SavesBeside request.now texts.now.clauses.items (F.files shelf.old) (F.files shelf.new)) }
+    ensures saved { OnOk result (SavesClauses (option_copied request.now.cnf) texts.now.clauses.items (F.files shelf.old) (F.files shelf.new)) }
     ensures put { OnOk result (BothTold (S.written out.old) (S.written out.new) (Adds texts.now.log.items)) }
-    ensures others { SavesNoOther request.now (F.files shelf.old) (F.files shelf.new) }
+    ensures others { SavesOnly (option_copied request.now.cnf) (F.files shelf.old) (F.files shelf.new) }
 {
     match save_beside(shelf, request, texts.clauses.as_slice()) {
         Ok(()) => put(out, texts.log.as_slice()),
@@ -91,8 +92,8 @@ fn tell<F: Shelf, S: Sink>(
 
 /// Saves clauses where the words name a file for them.
 fn save_beside<F: Shelf>(shelf: &mut F, request: &Request<'_>, text: &[u8]) -> Result<(), Stop>
-    ensures saved { OnOk result (SavesBeside request.now text.now (F.files shelf.old) (F.files shelf.new)) }
-    ensures others { SavesNoOther request.now (F.files shelf.old) (F.files shelf.new) }
+    ensures saved { OnOk result (SavesClauses (option_copied request.now.cnf) text.now (F.files shelf.old) (F.files shelf.new)) }
+    ensures others { SavesOnly (option_copied request.now.cnf) (F.files shelf.old) (F.files shelf.new) }
 {
     match request.cnf {
         None => Ok(()),
