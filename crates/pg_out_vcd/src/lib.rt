@@ -4,14 +4,14 @@
 //! instruction, why it traps, and under a monitor whether the hardware does it; at the end the program status word that is reached.
 //! A value is written where it is another one than before.
 //!
-//! - `signal`: what is dumped. `sample`: the values at a time. `dump`: a run from its image on.
-//!
-//! The text rests on no definition: what is told is what `pg_traced` says, and rows of tests hold it beside the text of `pg_trace`.
-//! Proved is that nothing here fails but for want of memory or a put, and that a run goes on as it would unwatched.
+//! - `signal`: what is dumped. `sample`: the values at a time. `head`: the text before the times; `times`: that of a time.
+//! - `dump`: a run from its image on. Its text is `dump_text` (`specs/Dump.antt`).
 #![tactic(auto)]
 
 mod dump;
+mod head;
 mod sample;
 mod signal;
+mod times;
 
 pub use dump::put_dump;

@@ -1,13 +1,12 @@
-//! The values of all signals at a time, as text. Each error is want of memory.
+//! The values of all signals at a time.
+
+ghost use Rattle.std.specs.Prelude.{◌≡◌, None, true};
+ghost use Rattle.pg_out_vcd.specs.Dump.{sample_at_end};
+ghost use Rattle.pg_out_vcd.specs.Values.{cause_bits, direct_bit, has_stayed, mode_bit, same_value, value_of};
 
 use crate::signal::Signal;
-use pg_text::dec;
 use pg_traced::{Handling, Stepped};
 use pg_word::{Cause, Mode, Psw};
-use std::alloc::AllocError;
-
-/// A text, as bytes.
-pub type Text = Vec<u8>;
 
 /// The values of all signals.
 #[derive(Clone, Copy)]
@@ -20,7 +19,12 @@ pub struct Sample {
 
 impl Sample {
     /// Those before a step, and what it does.
-    pub fn of_step(stepped: &Stepped) -> Sample {
+    pub fn of_step(stepped: &Stepped) -> Sample
+        ensures psw { result.psw ≡ stepped.now.psw }
+        ensures instr { result.instr ≡ stepped.now.instr }
+        ensures cause { result.cause ≡ stepped.now.cause }
+        ensures handling { result.handling ≡ stepped.now.handling }
+    {
         Sample {
             psw: stepped.psw,
             instr: stepped.instr,
@@ -30,7 +34,9 @@ impl Sample {
     }
 
     /// Those at the end of a run.
-    pub fn of_end(psw: Psw) -> Sample {
+    pub fn of_end(psw: Psw) -> Sample
+        ensures { result ≡ sample_at_end psw }
+    {
         Sample {
             psw,
             instr: None,
@@ -40,21 +46,35 @@ impl Sample {
     }
 
     /// The value of a signal; none where it is unknown.
-    pub fn value(&self, signal: Signal) -> Option<u64> {
+    pub fn value(&self, signal: Signal) -> Option<u64>
+        ensures { result ≡ value_of signal self.now }
+    {
         match signal {
             Signal::Mode => Some(mode_bit(self.psw.mode)),
             Signal::P => Some(u64::from(self.psw.p)),
             Signal::L => Some(u64::from(self.psw.l)),
             Signal::B => Some(u64::from(self.psw.b)),
-            Signal::Instr => self.instr.map(|number| number as u64),
+            Signal::Instr => number(self.instr),
             Signal::Cause => Some(cause_bits(self.cause)),
-            Signal::Direct => self.handling.map(direct_bit),
+            Signal::Direct => direct_bit(self.handling),
         }
     }
 }
 
+/// The number of an instruction.
+fn number(instr: Option<usize>) -> Option<u64>
+    ensures { result ≡ instr }
+{
+    match instr {
+        None => None,
+        Some(number) => Some(number as u64),
+    }
+}
+
 /// The bit of a mode.
-fn mode_bit(mode: Mode) -> u64 {
+fn mode_bit(mode: Mode) -> u64
+    ensures { result ≡ mode_bit mode }
+{
     match mode {
         Mode::S => 0,
         Mode::U => 1,
@@ -62,7 +82,9 @@ fn mode_bit(mode: Mode) -> u64 {
 }
 
 /// The number of a cause.
-fn cause_bits(cause: Option<Cause>) -> u64 {
+fn cause_bits(cause: Option<Cause>) -> u64
+    ensures { result ≡ cause_bits cause }
+{
     match cause {
         None => 0,
         Some(Cause::Memory) => 1,
@@ -72,67 +94,33 @@ fn cause_bits(cause: Option<Cause>) -> u64 {
 }
 
 /// The bit of how a monitor handles a step.
-fn direct_bit(handling: Handling) -> u64 {
+fn direct_bit(handling: Option<Handling>) -> Option<u64>
+    ensures { result ≡ direct_bit handling }
+{
     match handling {
-        Handling::Direct => 1,
-        Handling::Emulated => 0,
+        None => None,
+        Some(Handling::Direct) => Some(1),
+        Some(Handling::Emulated) => Some(0),
     }
-}
-
-/// Pushes a time, and the values of the signals that are other ones than before; all of them where there are none before.
-pub fn push_sample(
-    text: &mut Text,
-    time: u64,
-    signals: &[Signal],
-    before: Option<Sample>,
-    sample: &Sample,
-) -> Result<(), AllocError> {
-    push(text, b"#")?;
-    push(text, dec(time).as_slice())?;
-    push(text, b"\n")?;
-    for signal in signals {
-        if !is_same(before, sample, *signal) {
-            push_value(text, *signal, sample.value(*signal))?;
-        }
-    }
-    Ok(())
 }
 
 /// Whether a signal has the value that it had before.
-fn is_same(before: Option<Sample>, sample: &Sample, signal: Signal) -> bool {
+pub fn has_stayed(before: Option<Sample>, sample: &Sample, signal: Signal) -> bool
+    ensures { result ≡ has_stayed before sample.now signal }
+{
     match before {
         None => false,
-        Some(before) => before.value(signal) == sample.value(signal),
+        Some(before) => is_same(before.value(signal), sample.value(signal)),
     }
 }
 
-/// Pushes the value of a signal. Of a bit it stands before the code; else binary digits do, behind `b`.
-fn push_value(text: &mut Text, signal: Signal, value: Option<u64>) -> Result<(), AllocError> {
-    let is_bit = signal.bits() == 1;
-    if !is_bit {
-        push(text, b"b")?;
+/// Whether two values are the same.
+fn is_same(one: Option<u64>, other: Option<u64>) -> bool
+    ensures { result ≡ same_value one other }
+{
+    match (one, other) {
+        (None, None) => true,
+        (Some(one), Some(other)) => one == other,
+        (None, Some(_)) | (Some(_), None) => false,
     }
-    match value {
-        None => push(text, b"x")?,
-        Some(value) => push_bits(text, signal.bits(), value)?,
-    }
-    if !is_bit {
-        push(text, b" ")?;
-    }
-    push(text, signal.code())?;
-    push(text, b"\n")
-}
-
-/// Pushes the low bits of a value, the highest first.
-fn push_bits(text: &mut Text, bits: u32, value: u64) -> Result<(), AllocError> {
-    for k in 0..bits.min(64) {
-        let bit = value >> (bits.min(64) - 1 - k) & 1;
-        push(text, if bit == 1 { b"1" } else { b"0" })?;
-    }
-    Ok(())
-}
-
-/// Pushes bytes as they are.
-pub fn push(text: &mut Text, bytes: &[u8]) -> Result<(), AllocError> {
-    text.extend_from_slice(bytes)
 }

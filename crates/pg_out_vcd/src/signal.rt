@@ -1,5 +1,8 @@
 //! What is dumped of a run.
 
+ghost use Rattle.std.specs.Prelude.{◌≡◌, [], ◌∷◌};
+ghost use Rattle.pg_out_vcd.specs.Values.{bits_of, letter_of, name_of, signals_of};
+
 use pg_traced::Monitor;
 
 /// A signal.
@@ -22,7 +25,9 @@ pub enum Signal {
 }
 
 /// The signals of a run: `Direct` is one where a monitor is named.
-pub fn signals_of(monitor: Option<Monitor>) -> &'static [Signal] {
+pub fn signals_of(monitor: Option<Monitor>) -> &'static [Signal]
+    ensures { result.now ≡ signals_of monitor }
+{
     match monitor {
         None => &[
             Signal::Mode,
@@ -46,7 +51,9 @@ pub fn signals_of(monitor: Option<Monitor>) -> &'static [Signal] {
 
 impl Signal {
     /// Its name, for people.
-    pub fn name(self) -> &'static [u8] {
+    pub fn name(self) -> &'static [u8]
+        ensures { result.now ≡ name_of self }
+    {
         match self {
             Signal::Mode => b"mode",
             Signal::P => b"P",
@@ -58,21 +65,25 @@ impl Signal {
         }
     }
 
-    /// The code that stands for it in the dump.
-    pub fn code(self) -> &'static [u8] {
+    /// The letter that stands for it in the dump.
+    pub fn letter(self) -> u8
+        ensures { result ≡ letter_of self }
+    {
         match self {
-            Signal::Mode => b"m",
-            Signal::P => b"p",
-            Signal::L => b"l",
-            Signal::B => b"b",
-            Signal::Instr => b"i",
-            Signal::Cause => b"c",
-            Signal::Direct => b"d",
+            Signal::Mode => b'm',
+            Signal::P => b'p',
+            Signal::L => b'l',
+            Signal::B => b'b',
+            Signal::Instr => b'i',
+            Signal::Cause => b'c',
+            Signal::Direct => b'd',
         }
     }
 
     /// How many bits it has.
-    pub fn bits(self) -> u32 {
+    pub fn bits(self) -> u32
+        ensures { result ≡ bits_of self }
+    {
         match self {
             Signal::Mode | Signal::Direct => 1,
             Signal::Cause => 2,
