@@ -46,9 +46,13 @@ end_text monitor d n s = sample_text n (signals_of monitor) (last_sample monitor
 
 -- ---- the head
 
+-- a space, a name, and the end of a declaration
+abbrev pub named_text : List ℕ → List ℕ
+named_text name = 32 ∷ name ++ (codes " $end" ++ 10 ∷ [])
+
 -- the number and the name of an instruction
 abbrev pub instr_line : ℕ → List ℕ → List ℕ
-instr_line k name = codes "$comment instr " ++ (decimal k ++ (32 ∷ name ++ (codes " $end" ++ 10 ∷ [])))
+instr_line k name = codes "$comment instr " ++ (decimal k ++ named_text name)
 
 -- of the first instructions
 unfoldable pub instrs_text : Desc → ℕ → List ℕ
@@ -56,8 +60,11 @@ instrs_text d zero = []
 instrs_text d (suc k) = instrs_text d k ++ instr_line k (name_at d k)
 
 -- the declaration of a signal: its bits, its letter and its name
+abbrev pub declared_text : Signal → List ℕ
+declared_text s = 32 ∷ letter_of s ∷ named_text (name_of s)
+
 abbrev pub signal_line : Signal → List ℕ
-signal_line s = codes "$var reg " ++ (decimal (bits_of s) ++ (32 ∷ letter_of s ∷ 32 ∷ name_of s ++ (codes " $end" ++ 10 ∷ [])))
+signal_line s = codes "$var reg " ++ (decimal (bits_of s) ++ declared_text s)
 
 unfoldable pub signals_text : List Signal → List ℕ
 signals_text [] = []

@@ -1,19 +1,16 @@
 //! A run of a machine from its image on.
 
-ghost use Rattle.std.specs.Prelude.{◌≡◌, ◌^◌, ◌<◌, ◌≤◌, ◌++◌, length, All, IfOk, OnOk, OnErr, IsErrOf};
+ghost use Rattle.std.specs.Prelude.{◌≡◌, ◌^◌, ◌<◌, ◌≤◌, length, All, IfOk, OnOk};
 ghost use Rattle.pg_ast.specs.declared.tree.Desc.{Desc};
-ghost use Rattle.pg_edge.specs.Count.{Rose};
 ghost use Rattle.pg_edge.specs.Sink.{Adds};
 ghost use Rattle.pg_edge.specs.Told.{BothTold};
 ghost use Rattle.pg_hw.specs.Running.{Ran};
 ghost use Rattle.pg_hw.specs.Serving.{IsServed};
 ghost use Rattle.pg_meaning.specs.States.{IsState};
 ghost use Rattle.pg_meaning.specs.Steps.{bare, power_on};
-ghost use Rattle.pg_traced.specs.Putting.{PutsUpTo};
-ghost use Rattle.pg_traced.specs.declared.tracing.TraceFault.TheVariants.{Output};
 ghost use Rattle.pg_valid.specs.Valid.{IsValid};
-ghost use Rattle.pg_out_vcd.specs.Dump.{dump_text, end_text, head_text, last_sample, sample_at_end, steps_text};
-ghost use Rattle.pg_out_vcd.specs.Values.{sample_text, signals_of};
+ghost use Rattle.pg_out_vcd.specs.Dump.{dump_text, last_sample, sample_at_end, steps_text};
+ghost use Rattle.pg_out_vcd.specs.Values.{sample_text};
 
 use crate::head::push_head;
 use crate::sample::Sample;

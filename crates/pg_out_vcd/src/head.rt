@@ -2,8 +2,7 @@
 
 ghost use Rattle.std.specs.Prelude.{◌≡◌, ◌<◌, ◌++◌, length, OnOk};
 ghost use Rattle.pg_traced.specs.Lines.{name_at};
-ghost use Rattle.pg_out_vcd.specs.Dump.{begin_text, head_text, instr_line, instrs_text, scope_end_text, scope_text, signal_line, signals_text};
-ghost use Rattle.pg_out_vcd.specs.Values.{signals_of};
+ghost use Rattle.pg_out_vcd.specs.Dump.{declared_text, head_text, instr_line, instrs_text, named_text, signal_line, signals_text};
 
 use crate::signal::{Signal, signals_of};
 use pg_machine::Machine;
@@ -24,7 +23,8 @@ pub fn push_head(
     push_instrs(text, m)?;
     text.extend_from_slice(b"$timescale 1 ns $end\n$scope module machine $end\n")?;
     push_signals(text, signals_of(monitor))?;
-    text.extend_from_slice(b"$upscope $end\n$enddefinitions $end\n")
+    text.extend_from_slice(b"$upscope $end\n$enddefinitions $end\n")?;
+    Ok(())
 }
 
 /// Pushes the number and the name of each instruction.
@@ -43,11 +43,25 @@ fn push_instr(text: &mut Vec<u8>, m: &Machine, k: usize) -> Result<(), AllocErro
     requires { k < length m.now.desc.instrs }
     ensures { OnOk result (text.new.items ≡ text.old.items ++ instr_line k (name_at m.now.desc k)) }
 {
-    let instr = &m.desc.instrs.as_slice()[k];
     text.extend_from_slice(b"$comment instr ")?;
     text.extend_from_slice(dec(k as u64).as_slice())?;
+    push_named(text, instr_name(m, k))
+}
+
+/// The name of an instruction.
+fn instr_name(m: &Machine, k: usize) -> &[u8]
+    requires { k < length m.now.desc.instrs }
+    ensures { result.now ≡ name_at m.now.desc k }
+{
+    m.desc.instrs.as_slice()[k].name.as_bytes()
+}
+
+/// Pushes a space, a name, and the end of a declaration.
+fn push_named(text: &mut Vec<u8>, name: &[u8]) -> Result<(), AllocError>
+    ensures { OnOk result (text.new.items ≡ text.old.items ++ named_text name.now) }
+{
     text.push(b' ')?;
-    text.extend_from_slice(instr.name.as_bytes())?;
+    text.extend_from_slice(name)?;
     text.extend_from_slice(b" $end\n")
 }
 
@@ -68,9 +82,14 @@ fn push_signal(text: &mut Vec<u8>, signal: Signal) -> Result<(), AllocError>
 {
     text.extend_from_slice(b"$var reg ")?;
     text.extend_from_slice(dec(u64::from(signal.bits())).as_slice())?;
+    push_declared(text, signal)
+}
+
+/// Pushes the letter and the name of a signal.
+fn push_declared(text: &mut Vec<u8>, signal: Signal) -> Result<(), AllocError>
+    ensures { OnOk result (text.new.items ≡ text.old.items ++ declared_text signal) }
+{
     text.push(b' ')?;
     text.push(signal.letter())?;
-    text.push(b' ')?;
-    text.extend_from_slice(signal.name())?;
-    text.extend_from_slice(b" $end\n")
+    push_named(text, signal.name())
 }

@@ -75,7 +75,7 @@ fn push_digits(text: &mut Vec<u8>, bits: u32, value: Option<u64>) -> Result<(), 
     ensures { OnOk result (text.new.items ≡ text.old.items ++ digits_text bits value) }
 {
     match value {
-        None => text.push(b'x'),
+        None => Ok(text.push(b'x')?),
         Some(value) => push_bits(text, bits, value),
     }
 }

@@ -10,6 +10,7 @@ use Rattle.pg_traced.specs.Handling.{handling_under}
 use Rattle.pg_traced.specs.Tells.{Tells}
 use Rattle.pg_valid.proofs.StepSound.{steps-state}
 use Rattle.pg_out_vcd.specs.Dump.{last_sample, sample_of, steps_text}
+use Rattle.pg_out_vcd.specs.Values.{sample_text}
 use Rattle.pg_out_vcd.proofs.DumpLemmas.{last-next, sample-is, steps-next}
 use Rattle.pg_out_vcd.proofs.dump.put_steps.Goals as goal
 
@@ -47,7 +48,7 @@ loop-done-preserved g c =
       last = last-next c.args.monitor d n s _ sample;
       ran = Ran-then d n 1 _ _ _ before.ran c.step-stepped.ensures.ran;
       put = steps-next c.args.monitor d n s _ _ _ c.loop-done.last _ before.put before.last sample
-          (subst (λ ss. BothTold (g.S.Sink.written c.loop-done.out) (g.S.Sink.written c.put_sample.new.out) (Adds (Rattle.pg_out_vcd.specs.Values.sample_text n ss c.loop-done.last c.of_step-sample.result))) c.signals_of-signals.ensures c.in_ok-put_sample.ensures);
+          (subst (λ ss. BothTold (g.S.Sink.written c.loop-done.out) (g.S.Sink.written c.put_sample.new.out) (Adds (sample_text n ss c.loop-done.last c.of_step-sample.result))) c.signals_of-signals.ensures c.in_ok-put_sample.ensures);
       fixed = c.step-stepped.ensures.fixed ∙ before.fixed;
     }
 

@@ -8,9 +8,9 @@ use Rattle.pg_out_vcd.proofs.dump.put_steps.Given as goal
 -- so many steps were done, and put
 abbrev pub invariant-loop-done : goal.invariant-loop-done
 invariant-loop-done g l = record {
-  monitor : l.tracer.monitor ≡ l.monitor;
-  last : l.last ≡ last_sample l.monitor l.m.desc l.done (g.H.Hardware.machinery l.initial.hw).state;
+  monitor : l.tracer.monitor ≡ l.fn.monitor;
+  last : l.last ≡ last_sample l.fn.monitor l.m.desc l.done (g.H.Hardware.machinery l.initial.hw).state;
   ran : Ran l.m.desc l.done (g.H.Hardware.machinery l.initial.hw) (g.H.Hardware.machinery l.hw);
-  put : BothTold (g.S.Sink.written l.initial.out) (g.S.Sink.written l.out) (Adds (steps_text l.monitor l.m.desc l.done (g.H.Hardware.machinery l.initial.hw).state));
+  put : BothTold (g.S.Sink.written l.initial.out) (g.S.Sink.written l.out) (Adds (steps_text l.fn.monitor l.m.desc l.done (g.H.Hardware.machinery l.initial.hw).state));
   fixed : g.H.Hardware.fixed l.hw ≡ g.H.Hardware.fixed l.initial.hw;
 }
