@@ -53,10 +53,10 @@ fn names_of<'a>(file: &'a String, instr: &'a String, word: &'a String) -> Names<
 
 /// The request of these names, of a certificate, and of the name of a file for the clauses. None where the word is of no kind.
 fn request_of<'a>(names: Names<'a>, cert: &'a str, cnf: Option<&'a str>) -> Option<Request<'a>>
-    ensures names { IfSome result (λ r. r.names ≡ names) }
-    ensures cert { IfSome result (λ r. r.cert ≡ cert) }
-    ensures kind { IfSome result (λ r. read_kind names.word.now ≡ Some r.kind) }
-    ensures cnf { IfSome result (λ r. r.cnf ≡ cnf) }
+    ensures names { IfSome result (λ r. r.names ≡ names.entry) }
+    ensures cert { IfSome result (λ r. r.cert ≡ cert.entry) }
+    ensures kind { IfSome result (λ r. read_kind names.entry.word.now ≡ Some r.kind) }
+    ensures cnf { IfSome result (λ r. r.cnf ≡ cnf.entry) }
 {
     Some(Request {
         names,
