@@ -19,6 +19,8 @@ enum Value {
     File,
     /// A number from the first to the second.
     Number(u64, u64),
+    /// What ends a run: `still`, `trap`, or `P=` and a number up to this one.
+    Until(u64),
 }
 
 /// An option.
@@ -90,6 +92,12 @@ const TRACE: Form = Form {
             shown: "--steps N",
             value: Value::Number(0, 1_000_000),
             is_due: true,
+        },
+        OptionForm {
+            name: "--until",
+            shown: "--until E",
+            value: Value::Until(1_048_575),
+            is_due: false,
         },
         OptionForm {
             name: "--cert",
@@ -270,7 +278,7 @@ impl Form {
 fn is_alone(option: &OptionForm) -> bool {
     match option.value {
         Value::Nothing => true,
-        Value::File | Value::Number(..) => false,
+        Value::File | Value::Number(..) | Value::Until(_) => false,
     }
 }
 
@@ -346,6 +354,8 @@ enum Wrong<'a> {
     Twice(OptionForm),
     /// A value that is out of the range of an option.
     Value(OptionForm, &'a str, u64, u64),
+    /// A value that does not say what ends a run, with the greatest number that it may have.
+    Until(OptionForm, &'a str, u64),
     /// A word that is no kind.
     Kind(&'a str),
 }
@@ -370,6 +380,7 @@ fn wrong_part<'a>(
             Value::Number(least, most) if !is_number(value, least, most) => {
                 Some(Wrong::Value(option, value, least, most))
             }
+            Value::Until(most) if !is_until(value, most) => Some(Wrong::Until(option, value, most)),
             _ => None,
         },
     }
@@ -385,6 +396,14 @@ fn is_number(word: &str, least: u64, most: u64) -> bool {
     match word.parse::<u64>() {
         Ok(number) => least <= number && number <= most,
         Err(_) => false,
+    }
+}
+
+/// Whether a word says what ends a run.
+fn is_until(value: &str, most: u64) -> bool {
+    match value.strip_prefix("P=") {
+        Some(number) => is_number(number, 0, most),
+        None => value == "still" || value == "trap",
     }
 }
 
@@ -424,6 +443,13 @@ fn told(line: Line, wrong: Wrong<'_>) -> Result<Line, AllocError> {
             .words(" to ")?
             .number(most)?
             .words(" is due"),
+        Wrong::Until(option, value, most) => line
+            .words("invalid value ")?
+            .shown(value)?
+            .words(" for ")?
+            .shown(option.shown)?
+            .words(": still, trap or P=A is due, A from 0 to ")?
+            .number(most),
         Wrong::Kind(word) => line.words("invalid value ")?.shown(word)?.words(
             " for 'KIND': the kinds are privileged, control, mode, location, bound, ucontrol, ulocation and ubound",
         ),

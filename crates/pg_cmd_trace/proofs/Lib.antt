@@ -1,4 +1,6 @@
 pub mod Undone
 pub mod RunTexts
 pub mod RunLemmas
+pub mod UntilLemmas
+pub mod PartLemmas
 pub mod TracingLemmas
