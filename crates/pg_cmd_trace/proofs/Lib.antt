@@ -2,5 +2,4 @@ pub mod Undone
 pub mod RunTexts
 pub mod RunLemmas
 pub mod UntilLemmas
-pub mod PartLemmas
 pub mod TracingLemmas

@@ -1,5 +1,5 @@
 -- What a trace leaves, by what its parts answer.
-use Rattle.std.proofs.Common.{◌≡◌, ℕ, ◌+◌, ◌≤◌, List, Option, None, Some, Result, Ok, Err, inl, inr, refl, sym, ◌∙◌, ap, subst, arith}
+use Rattle.std.proofs.Common.{◌≡◌, ℕ, ◌+◌, ◌≤◌, List, Option, None, Some, Result, Ok, Err, inl, inr, refl, sym, ap, subst, arith}
 use Rattle.std.specs.Prelude.{OnOk, OnErr, IfErr, IfSome, IsErrOf}
 use Rattle.pg_alloc.specs.Fit.{kept_cells}
 use Rattle.pg_asked.specs.declared.bare.BareWords.{BareWords}

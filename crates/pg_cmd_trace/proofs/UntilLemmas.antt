@@ -1,5 +1,5 @@
 -- The first number of steps at which a condition holds.
-use Rattle.std.proofs.Common.{◌≡◌, ℕ, zero, suc, ◌+◌, ◌<◌, ◌≤◌, true, false, List, ◌++◌, length, inl, inr, refl, sym, ◌∙◌, ap, subst, arith, true≢false}
+use Rattle.std.proofs.Common.{◌≡◌, ℕ, zero, suc, ◌+◌, ◌<◌, List, ◌++◌, length, inl, inr, refl, sym, ◌∙◌, ap, subst, arith, true≢false}
 use Rattle.std.proofs.lemmas.Bool.{cases_lt}
 use Rattle.std.proofs.lemmas.List.{append-nil, drop_all, take_all}
 use Rattle.pg_word.specs.declared.psw.Psw.{Psw}
@@ -8,7 +8,7 @@ use Rattle.pg_meaning.specs.States.{State, IsState}
 use Rattle.pg_meaning.specs.Steps.{step, steps}
 use Rattle.pg_valid.specs.Valid.{IsValid}
 use Rattle.pg_valid.proofs.StepSound.{step-length, steps-length, steps-state}
-use Rattle.pg_hw.specs.Bursts.{traps, burst_length}
+use Rattle.pg_hw.specs.Bursts.{burst_length}
 use Rattle.pg_hw.specs.Machinery.{Machinery, at_psw}
 use Rattle.pg_hw.specs.Stillness.{IsStill}
 use Rattle.pg_hw.proofs.BurstLaws.{burst_length-most, burst_length-goes_on, burst_length-ends, burst_length-some}
@@ -70,7 +70,7 @@ until-burst d most n s is = record {
 -- ---- a state that is still
 
 -- the whole storage as a grant
-pub whole-guest : (cells : List ℕ) (size : ℕ) (psw : Psw) → size ≡ length cells → guest_at cells 0 size psw ≡ at_psw cells psw
+whole-guest : (cells : List ℕ) (size : ℕ) (psw : Psw) → size ≡ length cells → guest_at cells 0 size psw ≡ at_psw cells psw
 whole-guest cells size psw same = ap (λ cs. at_psw cs psw) (take_all size cells (omega (arith, same)))
 
 whole-grant : (cells new : List ℕ) → length new ≡ length cells → with_grant cells 0 new ≡ new
@@ -94,7 +94,12 @@ pub same-length : (d : Desc) (m n size : ℕ) (s : State) (psw after : Psw) (old
 same-length d m n size s psw after old new valid sound whole was now =
     whole ∙ ap (λ (x : State). length x.cells) was ∙ steps-length d m s valid sound ∙ sym (steps-length d n s valid sound) ∙ sym (ap (λ (x : State). length x.cells) now)
 
--- and it is still exactly where the guest is
+-- the guest is a state of the machine
+pub guest-state : (d : Desc) (n size : ℕ) (s : State) (cells : List ℕ) (psw : Psw) → IsValid d → IsState d s → size ≡ length cells → at_psw cells psw ≡ steps d n s →
+    IsState d (guest_at cells 0 size psw)
+guest-state d n size s cells psw valid sound whole is = subst (IsState d) (sym (whole-guest cells size psw whole ∙ is)) (steps-state d n s valid sound)
+
+-- and it is still exactly where the state is
 pub still-guest : (d : Desc) (n size : ℕ) (s : State) (cells : List ℕ) (psw : Psw) → size ≡ length cells → at_psw cells psw ≡ steps d n s →
     step d (guest_at cells 0 size psw) ≡ guest_at cells 0 size psw → IsStill d (steps d n s)
 still-guest d n size s cells psw whole is = subst (IsStill d) (whole-guest cells size psw whole ∙ is)

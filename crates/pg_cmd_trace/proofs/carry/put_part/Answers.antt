@@ -1,4 +1,5 @@
-use Rattle.std.proofs.Common.{◌≤◌, sym, subst}
+use Rattle.std.proofs.Common.{◌≤◌, Err, sym, ◌∙◌, ap, subst}
+use Rattle.std.proofs.lemmas.Result.{err_from_is_err_and}
 use Rattle.pg_ast.specs.declared.tree.Desc.{Desc}
 use Rattle.pg_valid.specs.Valid.{IsValid}
 use Rattle.pg_steps.specs.World.{output}
@@ -23,4 +24,6 @@ returns-clause-front g c =
     c.in_ok-part.ensures.part c.put_run.ensures.front
 
 pub returns-in_err-part-clause-front : goal.returns-in_err-part-clause-front
-returns-in_err-part-clause-front g c = ?
+returns-in_err-part-clause-front g c =
+    let fault = err_from_is_err_and c.from_residual.result c.from_residual.ensures.1 in
+    part-refused c.args.telling c.args.until (planned_run c.args.plan) (output g.S.Sink c.args.out.now) c.from_residual.result (fault.1 ∙ ap (λ e. Err e) fault.2)

@@ -1,9 +1,7 @@
-use Rattle.std.proofs.Common.{refl, sym, ◌∙◌, ◌+◌, ap, subst, arith}
+use Rattle.std.proofs.Common.{refl, ◌∙◌, ◌+◌, ap, arith}
 use Rattle.pg_hw.specs.Machinery.{at_psw}
-use Rattle.pg_meaning.specs.States.{IsState}
-use Rattle.pg_valid.proofs.StepSound.{steps-state}
 use Rattle.pg_cmd_trace.specs.declared.request.Until.TheVariants.{Still}
-use Rattle.pg_cmd_trace.proofs.UntilLemmas.{none-first, none-next, steps-none, until-here, until-end, whole-guest, interpreted, same-length, still-guest, guest-still}
+use Rattle.pg_cmd_trace.proofs.UntilLemmas.{none-first, none-next, steps-none, until-here, until-end, guest-state, interpreted, same-length, still-guest, guest-still}
 use Rattle.pg_cmd_trace.proofs.until.count_until_still.Goals as goal
 
 pub loop-done-init : goal.loop-done-init
@@ -17,9 +15,8 @@ emulate_seen-told-requires-clause-within g c = omega (arith, c.loop-done.invaria
 
 pub emulate_seen-told-requires-clause-guest : goal.emulate_seen-told-requires-clause-guest
 emulate_seen-told-requires-clause-guest g c =
-    let d = c.args.m.now.desc in
     let before = c.loop-done.invariant in
-    subst (λ s. IsState d s) (sym (whole-guest _ _ c.loop-done.psw before.size ∙ before.state)) (steps-state d _ _ c.args.m.now.valid c.requires.state)
+    guest-state c.args.m.now.desc c.loop-done.done _ _ _ c.loop-done.psw c.args.m.now.valid c.requires.state before.size before.state
 
 -- it is still
 pub returns-then-told-clause-until : goal.returns-then-told-clause-until
