@@ -93,7 +93,7 @@ _pgv_side() {
   # Its files, its options, how many files stand before an option at least, and whether none stands behind one.
   case ${1##*/} in
     pg_explain) files=".isa .cert instr kind" options="--budget --mend --readable --json" least=2 ;;
-    pg_trace) files=".isa .img" options="--grant --steps --cert --only-traps --counts --json" order=no ;;
+    pg_trace) files=".isa .img" options="--grant --steps --until --cert --only-traps --counts --json" order=no ;;
     pg_go) files=".isa .cert .img .img .img .img .img .img .img .img" options="--grant --steps --slice" order=no ;;
     pg_dimacs) files=".isa instr kind" ;;
     pg_import) files=".isa .cert instr kind - .cert" ;;
@@ -121,6 +121,7 @@ _pgv_side() {
     --mend) _pgv_files "$word" .isa; return ;;
     --cert) _pgv_files "$word" .cert; return ;;
     --cnf) _pgv_files "$word" .cnf; return ;;
+    --until) mapfile -t COMPREPLY < <(compgen -W "still trap P=" -- "$word"); return ;;
     --*) return ;;
   esac
 

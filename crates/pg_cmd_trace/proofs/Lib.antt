@@ -1,4 +1,5 @@
 pub mod Undone
 pub mod RunTexts
 pub mod RunLemmas
+pub mod UntilLemmas
 pub mod TracingLemmas

@@ -25,6 +25,7 @@ use Rattle.pg_traced.specs.declared.handling.Monitor.{Monitor}
 use Rattle.pg_traced.specs.declared.shares.Shares.{Shares}
 use Rattle.pg_traced.specs.declared.tally.Tally.{Tally}
 use Rattle.pg_cmd_trace.specs.Judging.{monitor_of, IsJudged}
+use Rattle.pg_cmd_trace.specs.Until.{IsPart}
 use Rattle.pg_cmd_trace.specs.declared.request.TraceWords.{TraceWords}
 
 -- the text of the state that a run reaches
@@ -81,9 +82,12 @@ abbrev pub PutsRun : Shows → Option (List ℕ) → Option Files → BareRun �
 PutsRun shows None told r was now = PutsText (record { shows = shows; monitor = None }) r was now
 PutsRun shows (Some cert) told r was now = PutsJudged shows cert told r was now
 
--- the run that is due was done: its text was put whole, and the hardware holds the state that a bare machine reaches
+-- the run that is due was done, up to where its condition first holds if one is named: its text was put whole, and the hardware holds
+-- the state that a bare machine reaches
 pub record IsShown (w : TraceWords) (told : Option Files) (state : State) (was now : Option (List ℕ)) : Type 0 where
+  pub due : BareRun
+  pub is_due : BareDue w.bare told (Came due)
   pub run : BareRun
-  pub is_due : BareDue w.bare told (Came run)
+  pub part : IsPart w.until due run
   pub reached : state ≡ reached run
   pub put : PutsRun w.shows w.cert told run was now

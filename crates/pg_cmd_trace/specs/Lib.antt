@@ -1,4 +1,5 @@
 pub mod Plans
+pub mod Until
 pub mod Judging
 pub mod Done
 pub mod Tracing

@@ -11,6 +11,7 @@ use Rattle.pg_hw.specs.Machinery.{Machinery}
 use Rattle.pg_judged.specs.Judged.{Judged, verdict_on, verdict_told}
 use Rattle.pg_judged.specs.Meaning.{VerdictMeans}
 use Rattle.pg_judged.specs.Telling.{ToldWhole}
+use Rattle.pg_meaning.specs.States.{State}
 use Rattle.pg_meaning.specs.Steps.{power_on}
 use Rattle.pg_steps.specs.Classes.{Class, Ended, Unwritten, Unread, OutOfMemory, class_of}
 use Rattle.pg_steps.specs.Commands.{Command, EndsRefused, BreaksRefused, Misreads, StarvesBefore}
@@ -23,11 +24,15 @@ use Rattle.pg_tool_plain.specs.Bare.{BareRun, reached}
 use Rattle.pg_traced.specs.Traces.{PutsSome}
 use Rattle.pg_traced.specs.declared.shows.Shows.{Shows}
 use Rattle.pg_traced.specs.declared.shows.Telling.{Telling}
+use Rattle.pg_traced.specs.declared.tracing.TraceFault.{TraceFault}
+use Rattle.pg_traced.specs.declared.tracing.TraceFault.TheVariants as fault
 use Rattle.pg_cmd_told.specs.Either.{EitherDue}
 use Rattle.pg_cmd_trace.specs.Done.{IsText, PutsText}
 use Rattle.pg_cmd_trace.specs.Judging.{monitor_of}
 use Rattle.pg_cmd_trace.specs.Plans.{kept_beside, planned_run, RunDue}
+use Rattle.pg_cmd_trace.specs.Until.{IsPart}
 use Rattle.pg_cmd_trace.specs.declared.request.TraceWords.{TraceWords}
+use Rattle.pg_cmd_trace.specs.declared.request.Until.{Until}
 use Rattle.pg_cmd_trace.specs.declared.work.Work.{Work}
 
 -- ---- what is due
@@ -58,6 +63,24 @@ abbrev pub PutsFront : Telling → BareRun → (was now : Option (List ℕ)) →
 PutsFront t r was now =
     PutsSome t r.desc r.steps (power_on r.image r.grant) was now ⊎ ((text : List ℕ) × IsText t r text × BothTold was now (AddsFront text))
 
+-- the part of a run that is done was done: its text was put whole, and its state is reached
+pub record PutsPart (t : Telling) (until : Option Until) (whole : BareRun) (was now : Option (List ℕ)) (state : State) : Type 0 where
+  pub run : BareRun
+  pub part : IsPart until whole run
+  pub put : PutsText t run was now
+  pub reached : state ≡ reached run
+
+-- a front of its text was put
+pub record PutsPartFront (t : Telling) (until : Option Until) (whole : BareRun) (was now : Option (List ℕ)) : Type 0 where
+  pub run : BareRun
+  pub part : IsPart until whole run
+  pub front : PutsFront t run was now
+
+-- what a fault leaves: a front of its text; of memory nothing, too
+abbrev pub BreaksPart : Telling → Option Until → BareRun → Output → Output → TraceFault → Type 0
+BreaksPart t until whole old new fault.Output = PutsPartFront t until whole old.written new.written
+BreaksPart t until whole old new fault.Memory = PutsPartFront t until whole old.written new.written ⊎ (new ≡ old)
+
 -- the run is done: no certificate is named, or it accepts the machine
 abbrev pub LetsRun : TraceWork → Type 0
 LetsRun w = IfSome w.report (λ report. verdict_on (record { desc = w.run.desc; report = report }) ≡ Accepted)
@@ -70,17 +93,16 @@ pub record ForbidsRun (w : TraceWork) (j : Judged) : Type 0 where
 
 -- ---- what the work leaves of a sink and of a hardware
 
--- the run was done, and its text put whole
-pub record RunShown (shows : Shows) (w : TraceWork) (old new : Output) (hw : Machinery) (given : Status) : Type 0 where
+-- the run was done, up to where a condition first holds if one is named, and its text put whole
+pub record RunShown (shows : Shows) (until : Option Until) (w : TraceWork) (old new : Output) (hw : Machinery) (given : Status) : Type 0 where
   pub lets : LetsRun w
   pub status : given ≡ status.Done
-  pub put : PutsText (telling_by shows w.report) w.run old.written new.written
-  pub reached : hw.state ≡ reached w.run
+  pub put : PutsPart (telling_by shows w.report) until w.run old.written new.written hw.state
 
--- a front of its text was put
-pub record RunBroken (shows : Shows) (w : TraceWork) (old new : Output) : Type 0 where
+-- it broke off at a fault
+pub record RunBroken (shows : Shows) (until : Option Until) (w : TraceWork) (old new : Output) (why : TraceFault) : Type 0 where
   pub lets : LetsRun w
-  pub front : PutsFront (telling_by shows w.report) w.run old.written new.written
+  pub left : BreaksPart (telling_by shows w.report) until w.run old new why
 
 -- the verdict was told in place of it, and the hardware not touched
 pub record VerdictShown (w : TraceWork) (old new : Output) (before after : Machinery) (given : Status) : Type 0 where
@@ -97,11 +119,12 @@ pub record VerdictBroken (w : TraceWork) (old new : Output) (before after : Mach
   pub untouched : after ≡ before
 
 -- by the class of the status: memory may be refused for the hardware, for the counts or for a line
-abbrev pub WorkLeaves : Shows → TraceWork → Output → Output → Machinery → Machinery → Status → Class → Type 0
-WorkLeaves shows w old new before after given Ended = RunShown shows w old new after given ⊎ VerdictShown w old new before after given
-WorkLeaves shows w old new before after given Unwritten = (Rose old.faults new.faults × RunBroken shows w old new) ⊎ VerdictBroken w old new before after
-WorkLeaves shows w old new before after given Unread = ⊥
-WorkLeaves shows w old new before after given OutOfMemory = RunBroken shows w old new
+abbrev pub WorkLeaves : Shows → Option Until → TraceWork → Output → Output → Machinery → Machinery → Status → Class → Type 0
+WorkLeaves shows until w old new before after given Ended = RunShown shows until w old new after given ⊎ VerdictShown w old new before after given
+WorkLeaves shows until w old new before after given Unwritten =
+    (Rose old.faults new.faults × RunBroken shows until w old new fault.Output) ⊎ VerdictBroken w old new before after
+WorkLeaves shows until w old new before after given Unread = ⊥
+WorkLeaves shows until w old new before after given OutOfMemory = RunBroken shows until w old new fault.Memory
 
 -- ---- the program
 
@@ -111,16 +134,16 @@ trace_command w = record {
   Work = TraceWork;
   due = TraceDue w.cert w.bare;
   saved = None;
-  ends = λ work old new given text. WorkLeaves w.shows work old.out new.out old.hw new.hw given Ended;
+  ends = λ work old new given text. WorkLeaves w.shows w.until work old.out new.out old.hw new.hw given Ended;
   unsaved = λ work old new. ⊥;
-  starved = λ work old new. WorkLeaves w.shows work old.out new.out old.hw new.hw status.Memory OutOfMemory;
+  starved = λ work old new. WorkLeaves w.shows w.until work old.out new.out old.hw new.hw status.Memory OutOfMemory;
 }
 
 -- this work was due, and left that; no file was saved, and the verdict of its certificate means what it says
 pub record Works (w : TraceWords) (old new : World) (given : Status) (class : Class) : Type 0 where
   pub work : TraceWork
   pub is_due : TraceDue w.cert w.bare old.files (Came work)
-  pub left : WorkLeaves w.shows work old.out new.out old.hw new.hw given class
+  pub left : WorkLeaves w.shows w.until work old.out new.out old.hw new.hw given class
   pub means : IfSome work.report (λ report. VerdictMeans work.run.desc report)
   pub files : new.files ≡ old.files
   pub saves : new.save_faults ≡ old.save_faults

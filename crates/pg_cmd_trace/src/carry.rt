@@ -1,6 +1,7 @@
 //! The run, and its text.
 
-ghost use Rattle.std.specs.Prelude.{◌≡◌, ◌*◌, ◌++◌, ◌≤◌, All, OnOk, OnErr, IfSome, IsErrOf, Some, length};
+ghost use Rattle.std.specs.Prelude.{◌≡◌, ◌*◌, ◌++◌, ◌≤◌, All, IfErr, IfSome, IsErrOf, OnErr, OnOk, Some, length};
+ghost use Rattle.pg_ast.specs.declared.tree.Desc.{Desc};
 ghost use Rattle.pg_cert.specs.Verdicts.{kind_count};
 ghost use Rattle.pg_judged.specs.Telling.{ToldAs};
 ghost use Rattle.pg_report.specs.Verdicts.{DoMarkWordsFit};
@@ -12,13 +13,15 @@ ghost use Rattle.pg_steps.specs.World.{around, output};
 ghost use Rattle.pg_steps.specs.declared.status.Status.TheVariants as status;
 ghost use Rattle.pg_tool_plain.specs.Bare.{reached};
 ghost use Rattle.pg_traced.specs.Putting.{PutsUpTo};
+ghost use Rattle.pg_valid.specs.Valid.{IsValid};
 ghost use Rattle.pg_cmd_trace.specs.Done.{IsShown, PutsText, has_state, ended_as, reached_text, end_text, all_counts, handled_text};
 ghost use Rattle.pg_cmd_trace.specs.Plans.{planned_run};
-ghost use Rattle.pg_cmd_trace.specs.Tracing.{PutsFront, Traces, WorkLeaves, trace_work};
+ghost use Rattle.pg_cmd_trace.specs.Tracing.{BreaksPart, PutsFront, PutsPart, Traces, WorkLeaves, trace_work};
 
 use crate::monitor::monitor_of;
 use crate::plan::Plan;
-use crate::request::TraceWords;
+use crate::request::{TraceWords, Until};
+use crate::until::part_of;
 use crate::work::{Work, load_work};
 use pg_cert::Report;
 use pg_edge::{Shelf, Sink};
@@ -48,7 +51,7 @@ pub fn carry<F: Shelf, S: Sink, H: Hardware, W: StopWatcher>(
     ensures later { S.faults out.old ≤ S.faults out.new }
 {
     match load_work(alloc, words, shelf) {
-        Ok(work) => carry_work(alloc, work, words.shows, hw, out),
+        Ok(work) => carry_work(alloc, work, words, hw, out),
         Err(stop) => stopped(&stop, out, watcher),
     }
 }
@@ -64,21 +67,24 @@ fn told_of(shows: Shows, monitor: Option<Monitor>) -> Telling
 fn carry_work<S: Sink, H: Hardware>(
     alloc: Global,
     work: Work,
-    shows: Shows,
+    words: &TraceWords,
     hw: &mut H,
     out: &mut S,
 ) -> Status
     requires able { IsAble H.Hardware hw.old }
     requires whole { IfSome work.report (λ r. length r.marks ≡ length work.plan.machine.desc.instrs * kind_count r.family) }
     requires fit { IfSome work.report (λ r. All (DoMarkWordsFit work.plan.machine.desc.word) r.marks) }
-    ensures left { WorkLeaves shows (trace_work work) (output S.Sink out.old) (output S.Sink out.new)
+    ensures left { WorkLeaves words.now.shows words.now.until (trace_work work) (output S.Sink out.old) (output S.Sink out.new)
         (H.machinery hw.old) (H.machinery hw.new) result (class_of result) }
     ensures later { S.faults out.old ≤ S.faults out.new }
 {
     let Work { plan, report } = work;
     match report {
-        None => ended(put_run(alloc, &plan, hw, out, told_of(shows, None))),
-        Some(report) => carry_judged(alloc, plan, report, shows, hw, out),
+        None => {
+            let telling = told_of(words.shows, None);
+            ended(put_part(alloc, plan, words.until, hw, out, telling))
+        }
+        Some(report) => carry_judged(alloc, plan, report, words, hw, out),
     }
 }
 
@@ -88,22 +94,22 @@ fn carry_judged<S: Sink, H: Hardware>(
     alloc: Global,
     plan: Plan,
     report: Report,
-    shows: Shows,
+    words: &TraceWords,
     hw: &mut H,
     out: &mut S,
 ) -> Status
     requires able { IsAble H.Hardware hw.old }
     requires whole { length report.marks ≡ length plan.machine.desc.instrs * kind_count report.family }
     requires fit { All (DoMarkWordsFit plan.machine.desc.word) report.marks }
-    ensures left { WorkLeaves shows (record { run = planned_run plan; report = Some report }) (output S.Sink out.old) (output S.Sink out.new)
-        (H.machinery hw.old) (H.machinery hw.new) result (class_of result) }
+    ensures left { WorkLeaves words.now.shows words.now.until (record { run = planned_run plan; report = Some report })
+        (output S.Sink out.old) (output S.Sink out.new) (H.machinery hw.old) (H.machinery hw.new) result (class_of result) }
     ensures later { S.faults out.old ≤ S.faults out.new }
 {
     if !is_accepted(report.verdict()) {
         return tell_refused(plan, report, out);
     }
-    let telling = told_of(shows, Some(monitor_of(report.family)));
-    ended(put_run(alloc, &plan, hw, out, telling))
+    let telling = told_of(words.shows, Some(monitor_of(report.family)));
+    ended(put_part(alloc, plan, words.until, hw, out, telling))
 }
 
 /// Tells the verdict of a certificate of the machine of a plan.
@@ -128,6 +134,25 @@ pub fn ended(put: Result<(), TraceFault>) -> Status
     }
 }
 
+/// Runs a plan, up to where a condition first holds if one is named, and puts the text of what was run.
+fn put_part<S: Sink, H: Hardware>(
+    alloc: Global,
+    plan: Plan,
+    until: Option<Until>,
+    hw: &mut H,
+    out: &mut S,
+    telling: Telling,
+) -> Result<(), TraceFault>
+    requires able { IsAble H.Hardware hw.old }
+    ensures put { OnOk result (PutsPart telling until (planned_run plan) (S.written out.old) (S.written out.new) (H.machinery hw.new).state) }
+    ensures front { IfErr result (BreaksPart telling until (planned_run plan) (output S.Sink out.old) (output S.Sink out.new)) }
+    ensures later { S.faults out.old ≤ S.faults out.new }
+    ensures cause { IsErrOf result TraceFault.Output → Rose (S.faults out.old) (S.faults out.new) }
+{
+    let part = part_of(plan, until, hw)?;
+    put_run(alloc, &part, hw, out, telling)
+}
+
 /// Runs a plan, and puts its text.
 fn put_run<S: Sink, H: Hardware>(
     alloc: Global,
@@ -136,7 +161,8 @@ fn put_run<S: Sink, H: Hardware>(
     out: &mut S,
     telling: Telling,
 ) -> Result<(), TraceFault>
-    requires able { IsAble H.Hardware hw.old }
+    requires serves { (d : Desc) → IsValid d → H.serves (H.fixed hw.old) d }
+    requires room { 1048575 ≤ H.room (H.fixed hw.old) }
     ensures reached { OnOk result ((H.machinery hw.new).state ≡ reached (planned_run plan.now)) }
     ensures put { OnOk result (PutsText telling (planned_run plan.now) (S.written out.old) (S.written out.new)) }
     ensures front { OnErr result (PutsFront telling (planned_run plan.now) (S.written out.old) (S.written out.new)) }

@@ -1,17 +1,20 @@
 //! A run as JSON: `docs/DATA.md` has its keys.
 
-ghost use Rattle.std.specs.Prelude.{◌≡◌, ◌*◌, All, OnOk, IfSome, length};
+ghost use Rattle.std.specs.Prelude.{◌≡◌, ◌*◌, ◌≤◌, All, OnOk, IfSome, length};
+ghost use Rattle.pg_ast.specs.declared.tree.Desc.{Desc};
 ghost use Rattle.pg_cert.specs.Verdicts.{kind_count};
 ghost use Rattle.pg_report.specs.Verdicts.{DoMarkWordsFit};
 ghost use Rattle.pg_steps.specs.Able.{IsAble};
 ghost use Rattle.pg_steps.specs.Answering.{OnlyReads};
 ghost use Rattle.pg_tool_plain.specs.Bare.{reached};
+ghost use Rattle.pg_valid.specs.Valid.{IsValid};
 ghost use Rattle.pg_cmd_trace.specs.Plans.{planned_run};
 
 use crate::carry::{ended, tell_refused};
 use crate::monitor::monitor_of;
 use crate::plan::Plan;
-use crate::request::TraceWords;
+use crate::request::{TraceWords, Until};
+use crate::until::part_of;
 use crate::work::{Work, load_work};
 use pg_cert::Report;
 use pg_cli_version::VERSION;
@@ -37,21 +40,27 @@ pub fn carry_json<F: Shelf, S: Sink, H: Hardware, W: StopWatcher>(
     ensures reads { OnlyReads F.Shelf shelf.old shelf.new }
 {
     match load_work(alloc, words, shelf) {
-        Ok(work) => put_work(alloc, work, hw, out),
+        Ok(work) => put_work(alloc, work, words.until, hw, out),
         Err(stop) => stopped(&stop, out, watcher),
     }
 }
 
 /// Does the work, and puts it.
-fn put_work<S: Sink, H: Hardware>(alloc: Global, work: Work, hw: &mut H, out: &mut S) -> Status
+fn put_work<S: Sink, H: Hardware>(
+    alloc: Global,
+    work: Work,
+    until: Option<Until>,
+    hw: &mut H,
+    out: &mut S,
+) -> Status
     requires able { IsAble H.Hardware hw.old }
     requires whole { IfSome work.report (λ r. length r.marks ≡ length work.plan.machine.desc.instrs * kind_count r.family) }
     requires fit { IfSome work.report (λ r. All (DoMarkWordsFit work.plan.machine.desc.word) r.marks) }
 {
     let Work { plan, report } = work;
     match report {
-        None => ended(put_json(alloc, &plan, hw, out, None)),
-        Some(report) => carry_accepted(alloc, plan, report, hw, out),
+        None => ended(put_part(alloc, plan, until, hw, out, None)),
+        Some(report) => carry_accepted(alloc, plan, report, until, hw, out),
     }
 }
 
@@ -60,6 +69,7 @@ fn carry_accepted<S: Sink, H: Hardware>(
     alloc: Global,
     plan: Plan,
     report: Report,
+    until: Option<Until>,
     hw: &mut H,
     out: &mut S,
 ) -> Status
@@ -71,7 +81,22 @@ fn carry_accepted<S: Sink, H: Hardware>(
         return tell_refused(plan, report, out);
     }
     let monitor = monitor_of(report.family);
-    ended(put_json(alloc, &plan, hw, out, Some(monitor)))
+    ended(put_part(alloc, plan, until, hw, out, Some(monitor)))
+}
+
+/// Runs a plan, up to where a condition first holds if one is named, and puts what was run.
+fn put_part<S: Sink, H: Hardware>(
+    alloc: Global,
+    plan: Plan,
+    until: Option<Until>,
+    hw: &mut H,
+    out: &mut S,
+    monitor: Option<Monitor>,
+) -> Result<(), TraceFault>
+    requires able { IsAble H.Hardware hw.old }
+{
+    let part = part_of(plan, until, hw)?;
+    put_json(alloc, &part, hw, out, monitor)
 }
 
 /// Runs a plan, and puts it.
@@ -82,7 +107,8 @@ fn put_json<S: Sink, H: Hardware>(
     out: &mut S,
     monitor: Option<Monitor>,
 ) -> Result<(), TraceFault>
-    requires able { IsAble H.Hardware hw.old }
+    requires serves { (d : Desc) → IsValid d → H.serves (H.fixed hw.old) d }
+    requires room { 1048575 ≤ H.room (H.fixed hw.old) }
     ensures reached { OnOk result ((H.machinery hw.new).state ≡ reached (planned_run plan.now)) }
 {
     let mut text = Vec::new(alloc);

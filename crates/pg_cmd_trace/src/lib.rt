@@ -1,6 +1,6 @@
 //! Runs an image on a bare machine, and shows each step.
 //!
-//!     pg_trace DESC IMAGE --grant G --steps N [--cert CERT] [--only-traps] [--counts] [--json]
+//!     pg_trace DESC IMAGE --grant G --steps N [--until E] [--cert CERT] [--only-traps] [--counts] [--json]
 //!
 //! A line for each step: its number, the mode and P before it, the word that was fetched, the instruction with its fields, and
 //! what it changed. That is each cell that it stored into, with its new word; P where it is not the address behind; mode and R
@@ -11,6 +11,9 @@
 //! state, as `pgv bare` writes it.
 //!
 //! - `--grant G`: how many cells the machine is given, 2 to 1,048,575. `--steps N`: how many steps are done, 0 to 1,000,000.
+//! - `--until E`: the run ends behind the first number of steps, N at most, at which E holds. `still`: the next step leaves the state as
+//!   it is, as a jump to itself does, and so does every later one. `trap`: the last step trapped. `P=A`, A from 0 to 1,048,575: P is A.
+//!   All that is written is then what is written for so many steps.
 //! - `--cert CERT`: a certificate of the machine, of either family. A line begins with `direct` or `emulated`: whether the hardware
 //!   would do the step, or the monitor that may run the machine. Behind the counts stand `direct N` and `emulated N`.
 //! - `--only-traps`: only the steps that trap have a line.
@@ -25,7 +28,8 @@
 //! means is a clause too (`carry`). No file is saved.
 //!
 //! - `trace`: the call. `request`: the words. `prepare`: the files, to a `plan`. `work`: what there is to do, with what is kept of a
-//!   certificate. `monitor`: the monitor of its family. `carry`: the run and its text. `json`: the same as JSON.
+//!   certificate. `monitor`: the monitor of its family. `until`: how many steps are done of a run that ends before. `carry`: the run and
+//!   its text. `json`: the same as JSON.
 #![tactic(auto)]
 
 mod carry;
@@ -35,6 +39,7 @@ mod plan;
 mod prepare;
 mod request;
 mod trace;
+mod until;
 mod work;
 
 pub use trace::{USAGE, run};

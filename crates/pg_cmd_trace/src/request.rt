@@ -12,12 +12,25 @@ use std::alloc::{AllocError, Global};
 pub struct TraceWords {
     /// The run, as `pgv bare` is asked for it.
     pub bare: BareWords,
+    /// What ends the run before all its steps, where the words name it.
+    pub until: Option<Until>,
     /// Which steps have a line.
     pub shows: Shows,
     /// The name of the file with the certificate of the machine, where the words name one.
     pub cert: Option<FileName>,
     /// Whether the run is asked for as JSON.
     pub is_json: bool,
+}
+
+/// What ends a run: it ends behind the first number of steps at which this holds.
+#[derive(Clone, Copy, Debug, PartialEq, Eq)]
+pub enum Until {
+    /// The next step leaves the state as it is, and so does every later one.
+    Still,
+    /// The last step trapped.
+    Trap,
+    /// P is this address, 0 to 1,048,575.
+    At(u32),
 }
 
 /// What words have said so far.
@@ -27,6 +40,7 @@ struct Draft<'a> {
     image: Option<&'a str>,
     grant: Option<Grant>,
     steps: Option<Steps>,
+    until: Option<Until>,
     cert: Option<&'a str>,
     only_traps: bool,
     counts: bool,
@@ -59,6 +73,7 @@ fn whole(alloc: Global, draft: Draft<'_>) -> Result<Option<TraceWords>, AllocErr
                 grant,
                 steps,
             },
+            until: draft.until,
             shows,
             cert: match draft.cert {
                 Some(cert) => Some(file_name(alloc, cert)?),
@@ -80,6 +95,7 @@ fn draft_of(words: &[String]) -> Option<Draft<'_>> {
         image: None,
         grant: None,
         steps: None,
+        until: None,
         cert: None,
         only_traps: false,
         counts: false,
@@ -98,44 +114,41 @@ impl<'a> Draft<'a> {
         ensures { IfSome result (λ left. length left.now ≤ length behind.now) }
     {
         match word {
-            "--grant" if self.grant.is_none() => {
-                let [number, behind @ ..] = behind else {
+            "--grant" | "--steps" | "--until" | "--cert" => {
+                let [value, behind @ ..] = behind else {
                     return None;
                 };
-                self.grant = Some(grant_of(number.as_str())?);
-                Some(behind)
-            }
-            "--steps" if self.steps.is_none() => {
-                let [number, behind @ ..] = behind else {
-                    return None;
-                };
-                self.steps = Some(steps_of(number.as_str())?);
-                Some(behind)
-            }
-            "--cert" if self.cert.is_none() => {
-                let [name, behind @ ..] = behind else {
-                    return None;
-                };
-                self.cert = Some(name.as_str());
-                Some(behind)
-            }
-            "--only-traps" if !self.only_traps => {
-                self.only_traps = true;
-                Some(behind)
-            }
-            "--counts" if !self.counts => {
-                self.counts = true;
-                Some(behind)
-            }
-            "--json" if !self.is_json => {
-                self.is_json = true;
+                self.take_value(word, value.as_str())?;
                 Some(behind)
             }
             _ => {
-                self.take_file(word)?;
+                self.take_alone(word)?;
                 Some(behind)
             }
         }
+    }
+
+    /// Takes an option with its value. None where it was given before, or has no such value.
+    fn take_value(&mut self, option: &str, value: &'a str) -> Option<()> {
+        match option {
+            "--grant" if self.grant.is_none() => self.grant = Some(grant_of(value)?),
+            "--steps" if self.steps.is_none() => self.steps = Some(steps_of(value)?),
+            "--until" if self.until.is_none() => self.until = Some(until_of(value)?),
+            "--cert" if self.cert.is_none() => self.cert = Some(value),
+            _ => return None,
+        }
+        Some(())
+    }
+
+    /// Takes an option without a value, or the name of a file. None where it is not taken.
+    fn take_alone(&mut self, word: &'a str) -> Option<()> {
+        match word {
+            "--only-traps" if !self.only_traps => self.only_traps = true,
+            "--counts" if !self.counts => self.counts = true,
+            "--json" if !self.is_json => self.is_json = true,
+            _ => return self.take_file(word),
+        }
+        Some(())
     }
 
     /// Takes the name of a file: the description's first. None where it begins as an option does, or is one too many.
@@ -165,5 +178,17 @@ fn steps_of(word: &str) -> Option<Steps> {
     match word.parse::<u64>() {
         Ok(count) if count <= 1_000_000 => Some(Steps::new(count)),
         _ => None,
+    }
+}
+
+/// What ends a run, by its word: `still`, `trap`, or `P=A` with A from 0 to 1,048,575.
+fn until_of(word: &str) -> Option<Until> {
+    match word {
+        "still" => Some(Until::Still),
+        "trap" => Some(Until::Trap),
+        _ => match word.strip_prefix("P=")?.parse::<u32>() {
+            Ok(p) if p <= 1_048_575 => Some(Until::At(p)),
+            _ => None,
+        },
     }
 }

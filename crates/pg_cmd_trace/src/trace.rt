@@ -14,7 +14,7 @@ use std::alloc::Global;
 
 /// How the program is called.
 pub const USAGE: &[u8] =
-    b"usage: pg_trace DESC IMAGE --grant G --steps N [--cert CERT] [--only-traps] [--counts] [--json]\n";
+    b"usage: pg_trace DESC IMAGE --grant G --steps N [--until E] [--cert CERT] [--only-traps] [--counts] [--json]\n";
 
 /// Runs what the words ask for, the program's name first, and gives the number of the status.
 pub fn run<F: Shelf, S: Sink, H: Hardware, W: StopWatcher>(
