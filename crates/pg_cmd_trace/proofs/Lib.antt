@@ -1,3 +1,4 @@
+mod DumpLemmas
 pub mod Undone
 pub mod RunTexts
 pub mod RunLemmas

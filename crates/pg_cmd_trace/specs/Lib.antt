@@ -3,3 +3,4 @@ pub mod Until
 pub mod Judging
 pub mod Done
 pub mod Tracing
+pub mod Dumped

@@ -1,6 +1,6 @@
 //! Runs an image on a bare machine, and shows each step.
 //!
-//!     pg_trace DESC IMAGE --grant G --steps N [--until E] [--cert CERT] [--only-traps] [--counts] [--json]
+//!     pg_trace DESC IMAGE --grant G --steps N [--until E] [--cert CERT] [--only-traps] [--counts] [--json | --vcd]
 //!
 //! A line for each step: its number, the mode and P before it, the word that was fetched, the instruction with its fields, and
 //! what it changed. That is each cell that it stored into, with its new word; P where it is not the address behind; mode and R
@@ -18,7 +18,8 @@
 //!   would do the step, or the monitor that may run the machine. Behind the counts stand `direct N` and `emulated N`.
 //! - `--only-traps`: only the steps that trap have a line.
 //! - `--counts`: no step has a line, and there is no state: the counts are all that is written.
-//! - `--json`: the same as one JSON object (`json`); not beside `--only-traps` or `--counts`.
+//! - `--json`: the same as one JSON object (`json`). `--vcd`: a value change dump (`vcd`). Neither stands beside `--only-traps`,
+//!   `--counts` or the other.
 //!
 //! Refusals have the lines and statuses of `pgv`, in the order of `pgv bare`: the words (3), the description (4), the room (7),
 //! the image (5). With `--cert` they are those of `pgv run`: the room is beside the cells that a monitor keeps, and behind the
@@ -29,7 +30,7 @@
 //!
 //! - `trace`: the call. `request`: the words. `prepare`: the files, to a `plan`. `work`: what there is to do, with what is kept of a
 //!   certificate. `monitor`: the monitor of its family. `until`: how many steps are done of a run that ends before. `carry`: the run and
-//!   its text. `json`: the same as JSON.
+//!   its text. `json`: the same as JSON; `vcd`: as a value change dump.
 #![tactic(auto)]
 
 mod carry;
@@ -40,6 +41,7 @@ mod prepare;
 mod request;
 mod trace;
 mod until;
+mod vcd;
 mod work;
 
 pub use trace::{USAGE, run};

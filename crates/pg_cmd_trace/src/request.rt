@@ -18,8 +18,19 @@ pub struct TraceWords {
     pub shows: Shows,
     /// The name of the file with the certificate of the machine, where the words name one.
     pub cert: Option<FileName>,
-    /// Whether the run is asked for as JSON.
-    pub is_json: bool,
+    /// As what the run is written.
+    pub form: Written,
+}
+
+/// As what a run is written.
+#[derive(Clone, Copy, Debug, PartialEq, Eq)]
+pub enum Written {
+    /// As text.
+    Text,
+    /// As JSON.
+    Json,
+    /// As a value change dump.
+    Vcd,
 }
 
 /// What ends a run: it ends behind the first number of steps at which this holds.
@@ -44,7 +55,7 @@ struct Draft<'a> {
     cert: Option<&'a str>,
     only_traps: bool,
     counts: bool,
-    is_json: bool,
+    form: Option<Written>,
 }
 
 /// What the words ask for, the program's name first; none where they are others. The error is want of memory.
@@ -55,9 +66,9 @@ pub fn asked_by(alloc: Global, words: &[String]) -> Result<Option<TraceWords>, A
     }
 }
 
-/// What a draft asks for, where nothing is left out. JSON is of all steps.
+/// What a draft asks for, where nothing is left out. JSON and dumps are of all steps.
 fn whole(alloc: Global, draft: Draft<'_>) -> Result<Option<TraceWords>, AllocError> {
-    if draft.is_json && (draft.counts || draft.only_traps) {
+    if draft.form.is_some() && (draft.counts || draft.only_traps) {
         return Ok(None);
     }
     let shows = match (draft.counts, draft.only_traps) {
@@ -79,7 +90,7 @@ fn whole(alloc: Global, draft: Draft<'_>) -> Result<Option<TraceWords>, AllocErr
                 Some(cert) => Some(file_name(alloc, cert)?),
                 None => None,
             },
-            is_json: draft.is_json,
+            form: draft.form.unwrap_or(Written::Text),
         })),
         _ => Ok(None),
     }
@@ -99,7 +110,7 @@ fn draft_of(words: &[String]) -> Option<Draft<'_>> {
         cert: None,
         only_traps: false,
         counts: false,
-        is_json: false,
+        form: None,
     };
     let mut left = words;
     while let [word, behind @ ..] = left {
@@ -145,7 +156,8 @@ impl<'a> Draft<'a> {
         match word {
             "--only-traps" if !self.only_traps => self.only_traps = true,
             "--counts" if !self.counts => self.counts = true,
-            "--json" if !self.is_json => self.is_json = true,
+            "--json" if self.form.is_none() => self.form = Some(Written::Json),
+            "--vcd" if self.form.is_none() => self.form = Some(Written::Vcd),
             _ => return self.take_file(word),
         }
         Some(())

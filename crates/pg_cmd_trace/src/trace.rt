@@ -1,11 +1,12 @@
-//! What the words ask for, as text or as JSON.
+//! What the words ask for, as text, as JSON or as a value change dump.
 
 ghost use Rattle.pg_steps.specs.Able.{IsAble};
 ghost use Rattle.pg_steps.specs.Answering.{OnlyReads};
 
 use crate::carry::carry;
 use crate::json::carry_json;
-use crate::request::asked_by;
+use crate::request::{Written, asked_by};
+use crate::vcd::carry_vcd;
 use pg_edge::{Shelf, Sink};
 use pg_hw::Hardware;
 use pg_report::put_text;
@@ -14,7 +15,7 @@ use std::alloc::Global;
 
 /// How the program is called.
 pub const USAGE: &[u8] =
-    b"usage: pg_trace DESC IMAGE --grant G --steps N [--until E] [--cert CERT] [--only-traps] [--counts] [--json]\n";
+    b"usage: pg_trace DESC IMAGE --grant G --steps N [--until E] [--cert CERT] [--only-traps] [--counts] [--json | --vcd]\n";
 
 /// Runs what the words ask for, the program's name first, and gives the number of the status.
 pub fn run<F: Shelf, S: Sink, H: Hardware, W: StopWatcher>(
@@ -31,8 +32,11 @@ pub fn run<F: Shelf, S: Sink, H: Hardware, W: StopWatcher>(
     let status = match asked_by(alloc, words) {
         Err(_) => Status::Memory,
         Ok(None) => put_usage(out),
-        Ok(Some(words)) if words.is_json => carry_json(alloc, &words, shelf, out, hw, watcher),
-        Ok(Some(words)) => carry(alloc, &words, shelf, out, hw, watcher),
+        Ok(Some(words)) => match words.form {
+            Written::Text => carry(alloc, &words, shelf, out, hw, watcher),
+            Written::Json => carry_json(alloc, &words, shelf, out, hw, watcher),
+            Written::Vcd => carry_vcd(alloc, &words, shelf, out, hw, watcher),
+        },
     };
     status.code()
 }
