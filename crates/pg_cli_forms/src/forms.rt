@@ -19,6 +19,10 @@ enum Value {
     File,
     /// A number from the first to the second.
     Number(u64, u64),
+    /// Cells of a guest, as `2..10`.
+    Cells,
+    /// The same, and how many bits of each, as `2..10:16`, where it is said.
+    Text,
 }
 
 /// An option.
@@ -143,8 +147,26 @@ const GO: Form = Form {
             value: Value::Number(1, 1_000_000),
             is_due: false,
         },
+        OptionForm {
+            name: "--show",
+            shown: "--show A..B",
+            value: Value::Cells,
+            is_due: false,
+        },
+        OptionForm {
+            name: "--text",
+            shown: "--text A..B[:BITS]",
+            value: Value::Text,
+            is_due: false,
+        },
     ],
 };
+
+/// The most cells that a guest is granted.
+const MOST_CELLS: u32 = 1_048_575;
+
+/// How often options with cells may stand there, all together.
+const MOST_VIEWS: usize = 16;
 
 /// Of `pg_dimacs`.
 const DIMACS: Form = Form {
@@ -270,7 +292,15 @@ impl Form {
 fn is_alone(option: &OptionForm) -> bool {
     match option.value {
         Value::Nothing => true,
-        Value::File | Value::Number(..) => false,
+        Value::File | Value::Number(..) | Value::Cells | Value::Text => false,
+    }
+}
+
+/// Whether an option may stand there more than once.
+fn is_repeated(option: &OptionForm) -> bool {
+    match option.value {
+        Value::Cells | Value::Text => true,
+        Value::Nothing | Value::File | Value::Number(..) => false,
     }
 }
 
@@ -346,6 +376,10 @@ enum Wrong<'a> {
     Twice(OptionForm),
     /// A value that is out of the range of an option.
     Value(OptionForm, &'a str, u64, u64),
+    /// A value that names no cells of a guest.
+    Cells(OptionForm, &'a str),
+    /// More options with cells than may stand there.
+    Views,
     /// A word that is no kind.
     Kind(&'a str),
 }
@@ -365,12 +399,66 @@ fn wrong_part<'a>(
             Some("KIND") if kind(word.as_bytes()).is_none() => Some(Wrong::Kind(word)),
             Some(_) => None,
         },
-        Part::Given(option, _) if 1 < count(words, option.name) => Some(Wrong::Twice(option)),
-        Part::Given(option, value) => match option.value {
-            Value::Number(least, most) if !is_number(value, least, most) => {
-                Some(Wrong::Value(option, value, least, most))
-            }
-            _ => None,
+        Part::Given(option, value) => wrong_value(form, words, option, value),
+    }
+}
+
+/// What is wrong with an option that is there, and its value.
+fn wrong_value<'a>(
+    form: &Form,
+    words: &[String],
+    option: OptionForm,
+    value: &'a str,
+) -> Option<Wrong<'a>> {
+    if !is_repeated(&option) && 1 < count(words, option.name) {
+        return Some(Wrong::Twice(option));
+    }
+    match option.value {
+        Value::Number(least, most) if !is_number(value, least, most) => {
+            Some(Wrong::Value(option, value, least, most))
+        }
+        Value::Cells if !are_cells(value, grant(form, words)) => Some(Wrong::Cells(option, value)),
+        Value::Text if !is_text(value, grant(form, words)) => Some(Wrong::Cells(option, value)),
+        Value::Cells | Value::Text if are_many(words) => Some(Wrong::Views),
+        Value::Nothing | Value::File | Value::Number(..) | Value::Cells | Value::Text => None,
+    }
+}
+
+/// How many cells a guest is granted by the words, at most.
+fn grant(form: &Form, words: &[String]) -> u32 {
+    match form.value(words, "--grant") {
+        Some(cells) => cells.parse::<u32>().unwrap_or(MOST_CELLS),
+        None => MOST_CELLS,
+    }
+}
+
+/// Whether more options with cells stand there than may.
+fn are_many(words: &[String]) -> bool {
+    let views = words
+        .iter()
+        .filter(|word| word.as_str() == "--show" || word.as_str() == "--text")
+        .count();
+    MOST_VIEWS < views
+}
+
+/// Whether a word names cells of a guest of so many, as `2..10`.
+fn are_cells(word: &str, cells: u32) -> bool {
+    match word.split_once("..") {
+        None => false,
+        Some((from, to)) => match (from.parse::<u32>(), to.parse::<u32>()) {
+            (Ok(from), Ok(to)) => from < to && to <= cells,
+            _ => false,
+        },
+    }
+}
+
+/// Whether a word names such cells, and behind a colon, where there is one, how many bits of each.
+fn is_text(word: &str, cells: u32) -> bool {
+    match word.split_once(':') {
+        None => are_cells(word, cells),
+        Some((span, bits)) => match bits.parse::<u32>() {
+            Ok(bits) => bits % 8 == 0 && 8 <= bits && bits <= 64 && are_cells(span, cells),
+            Err(_) => false,
         },
     }
 }
@@ -399,6 +487,26 @@ fn missing(form: &Form, words: &[String], passed: usize) -> Option<&'static str>
         .map(|option| option.shown)
 }
 
+/// What is due where an option names cells.
+fn cells_due(option: &OptionForm) -> &'static str {
+    match option.value {
+        Value::Text => {
+            ": A below B, B at most G, and BITS of 8, 16, 24, 32, 40, 48, 56 or 64 are due"
+        }
+        Value::Cells | Value::Nothing | Value::File | Value::Number(..) => {
+            ": A below B, and B at most G are due"
+        }
+    }
+}
+
+/// A line, and that a value of an option is not taken.
+fn invalid(line: Line, option: &OptionForm, value: &str) -> Result<Line, AllocError> {
+    line.words("invalid value ")?
+        .shown(value)?
+        .words(" for ")?
+        .shown(option.shown)
+}
+
 /// A line, and what is wrong.
 fn told(line: Line, wrong: Wrong<'_>) -> Result<Line, AllocError> {
     match wrong {
@@ -414,16 +522,16 @@ fn told(line: Line, wrong: Wrong<'_>) -> Result<Line, AllocError> {
             .words("the argument ")?
             .shown(option.shown)?
             .words(" cannot be used multiple times"),
-        Wrong::Value(option, value, least, most) => line
-            .words("invalid value ")?
-            .shown(value)?
-            .words(" for ")?
-            .shown(option.shown)?
+        Wrong::Value(option, value, least, most) => invalid(line, &option, value)?
             .words(": a number from ")?
             .number(least)?
             .words(" to ")?
             .number(most)?
             .words(" is due"),
+        Wrong::Cells(option, value) => invalid(line, &option, value)?.words(cells_due(&option)),
+        Wrong::Views => line.words(
+            "the arguments '--show' and '--text' cannot be used more than 16 times in all",
+        ),
         Wrong::Kind(word) => line.words("invalid value ")?.shown(word)?.words(
             " for 'KIND': the kinds are privileged, control, mode, location, bound, ucontrol, ulocation and ubound",
         ),
