@@ -94,7 +94,7 @@ _pgv_side() {
   case ${1##*/} in
     pg_explain) files=".isa .cert instr kind" options="--budget --mend --readable --json" least=2 ;;
     pg_trace) files=".isa .img" options="--grant --steps --cert --only-traps --counts --json" order=no ;;
-    pg_go) files=".isa .cert .img .img .img .img .img .img .img .img" options="--grant --steps --slice" order=no ;;
+    pg_go) files=".isa .cert .img .img .img .img .img .img .img .img" options="--grant --steps --slice --show --text" order=no ;;
     pg_dimacs) files=".isa instr kind" ;;
     pg_import) files=".isa .cert instr kind - .cert" ;;
     pg_export) files=".isa .cert instr kind" options="--cnf" least=4 ;;
@@ -107,7 +107,8 @@ _pgv_side() {
     case $name in
       --only-traps | --counts | --check | --readable) used+="$name " ;;
       --*)
-        used+="$name "
+        # These two may be given again.
+        [[ $name == --show || $name == --text ]] || used+="$name "
         ((i++))
         [ "$i" -ge "$COMP_CWORD" ] && value="$name"
         ;;
