@@ -7,7 +7,7 @@ function __pg_go_at
     for word in (commandline -opc)[2..-1]
         if test $skip = 1
             set skip 0
-        else if contains -- $word --grant --steps --slice
+        else if contains -- $word --grant --steps --slice --show --text
             set skip 1
         else if not string match -q -- '--*' $word
             set count (math $count + 1)
@@ -25,3 +25,5 @@ end
 complete -c pg_go -l grant -x -d 'cells of each guest, 2 to 1048575'
 complete -c pg_go -l steps -x -d 'steps of each guest at most, 0 to 144115188075855872'
 complete -c pg_go -l slice -x -d 'steps in turn, 1 to 1000000; 1000 where it is not said'
+complete -c pg_go -l show -x -d 'words of cells A..B in place of the state'
+complete -c pg_go -l text -x -d 'bytes of cells A..B or A..B:BITS in place of the state'

@@ -26,3 +26,4 @@ complete -c pg_trace -l cert -r -k -a '(__fish_complete_suffix .cert)' -d 'certi
 complete -c pg_trace -l only-traps -d 'only steps that trap'
 complete -c pg_trace -l counts -d 'only the counts'
 complete -c pg_trace -l json -d 'the run as JSON'
+complete -c pg_trace -l vcd -d 'the run as a value change dump'

@@ -93,8 +93,8 @@ _pgv_side() {
   # Its files, its options, how many files stand before an option at least, and whether none stands behind one.
   case ${1##*/} in
     pg_explain) files=".isa .cert instr kind" options="--budget --mend --readable --json" least=2 ;;
-    pg_trace) files=".isa .img" options="--grant --steps --until --cert --only-traps --counts --json" order=no ;;
-    pg_go) files=".isa .cert .img .img .img .img .img .img .img .img" options="--grant --steps --slice" order=no ;;
+    pg_trace) files=".isa .img" options="--grant --steps --until --cert --only-traps --counts --json --vcd" order=no ;;
+    pg_go) files=".isa .cert .img .img .img .img .img .img .img .img" options="--grant --steps --slice --show --text" order=no ;;
     pg_dimacs) files=".isa instr kind" ;;
     pg_import) files=".isa .cert instr kind - .cert" ;;
     pg_export) files=".isa .cert instr kind" options="--cnf" least=4 ;;
@@ -107,7 +107,8 @@ _pgv_side() {
     case $name in
       --only-traps | --counts | --check | --readable) used+="$name " ;;
       --*)
-        used+="$name "
+        # These two may be given again.
+        [[ $name == --show || $name == --text ]] || used+="$name "
         ((i++))
         [ "$i" -ge "$COMP_CWORD" ] && value="$name"
         ;;

@@ -7,6 +7,12 @@ use pg_cert::reading::kind;
 use pg_cli_says::Line;
 use std::alloc::{AllocError, Global};
 
+/// The most cells of a machine.
+const MOST_CELLS: u64 = 1_048_575;
+
+/// How often options with cells may stand there, all together.
+const MOST_VIEWS: usize = 16;
+
 /// What is wrong with words that a program does not take, its name first, in a line; none where that cannot be said. The error is
 /// want of memory.
 pub fn complaint(
@@ -51,8 +57,8 @@ enum Wrong<'a> {
     Twice(OptionForm),
     /// A value that an option does not take.
     Value(OptionForm, &'a str),
-    /// Cells that a guest of so many has not.
-    Beyond(OptionForm, &'a str, u64),
+    /// More options with cells than may stand there.
+    Views,
     /// A word that is no kind.
     Kind(&'a str),
 }
@@ -75,10 +81,13 @@ fn wrong_part<'a>(
         Part::Given(option, _) if option.times != Times::Often && 1 < count(words, option.name) => {
             Some(Wrong::Twice(option))
         }
-        Part::Given(option, value) if !is_value(option.value, value) => {
+        Part::Given(option, value) if !is_value(form, words, option.value, value) => {
             Some(Wrong::Value(option, value))
         }
-        Part::Given(option, value) => beyond(form, words, option, value),
+        Part::Given(option, _) if option.times == Times::Often && are_many(words) => {
+            Some(Wrong::Views)
+        }
+        Part::Given(..) => None,
     }
 }
 
@@ -87,14 +96,14 @@ fn count(words: &[String], name: &str) -> usize {
     words.iter().filter(|word| word.as_str() == name).count()
 }
 
-/// Whether an option takes a value, whatever the other words are.
-fn is_value(due: Value, value: &str) -> bool {
+/// Whether an option takes a value.
+fn is_value(form: &Form, words: &[String], due: Value, value: &str) -> bool {
     match due {
         Value::Nothing | Value::File => true,
         Value::Number(least, most) => is_number(value, least, most),
         Value::End => is_end(value),
-        Value::Cells => end_of(value).is_some(),
-        Value::Bytes => end_of_bytes(value).is_some(),
+        Value::Cells => are_cells(value, grant(form, words)),
+        Value::Bytes => are_bytes(value, grant(form, words)),
     }
 }
 
@@ -109,49 +118,44 @@ fn is_number(word: &str, least: u64, most: u64) -> bool {
 /// Whether a word says when a run ends.
 fn is_end(word: &str) -> bool {
     match word.strip_prefix("P=") {
-        Some(address) => is_number(address, 0, 1_048_575),
+        Some(address) => is_number(address, 0, MOST_CELLS),
         None => word == "still" || word == "trap",
     }
 }
 
-/// Where the cells `A..B` end.
-fn end_of(word: &str) -> Option<u64> {
-    let (from, to) = word.split_once("..")?;
-    let to = to.parse::<u64>().ok()?;
-    if from.parse::<u64>().ok()? < to {
-        Some(to)
-    } else {
-        None
+/// How many cells the words grant, at most.
+fn grant(form: &Form, words: &[String]) -> u64 {
+    match form.value(words, "--grant") {
+        Some(cells) => cells.parse::<u64>().unwrap_or(MOST_CELLS),
+        None => MOST_CELLS,
     }
 }
 
-/// Where the cells `A..B` or `A..B:BITS` end.
-fn end_of_bytes(word: &str) -> Option<u64> {
+/// Whether a word names cells of a guest of so many: `A..B`.
+fn are_cells(word: &str, cells: u64) -> bool {
+    match word.split_once("..") {
+        None => false,
+        Some((from, to)) => match (from.parse::<u64>(), to.parse::<u64>()) {
+            (Ok(from), Ok(to)) => from < to && to <= cells,
+            _ => false,
+        },
+    }
+}
+
+/// Whether a word names such cells, and how many bits of each, where it says that: `A..B` or `A..B:BITS`.
+fn are_bytes(word: &str, cells: u64) -> bool {
     match word.split_once(':') {
-        None => end_of(word),
-        Some((cells, "8" | "16" | "24" | "32" | "40" | "48" | "56" | "64")) => end_of(cells),
-        Some(_) => None,
+        None => are_cells(word, cells),
+        Some((span, bits)) => match bits.parse::<u64>() {
+            Ok(bits) => bits % 8 == 0 && 8 <= bits && bits <= 64 && are_cells(span, cells),
+            Err(_) => false,
+        },
     }
 }
 
-/// Where a value names cells: that they are more than the guest has.
-fn beyond<'a>(
-    form: &Form,
-    words: &[String],
-    option: OptionForm,
-    value: &'a str,
-) -> Option<Wrong<'a>> {
-    let end = match option.value {
-        Value::Cells => end_of(value)?,
-        Value::Bytes => end_of_bytes(value)?,
-        Value::Nothing | Value::File | Value::Number(..) | Value::End => return None,
-    };
-    let grant = form.value(words, "--grant")?.parse::<u64>().ok()?;
-    if grant < end {
-        Some(Wrong::Beyond(option, value, grant))
-    } else {
-        None
-    }
+/// Whether more options with cells stand there than may.
+fn are_many(words: &[String]) -> bool {
+    MOST_VIEWS < count(words, "--show").saturating_add(count(words, "--text"))
 }
 
 /// What has to be there and is not, where so many words stand in places.
@@ -188,14 +192,9 @@ fn told(line: Line, wrong: Wrong<'_>) -> Result<Line, AllocError> {
                 .words(": ")?,
             option.value,
         ),
-        Wrong::Beyond(option, value, cells) => line
-            .words("invalid value ")?
-            .shown(value)?
-            .words(" for ")?
-            .shown(option.shown)?
-            .words(": a guest has ")?
-            .number(cells)?
-            .words(" cells"),
+        Wrong::Views => line.words(
+            "the arguments '--show' and '--text' cannot be used more than 16 times in all",
+        ),
         Wrong::Kind(word) => line.words("invalid value ")?.shown(word)?.words(
             " for 'KIND': the kinds are privileged, control, mode, location, bound, ucontrol, ulocation and ubound",
         ),
@@ -212,10 +211,12 @@ fn due(line: Line, value: Value) -> Result<Line, AllocError> {
             .words(" to ")?
             .number(most)?
             .words(" is due"),
-        Value::End => line.words("still, trap or P=A is due, A an address"),
-        Value::Cells => line.words("A..B is due, two addresses, A below B"),
-        Value::Bytes => {
-            line.words("A..B or A..B:BITS is due, A below B, BITS a multiple of 8 up to 64")
-        }
+        Value::End => line
+            .words("still, trap or P=A is due, A from 0 to ")?
+            .number(MOST_CELLS),
+        Value::Cells => line.words("A below B, and B at most G are due"),
+        Value::Bytes => line.words(
+            "A below B, B at most G, and BITS of 8, 16, 24, 32, 40, 48, 56 or 64 are due",
+        ),
     }
 }

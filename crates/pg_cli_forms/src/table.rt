@@ -81,6 +81,12 @@ const TRACE: Form = Form {
             times: Times::AtMostOnce,
         },
         OptionForm {
+            name: "--vcd",
+            shown: "--vcd",
+            value: Value::Nothing,
+            times: Times::AtMostOnce,
+        },
+        OptionForm {
             name: "--json",
             shown: "--json",
             value: Value::Nothing,

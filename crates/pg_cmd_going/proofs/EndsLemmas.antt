@@ -1,6 +1,7 @@
 -- `pg_go`: what it leaves, by the verdict of its certificate.
-use Rattle.std.proofs.Common.{◌≡◌, ◌∙◌, ◌+◌, ◌-◌, ◌≤◌, ap, List, [], ◌∷◌, All, length, map, ℕ, zero, suc, Option, None, Some, slice_get, refl, sym, subst, arith}
-use Rattle.std.proofs.lemmas.List.{length-map}
+use Rattle.std.proofs.Common.{◌≡◌, ◌∙◌, ◌+◌, ◌-◌, ◌≤◌, ap, List, [], ◌∷◌, All, length, replicate, ℕ, suc, Option, None, Some, slice_get, refl, sym, subst, arith}
+use Rattle.std.proofs.lemmas.List.{length-append, length-map, length-replicate}
+use Rattle.std.proofs.lemmas.List.Elements.{All-cons, All-head, All-nil, All-tail}
 use Rattle.std.proofs.lemmas.Option.{same_Some, slice_get-map}
 use Rattle.std.specs.Option.{option_map}
 use Rattle.pg_cert.specs.declared.cert.Family.TheVariants.{Plain}
@@ -13,9 +14,10 @@ use Rattle.pg_meaning.proofs.StepLaws.{steps-add, steps-stay}
 use Rattle.pg_hw.specs.Machinery.{Machinery}
 use Rattle.pg_hw.specs.Stillness.{IsStill}
 use Rattle.pg_control.specs.declared.guest.Guest.{Guest}
-use Rattle.pg_control.specs.Guests.{virtual, virtuals}
+use Rattle.pg_alloc.specs.Fit.{kept_cells}
+use Rattle.pg_control.specs.Guests.{grants_of, virtual, virtuals}
 use Rattle.pg_monitor.specs.Settling.{TellsFirst}
-use Rattle.pg_shown.specs.Runs.{GuestRun, switched_on}
+use Rattle.pg_shown.specs.Runs.{GuestRun, guests_from, switched_on}
 use Rattle.pg_shown.specs.Telling.{AreWithin}
 use Rattle.pg_shown.proofs.TellLemmas.{Stands-within}
 use Rattle.pg_type.specs.Accepting.{IsAccepted}
@@ -29,19 +31,21 @@ use Rattle.pg_tool_run.specs.Run.{JudgedRun, guests_in, judged_by}
 use Rattle.pg_tool_run.proofs.LoadingLemmas.{guests-read}
 use Rattle.pg_run_still.specs.declared.rounds.Rest.{Rest}
 use Rattle.pg_run_still.specs.declared.running.Rested.{Rested}
+use Rattle.pg_run_still.specs.declared.view.View.{View}
 use Rattle.pg_run_still.specs.Rested.{HaveRested}
-use Rattle.pg_run_still.specs.Running.{RanStill, plan_until, rested, steps_told, still_text, text_of_rest}
+use Rattle.pg_run_still.specs.Running.{RanStill, rested, steps_told, still_text, text_of_rest}
+use Rattle.pg_run_still.specs.Views.{AreViewsOf}
 use Rattle.pg_cmd_going.specs.declared.request.GoWords.{GoWords}
 use Rattle.pg_cmd_going.specs.Going.{GoDue, GoEnds, GoneEnd, StayStill, bare_each, files_of}
 
 -- the verdict was told, and nothing ran
 pub go-told : (told : Option Files) (w : GoWords) (j : JudgedRun) (old new : World) → GoDue w told (Came j) → ¬ (verdict_on (judged_by j) ≡ Accepted) → IsUntouched old new →
-    GoEnds j old new (verdict_status (verdict_on (judged_by j))) (verdict_told (judged_by j))
+    GoEnds w.views.items j old new (verdict_status (verdict_on (judged_by j))) (verdict_told (judged_by j))
 unfolding GoDue
 go-told told w j old new due other same =
     let read : IsRead Plain (judged_by j) = subst (λ (x : JudgedRun). IsRead Plain (judged_by x)) (sym due.2) (guests-read Plain (files_of w) told due.0 due.1) in
     record {
-      by_verdict = ends-told (verdict_on (judged_by j)) (GoneEnd j) Plain (judged_by j) old new _ _ other (verdict-ends Plain (judged_by j) old new read same);
+      by_verdict = ends-told (verdict_on (judged_by j)) (GoneEnd w.views.items j) Plain (judged_by j) old new _ _ other (verdict-ends Plain (judged_by j) old new read same);
     }
 
 -- the states of images that are switched on are those of bare machines
@@ -68,10 +72,10 @@ stay-still j ran rounds old new left at n k image rest is is' still behind =
     stays j.desc s rest.turns n k rest.still still behind (left.each at s rest from is').first
 
 -- the guests ran
-pub go-ran : (j : JudgedRun) (ran : Rested) (old new : World) → verdict_on (judged_by j) ≡ Accepted → IsAccepted j.desc → All (λ image. length image ≡ j.grant) j.images →
-    (have : HaveRested (guests_in j) ran old.hw new.hw) → new.files ≡ old.files → new.save_faults ≡ old.save_faults → GoEnds j old new Done (text_of_rest (guests_in j) ran.rests.items have.rounds)
-go-ran j ran old new is accepted filled have files saves = record {
-  by_verdict = ends-left (verdict_on (judged_by j)) (GoneEnd j) Plain (judged_by j) old new Done (text_of_rest (guests_in j) ran.rests.items have.rounds) is
+pub go-ran : (vs : List View) (j : JudgedRun) (ran : Rested) (old new : World) → verdict_on (judged_by j) ≡ Accepted → IsAccepted j.desc → All (λ image. length image ≡ j.grant) j.images →
+    (have : HaveRested (guests_in j) ran old.hw new.hw) → new.files ≡ old.files → new.save_faults ≡ old.save_faults → GoEnds vs j old new Done (text_of_rest (guests_in j) vs ran.rests.items have.rounds)
+go-ran vs j ran old new is accepted filled have files saves = record {
+  by_verdict = ends-left (verdict_on (judged_by j)) (GoneEnd vs j) Plain (judged_by j) old new Done (text_of_rest (guests_in j) vs ran.rests.items have.rounds) is
       (record {
         status = refl;
         accepted = accepted;
@@ -88,14 +92,12 @@ go-ran j ran old new is accepted filled have files saves = record {
 }
 
 -- what is told of guests that ran is the text of their run
-pub rested-text : (r : GuestRun) (ran : Rested) (old h : Machinery) (guests : List Guest) (rests : List Rest) (turns direct : ℕ) → (have : HaveRested r ran old h) → guests ≡ ran.monitor.guests →
-    rests ≡ ran.rests.items → turns ≡ ran.turns → direct ≡ ran.direct → still_text r.desc.word (virtuals h.state.cells guests) rests turns direct ≡ text_of_rest r ran.rests.items have.rounds
-rested-text r ran old h guests rests turns direct have are_guests are_rests are_turns are_direct =
-    ap (λ gs. still_text r.desc.word (virtuals h.state.cells gs) rests turns direct) are_guests
-    ∙ ap (λ ss. still_text r.desc.word ss rests turns direct) have.states
-    ∙ ap (λ rs. still_text r.desc.word (rested r.desc r.states ran.rests.items) rs turns direct) are_rests
-    ∙ ap (λ n. still_text r.desc.word (rested r.desc r.states ran.rests.items) ran.rests.items n direct) (are_turns ∙ have.turns)
-    ∙ ap (still_text r.desc.word (rested r.desc r.states ran.rests.items) ran.rests.items _) (are_direct ∙ have.direct)
+pub rested-text : (r : GuestRun) (vs : List View) (ran : Rested) (old h : Machinery) → (have : HaveRested r ran old h) →
+    still_text r.desc.word vs (virtuals h.state.cells ran.monitor.guests) ran.rests.items ran.turns ran.direct ≡ text_of_rest r vs ran.rests.items have.rounds
+rested-text r vs ran old h have =
+    ap (λ ss. still_text r.desc.word vs ss ran.rests.items ran.turns ran.direct) have.states
+    ∙ ap (λ n. still_text r.desc.word vs (rested r.desc r.states ran.rests.items) ran.rests.items n ran.direct) have.turns
+    ∙ ap (still_text r.desc.word vs (rested r.desc r.states ran.rests.items) ran.rests.items _) have.direct
 
 -- of each guest something is told
 rested-long : (d : Desc) (ss : List State) (rests : List Rest) → length rests ≡ length ss → length (rested d ss rests) ≡ length ss
@@ -110,3 +112,33 @@ rested-count r ran old h have =
 -- they lie within the storage
 pub rested-within : (r : GuestRun) (ran : Rested) (old h : Machinery) → HaveRested r ran old h → AreWithin h.state ran.monitor.guests
 rested-within r ran old h have = Stands-within r.desc h.state ran.monitor.guests ran.monitor.current have.stands
+
+-- guests have the sizes of their images
+power_on-length : (image : List ℕ) → length (power_on image (length image)).cells ≡ length image
+unfolding power_on
+power_on-length image = omega (arith, length-append image (replicate (length image - length image) 0), length-replicate {A = ℕ} (length image - length image) 0)
+
+sized : (size : ℕ) (P : ℕ → Type 0) (images : List (List ℕ)) (base : ℕ) (gs : List Guest) → grants_of gs ≡ grants_of (guests_from base (switched_on images)) →
+    All (λ image. length image ≡ size) images → P size → All (λ (g : Guest). P g.size) gs
+sized size P [] base [] same filled p = All-nil (λ (g : Guest). P g.size)
+sized size P [] base (g ∷ gs) same filled p = absurd (let wrong : ⊥ = cc in wrong)
+sized size P (image ∷ images) base [] same filled p = absurd (let wrong : ⊥ = cc in wrong)
+sized size P (image ∷ images) base (g ∷ gs) same filled p =
+    let long : ℕ = length (power_on image (length image)).cells in
+    let pair : (g.base, g.size) ≡ (base, long) = cc in
+    let first : g.size ≡ long = ap (λ (p : ℕ × ℕ). p.1) pair in
+    let rest : grants_of gs ≡ grants_of (guests_from (base + long) (switched_on images)) = cc in
+    let whole : length image ≡ size = All-head (λ (i : List ℕ). length i ≡ size) image images filled in
+    let own : g.size ≡ size = first ∙ power_on-length image ∙ whole in
+    All-cons (λ (x : Guest). P x.size) g gs (subst P (sym own) p)
+    (sized size P images (base + long) gs rest (All-tail (λ (i : List ℕ). length i ≡ size) image images filled) p)
+
+-- so the views show cells that each guest has
+pub rested-views : (j : JudgedRun) (vs : List View) (ran : Rested) (old h : Machinery) → HaveRested (guests_in j) ran old h → All (λ image. length image ≡ j.grant) j.images →
+    AreViewsOf j.grant vs → All (λ g. AreViewsOf g.size vs) ran.monitor.guests
+rested-views j vs ran old h have filled within = sized j.grant (λ size. AreViewsOf size vs) j.images kept_cells ran.monitor.guests have.grants filled within
+
+-- the words grant as many cells as their run has
+pub granted-by : (told : Option Files) (w : GoWords) (j : JudgedRun) → GoDue w told (Came j) → w.grant ≡ j.grant
+unfolding GoDue
+granted-by told w j due = sym (ap (λ (x : JudgedRun). x.grant) due.2)

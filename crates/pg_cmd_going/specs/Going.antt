@@ -18,6 +18,7 @@ use Rattle.pg_judged.specs.Telling.{EndsBy}
 use Rattle.pg_tool_run.specs.Loading.{GuestFiles, Loaded, GuestsDue}
 use Rattle.pg_tool_run.specs.Run.{JudgedRun, RunStarves, guests_in, judged_by}
 use Rattle.pg_run_still.specs.declared.rounds.Rest.{Rest}
+use Rattle.pg_run_still.specs.declared.view.View.{View}
 use Rattle.pg_run_still.specs.Running.{RanStill, rested, steps_told, text_of_rest}
 use Rattle.pg_cmd_going.specs.declared.request.GoWords.{GoWords}
 
@@ -44,9 +45,10 @@ abbrev pub StayStill : Desc → List (List ℕ) → List Rest → Type 0
 StayStill d images rests = (j n k : ℕ) (image : List ℕ) (rest : Rest) → slice_get images j ≡ Some image → slice_get rests j ≡ Some rest →
     rest.still ≡ Some n → n ≤ k → bare d image (length image) k ≡ bare d image (length image) n
 
--- the guests ran: every sensitive instruction of the machine is privileged, each image has the granted size, and the text is that of
--- the states that bare machines reach in the steps told, and of the counts of turns; no file was saved
-pub record GoneEnd (j : JudgedRun) (old new : World) (given : Status) (text : List ℕ) : Type 0 where
+-- the guests ran: every sensitive instruction of the machine is privileged, each image has the granted size, and the text is what the
+-- views show of the states that bare machines reach in the steps told, or all of them where there is no view, and the counts of turns;
+-- no file was saved
+pub record GoneEnd (views : List View) (j : JudgedRun) (old new : World) (given : Status) (text : List ℕ) : Type 0 where
   pub status : given ≡ status.Done
   pub accepted : IsAccepted j.desc
   pub granted : All (λ image. length image ≡ j.grant) j.images
@@ -54,15 +56,15 @@ pub record GoneEnd (j : JudgedRun) (old new : World) (given : Status) (text : Li
   pub rounds : ℕ
   pub reached : rested j.desc (guests_in j).states rests ≡ bare_each j.desc j.images rests
   pub stay : StayStill j.desc j.images rests
-  pub wording : text ≡ text_of_rest (guests_in j) rests rounds
+  pub wording : text ≡ text_of_rest (guests_in j) views rests rounds
   pub ran : RanStill (guests_in j) rests rounds old.hw new.hw
   pub files : new.files ≡ old.files
   pub saves : new.save_faults ≡ old.save_faults
 
 -- by the verdict of the certificate: the guests ran where it accepts the machine; else it is told, as `verify` tells it, and
 -- nothing ran
-pub record GoEnds (j : JudgedRun) (old new : World) (given : Status) (text : List ℕ) : Type 0 where
-  pub by_verdict : EndsBy (verdict_on (judged_by j)) (GoneEnd j) Plain (judged_by j) old new given text
+pub record GoEnds (views : List View) (j : JudgedRun) (old new : World) (given : Status) (text : List ℕ) : Type 0 where
+  pub by_verdict : EndsBy (verdict_on (judged_by j)) (GoneEnd views j) Plain (judged_by j) old new given text
 
 -- without memory the same is left as of `run`
 abbrev pub go_command : GoWords → Command
@@ -70,7 +72,7 @@ go_command w = record {
   Work = JudgedRun;
   due = GoDue w;
   saved = None;
-  ends = GoEnds;
+  ends = GoEnds w.views.items;
   unsaved = λ j old new. ⊥;
   starved = RunStarves;
 }

@@ -2,7 +2,7 @@
 //!
 //! Description, room, images and certificate are loaded (`prepare_go`), in the order of the definition (`GoDue`, `specs/Going.antt`).
 //! Where its verdict does not accept the machine it is told, and nothing runs. Else the images run as guests of one monitor
-//! (`pg_run_still`), and their text is put. Memory is taken before the first turn; where it is refused no turn was made, but the
+//! (`pg_run_still`), and their text is put, by the views of the words. Memory is taken before the first turn; where it is refused no turn was made, but the
 //! hardware may be set up (`SetUp`).
 
 ghost use Rattle.std.specs.Prelude.{◌≡◌, None};
@@ -49,16 +49,7 @@ pub fn carry_go<F: Shelf, S: Sink, H: Settling, W: StopWatcher>(
         Ok(ran) => ran,
         Err(_) => return Status::Memory,
     };
-    let machine = &plan.judged.machine;
-    match put_rested(
-        out,
-        machine,
-        ran.guests(),
-        ran.rests(),
-        ran.turns(),
-        ran.direct(),
-        hw,
-    ) {
+    match put_rested(out, &plan.judged.machine, &ran, words.views.as_slice(), hw) {
         Ok(()) => Status::Done,
         Err(_) => Status::WriteFault,
     }

@@ -1,8 +1,10 @@
 //! What the words of the command line ask for.
 
-ghost use Rattle.std.specs.Prelude.{◌≤◌, ◌^◌, IfOk, length};
+ghost use Rattle.std.specs.Prelude.{◌≡◌, ◌≤◌, ◌^◌, IfOk, length, true};
+ghost use Rattle.pg_run_still.specs.Views.{AreViewsOf};
 
 use pg_asked::{FileName, Grant, Images, Slice};
+use pg_run_still::{ByteCount, Span, View};
 use std::alloc::{AllocError, Global};
 
 /// The most steps that a guest may be asked for: eight guests of so many have 2^60.
@@ -13,6 +15,9 @@ const USUAL_SLICE: u64 = 1_000;
 
 /// The most images.
 const MOST_IMAGES: usize = 8;
+
+/// The most views.
+const MOST_VIEWS: usize = 16;
 
 /// A run of guests, each until it is still.
 #[derive(Drop)]
@@ -29,6 +34,10 @@ pub struct GoWords {
     pub steps: StepsAtMost,
     /// How many steps a guest does before the next has its turn.
     pub slice: Slice,
+    /// What is told of each guest in place of its state, 16 at most; none where its state is told.
+    pub views: Vec<View>,
+    /// They show cells that each guest has.
+    pub ghost within: { AreViewsOf grant views.items },
 }
 
 /// How many steps a guest does at most.
@@ -47,6 +56,7 @@ struct Draft<'a> {
     grant: Option<Grant>,
     steps: Option<StepsAtMost>,
     slice: Option<Slice>,
+    views: Vec<View>,
 }
 
 /// Why words are not taken.
@@ -79,6 +89,7 @@ fn words_of(alloc: Global, words: &[String]) -> Result<GoWords, Untaken> {
         grant: None,
         steps: None,
         slice: None,
+        views: Vec::new(alloc),
     };
     let [_, words @ ..] = words else {
         return Err(Untaken::Words);
@@ -97,19 +108,15 @@ fn whole(alloc: Global, draft: Draft<'_>) -> Result<GoWords, Untaken> {
         grant,
         steps,
         slice,
+        views,
     } = draft;
     let grant = match grant {
         Some(grant) => grant,
         None => return Err(Untaken::Words),
     };
-    let slice = match slice {
-        Some(slice) => slice,
-        None => Slice::new(USUAL_SLICE),
-    };
-    let steps = match steps {
-        Some(steps) => steps,
-        None => StepsAtMost { count: MOST_STEPS },
-    };
+    if !are_within(views.as_slice(), grant.cells()) {
+        return Err(Untaken::Words);
+    }
     let [desc, cert, images @ ..] = files.as_slice() else {
         return Err(Untaken::Words);
     };
@@ -121,9 +128,38 @@ fn whole(alloc: Global, draft: Draft<'_>) -> Result<GoWords, Untaken> {
         cert: file_name(alloc, cert)?,
         images: images_of(alloc, images)?,
         grant,
-        steps,
-        slice,
+        steps: steps_or_most(steps),
+        slice: slice_or_usual(slice),
+        views,
     })
+}
+
+/// How many steps a guest does at most, where words may have said it.
+fn steps_or_most(steps: Option<StepsAtMost>) -> StepsAtMost {
+    match steps {
+        Some(steps) => steps,
+        None => StepsAtMost { count: MOST_STEPS },
+    }
+}
+
+/// The slice, where words may have said it.
+fn slice_or_usual(slice: Option<Slice>) -> Slice {
+    match slice {
+        Some(slice) => slice,
+        None => Slice::new(USUAL_SLICE),
+    }
+}
+
+/// Whether views show no cells but the first ones, so many.
+fn are_within(views: &[View], cells: u32) -> bool
+    ensures { result ≡ true → AreViewsOf cells views.now }
+{
+    for view in views {
+        if view.end() > cells {
+            return false;
+        }
+    }
+    true
 }
 
 /// The images of these names.
@@ -144,44 +180,49 @@ fn file_name(alloc: Global, name: &str) -> Result<FileName, AllocError> {
 }
 
 impl<'a> Draft<'a> {
-    /// Takes a word, and where it wants one the word behind it; what is left.
+    /// Takes a word, and behind the name of an option its value; what is left.
     fn take(&mut self, word: &'a str, behind: &'a [String]) -> Result<&'a [String], Untaken>
         ensures { IfOk result (λ left. length left.now ≤ length behind.now) }
     {
-        match word {
-            "--grant" if self.grant.is_none() => {
-                let [number, behind @ ..] = behind else {
-                    return Err(Untaken::Words);
-                };
-                self.grant = Some(grant_of(number.as_str())?);
-                Ok(behind)
-            }
-            "--steps" if self.steps.is_none() => {
-                let [number, behind @ ..] = behind else {
-                    return Err(Untaken::Words);
-                };
-                self.steps = Some(steps_of(number.as_str())?);
-                Ok(behind)
-            }
-            "--slice" if self.slice.is_none() => {
-                let [number, behind @ ..] = behind else {
-                    return Err(Untaken::Words);
-                };
-                self.slice = Some(slice_of(number.as_str())?);
-                Ok(behind)
-            }
-            _ if word.starts_with('-') => Err(Untaken::Words),
-            _ => {
-                self.take_file(word)?;
-                Ok(behind)
-            }
+        if !word.starts_with('-') {
+            self.take_file(word)?;
+            return Ok(behind);
         }
+        let [value, behind @ ..] = behind else {
+            return Err(Untaken::Words);
+        };
+        self.take_option(word, value.as_str())?;
+        Ok(behind)
     }
 
     /// Takes the name of a file. The error is want of memory.
     fn take_file(&mut self, name: &'a str) -> Result<(), AllocError> {
         self.files.push(name)?;
         Ok(())
+    }
+
+    /// Takes an option with its value.
+    fn take_option(&mut self, name: &str, value: &str) -> Result<(), Untaken> {
+        match name {
+            "--grant" if self.grant.is_none() => self.grant = Some(grant_of(value)?),
+            "--steps" if self.steps.is_none() => self.steps = Some(steps_of(value)?),
+            "--slice" if self.slice.is_none() => self.slice = Some(slice_of(value)?),
+            "--show" => self.take_view(View::Cells(span_of(value)?))?,
+            "--text" => self.take_view(text_of(value)?)?,
+            _ => return Err(Untaken::Words),
+        }
+        Ok(())
+    }
+
+    /// Takes a view, unless it is one too many.
+    fn take_view(&mut self, view: View) -> Result<(), Untaken> {
+        if self.views.len() >= MOST_VIEWS {
+            return Err(Untaken::Words);
+        }
+        match self.views.push(view) {
+            Ok(()) => Ok(()),
+            Err(_) => Err(Untaken::Memory),
+        }
     }
 }
 
@@ -205,6 +246,37 @@ fn steps_of(word: &str) -> Result<StepsAtMost, Untaken> {
 fn slice_of(word: &str) -> Result<Slice, Untaken> {
     match word.parse::<u64>() {
         Ok(steps) if (1..=1_000_000).contains(&steps) => Ok(Slice::new(steps)),
+        _ => Err(Untaken::Words),
+    }
+}
+
+/// The cells of two addresses, `A..B`: those from the first on, up to the second, which is greater.
+fn span_of(word: &str) -> Result<Span, Untaken> {
+    let (from, to) = match word.split_once("..") {
+        Some(parts) => parts,
+        None => return Err(Untaken::Words),
+    };
+    match (from.parse::<u32>(), to.parse::<u32>()) {
+        (Ok(from), Ok(to)) if from < to => Ok(Span { from, to }),
+        _ => Err(Untaken::Words),
+    }
+}
+
+/// The text of cells, `A..B`, of a byte of each; or `A..B:BITS`, of so many bits of each.
+fn text_of(word: &str) -> Result<View, Untaken> {
+    match word.split_once(':') {
+        None => Ok(View::Bytes(span_of(word)?, ByteCount { count: 1 })),
+        Some((cells, bits)) => Ok(View::Bytes(span_of(cells)?, bytes_in(bits)?)),
+    }
+}
+
+/// The bytes of a number of bits: 8, 16, 24, 32, 40, 48, 56 or 64.
+fn bytes_in(word: &str) -> Result<ByteCount, Untaken> {
+    match word.parse::<u32>() {
+        Ok(bits) if (8..=64).contains(&bits) => match bits % 8 {
+            0 => Ok(ByteCount { count: bits / 8 }),
+            _ => Err(Untaken::Words),
+        },
         _ => Err(Untaken::Words),
     }
 }

@@ -1,4 +1,5 @@
 mod PlanLemmas
 mod GoingLemmas
+mod ViewLemmas
 mod TellLemmas
 mod RanLemmas

@@ -1,17 +1,15 @@
 -- What the turns of guests leave that ran until they were still.
-use Rattle.std.proofs.Common.{◌≡◌, ℕ, zero, suc, ◌+◌, ◌-◌, ◌*◌, ◌^◌, ◌<◌, ◌≤◌, Bool, true, false, min, if◌then◌else◌, List, [], ◌∷◌, ◌++◌, All, length, map, Option, None, Some, slice_get, slice_index, refl, sym, ◌∙◌, ap, subst, arith}
+use Rattle.std.proofs.Common.{◌≡◌, ℕ, zero, suc, ◌+◌, ◌-◌, ◌*◌, ◌^◌, ◌≤◌, Bool, true, false, min, if◌then◌else◌, List, [], ◌∷◌, length, map, Option, None, Some, slice_get, slice_index, refl, sym, ◌∙◌, ap, subst, arith}
 use Rattle.std.specs.Option.{option_map}
 use Rattle.std.proofs.lemmas.List.{length-map}
-use Rattle.std.proofs.lemmas.Option.{slice_get-get_or}
 use Rattle.pg_ast.specs.declared.tree.Desc.{Desc}
 use Rattle.pg_meaning.specs.States.{State}
 use Rattle.pg_meaning.specs.Steps.{steps}
 use Rattle.pg_meaning.proofs.StepLaws.{steps-add, steps-stay}
 use Rattle.pg_hw.specs.Machinery.{Machinery}
-use Rattle.pg_control.specs.declared.guest.Guest.{Guest}
 use Rattle.pg_control.specs.Counting.{BottomTurns}
 use Rattle.pg_control.specs.Direct.{direct_among}
-use Rattle.pg_control.specs.Guests.{virtual, virtuals}
+use Rattle.pg_control.specs.Guests.{grants_of, virtual, virtuals}
 use Rattle.pg_control.specs.Plans.{turns_of, turns_for}
 use Rattle.pg_control.specs.Standing.{Stands}
 use Rattle.pg_control.proofs.CountLemmas.{direct_among-most}
@@ -19,7 +17,7 @@ use Rattle.pg_control.proofs.PlanLemmas.{count_of-most, grants-length, turns_of-
 use Rattle.pg_guests.proofs.RanLemmas.{changes-most}
 use Rattle.pg_monitor.specs.declared.monitor.Monitor.{Monitor}
 use Rattle.pg_monitor.specs.Monitors.{desc_of, kept_by}
-use Rattle.pg_monitor.specs.Plans.{direct_of, cell_behind, psw_behind, changes_of, Followed}
+use Rattle.pg_monitor.specs.Plans.{direct_of, cell_behind, psw_behind, changes_of}
 use Rattle.pg_monitor.specs.Settling.{TellsFirst}
 use Rattle.pg_monitor.specs.Turns.{CountsTurns}
 use Rattle.pg_monitor.proofs.PlanLemmas.{Followed-own}
@@ -210,6 +208,7 @@ module _ (r : GuestRun) (old on new : Machinery) (before after : Monitor) (rests
       rounds = ran.rounds;
       ran_still = subst (λ rs. RanStill r rs ran.rounds old new) (sym told) run-left;
       machine = ap desc_of monitor ∙ h.machine ∙ h.desc;
+      grants = ap (λ (m : Monitor). grants_of m.guests) monitor ∙ ran.followed.grants;
       stands = subst (λ (m : Monitor). Stands d new.state m.guests m.current) (sym monitor) run-stands;
       states = ap (λ (m : Monitor). virtuals new.state.cells m.guests) monitor ∙ run-states ∙ ap (rested d r.states) (sym told);
       turns = turns ∙ (let rose = run-steps in omega (arith, rose)) ∙ ap (λ rs. turns_of (plan_until r rs ran.rounds)) (sym told);

@@ -1,4 +1,5 @@
 pub mod Rounds
 pub mod Resting
+pub mod Views
 pub mod Running
 pub mod Rested

@@ -1,7 +1,7 @@
 -- Guests behind their last turn, as the code has them.
 use Rattle.std.specs.Prelude.{◌≡◌, ℕ}
 use Rattle.pg_hw.specs.Machinery.{Machinery}
-use Rattle.pg_control.specs.Guests.{virtuals}
+use Rattle.pg_control.specs.Guests.{grants_of, virtuals}
 use Rattle.pg_control.specs.Plans.{turns_of}
 use Rattle.pg_control.specs.Standing.{Stands}
 use Rattle.pg_monitor.specs.Monitors.{desc_of}
@@ -15,6 +15,7 @@ pub record HaveRested (r : GuestRun) (ran : Rested) (old new : Machinery) : Type
   pub rounds : ℕ
   pub ran_still : RanStill r ran.rests.items rounds old new
   pub machine : desc_of ran.monitor ≡ r.desc
+  pub grants : grants_of ran.monitor.guests ≡ grants_of (guests_of r)
   pub stands : Stands r.desc new.state ran.monitor.guests ran.monitor.current
   pub states : virtuals new.state.cells ran.monitor.guests ≡ rested r.desc r.states ran.rests.items
   pub turns : ran.turns ≡ turns_of (plan_until r ran.rests.items rounds)

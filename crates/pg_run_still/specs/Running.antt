@@ -6,7 +6,6 @@ use Rattle.pg_word.specs.Psw.{new_psw_cell, old_psw_cell, packed, power_on_psw}
 use Rattle.pg_meaning.specs.States.{State}
 use Rattle.pg_meaning.specs.Steps.{steps}
 use Rattle.pg_hw.specs.Machinery.{Machinery}
-use Rattle.pg_image.specs.Lines.{state_text}
 use Rattle.pg_alloc.specs.Fit.{kept_cells}
 use Rattle.pg_control.specs.Counting.{BottomTurns}
 use Rattle.pg_control.specs.Plans.{turns_of, IsOutside}
@@ -15,8 +14,10 @@ use Rattle.pg_report.specs.Runs.{steps_line}
 use Rattle.pg_shown.specs.Runs.{GuestRun, cells_in, granted, guests_of}
 use Rattle.pg_shown.specs.Setting.{HaveRoom}
 use Rattle.pg_run_still.specs.declared.rounds.Rest.{Rest}
+use Rattle.pg_run_still.specs.declared.view.View.{View}
 use Rattle.pg_run_still.specs.Rounds.{rounds_until}
 use Rattle.pg_run_still.specs.Resting.{AreRests, firsts}
+use Rattle.pg_run_still.specs.Views.{guest_text}
 
 -- ---- runs that there can be
 
@@ -76,21 +77,21 @@ abbrev pub rest_said : ℕ → Option ℕ → List ℕ
 rest_said turns None = codes "after " ++ decimal turns ++ codes " steps" ++ 10 ∷ []
 rest_said turns (Some n) = codes "still after " ++ decimal n ++ codes " steps" ++ 10 ∷ []
 
--- the lines before the state of a guest: its number, and behind how many steps it is still, or how many it had
+-- the lines before what is told of a guest's cells: its number, and behind how many steps it is still, or how many it had
 unfoldable pub head_text : ℕ → Rest → List ℕ
 head_text k rest = codes "guest " ++ decimal k ++ 10 ∷ [] ++ (rest_said rest.turns rest.still)
 
--- guests from number k on, each with what is told of it and its state
-abbrev pub rests_text : ℕ → ℕ → List State → List Rest → List ℕ
-rests_text w k [] rests = []
-rests_text w k (s ∷ ss) [] = []
-rests_text w k (s ∷ ss) (rest ∷ rests) = head_text k rest ++ state_text w s.cells s.psw ++ rests_text w (suc k) ss rests
+-- guests from number k on, each with what is told of it, and what the views show of its state, or all of that
+abbrev pub rests_text : ℕ → List View → ℕ → List State → List Rest → List ℕ
+rests_text w views k [] rests = []
+rests_text w views k (s ∷ ss) [] = []
+rests_text w views k (s ∷ ss) (rest ∷ rests) = head_text k rest ++ guest_text w views s ++ rests_text w views (suc k) ss rests
 
 -- guests at these states, after so many turns in all
-unfoldable pub still_text : ℕ → List State → List Rest → ℕ → ℕ → List ℕ
-still_text w states rests turns direct = rests_text w 0 states rests ++ steps_line turns direct
+unfoldable pub still_text : ℕ → List View → List State → List Rest → ℕ → ℕ → List ℕ
+still_text w views states rests turns direct = rests_text w views 0 states rests ++ steps_line turns direct
 
 -- the text of a run in so many rounds
-abbrev pub text_of_rest : GuestRun → List Rest → ℕ → List ℕ
-text_of_rest r rests rounds = still_text r.desc.word (rested r.desc r.states rests) rests (turns_of (plan_until r rests rounds))
+abbrev pub text_of_rest : GuestRun → List View → List Rest → ℕ → List ℕ
+text_of_rest r views rests rounds = still_text r.desc.word views (rested r.desc r.states rests) rests (turns_of (plan_until r rests rounds))
     (direct_of r.desc (guests_of r) (plan_until r rests rounds) r.states)

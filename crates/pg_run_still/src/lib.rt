@@ -6,13 +6,17 @@
 //!
 //! # Modules
 //!
-//! - `rounds`: the rounds. `running`: a run of images, from the hardware on. `telling`: its text.
+//! - `rounds`: the rounds. `running`: a run of images, from the hardware on.
+//! - `telling`: its text. `view`: what may be told of a guest in place of its state. `viewing`: the text of that.
 #![tactic(auto)]
 
 mod rounds;
 mod running;
 mod telling;
+mod view;
+mod viewing;
 
 pub use rounds::{MOST_GUESTS, Rest, Rests, run_rounds};
 pub use running::{Rested, run_until_still};
 pub use telling::put_rested;
+pub use view::{ByteCount, Span, View};

@@ -3,12 +3,15 @@
 ghost use Rattle.std.specs.Prelude.{◌≡◌, ◌+◌, ◌<◌, ◌≤◌, ◌^◌, [], ◌∷◌, ◌++◌, All, codes, length};
 ghost use Rattle.std.specs.Fmt.{decimal};
 ghost use Rattle.pg_edge.specs.Sink.{Puts};
-ghost use Rattle.pg_image.specs.Lines.{state_text};
 ghost use Rattle.pg_control.specs.Guests.{virtual, virtuals};
 ghost use Rattle.pg_shown.specs.Telling.{AreWithin};
-ghost use Rattle.pg_run_still.specs.Running.{head_text, still_text};
+ghost use Rattle.pg_run_still.specs.Running.{head_text, rests_text, still_text};
+ghost use Rattle.pg_run_still.specs.Views.{AreViewsOf, guest_text};
 
 use crate::rounds::Rest;
+use crate::running::Rested;
+use crate::view::View;
+use crate::viewing::put_views;
 use pg_control::Guest;
 use pg_edge::{Failed, Sink};
 use pg_hw::Hardware;
@@ -17,57 +20,102 @@ use pg_machine::Machine;
 use pg_report::{put_state, put_steps};
 use pg_text::dec;
 
-/// Puts the text of guests: each guest's number, what is told of it, and its state, in order, and the counts of turns, how many they
-/// had and how many of these the hardware executed untrapped. It takes no memory, and the time grows with the guests' cells.
+/// Puts the text of guests that ran: of each its number, what is told of it, and what the views show of its state, or its whole state
+/// where there is no view; in order, and then the counts of turns, how many they had and how many of these the hardware executed
+/// untrapped. It takes no memory, and the time grows with the cells that are told.
 ///
 /// # Errors
 /// `Failed` where not all of the text went through. A front of it may have.
 pub fn put_rested<S: Sink, H: Hardware>(
     out: &mut S,
     machine: &Machine,
+    ran: &Rested<'_>,
+    views: &[View],
+    hw: &H,
+) -> Result<(), Failed>
+    requires count { length ran.now.rests.items ≡ length ran.now.monitor.guests }
+    requires words { All (λ cell. cell < 2 ^ machine.now.desc.word) (H.machinery hw.now).state.cells }
+    requires within { AreWithin (H.machinery hw.now).state ran.now.monitor.guests }
+    requires views { All (λ guest. AreViewsOf guest.size views.now) ran.now.monitor.guests }
+    ensures { Puts (S.written out.old) (S.written out.new) (S.faults out.old) (S.faults out.new)
+        (still_text machine.now.desc.word views.now (virtuals (H.machinery hw.now).state.cells ran.now.monitor.guests) ran.now.rests.items
+        ran.now.turns ran.now.direct) result }
+{
+    match put_guests(out, machine, ran.guests(), ran.rests(), views, hw) {
+        Ok(()) => put_steps(out, ran.turns(), ran.direct()),
+        Err(failed) => Err(failed),
+    }
+}
+
+/// Puts what is told of each guest.
+fn put_guests<S: Sink, H: Hardware>(
+    out: &mut S,
+    machine: &Machine,
     guests: &[Guest],
     rests: &[Rest],
-    turns: u64,
-    direct: u64,
+    views: &[View],
     hw: &H,
 ) -> Result<(), Failed>
     requires count { length rests.now ≡ length guests.now }
     requires words { All (λ cell. cell < 2 ^ machine.now.desc.word) (H.machinery hw.now).state.cells }
     requires within { AreWithin (H.machinery hw.now).state guests.now }
+    requires views { All (λ guest. AreViewsOf guest.size views.now) guests.now }
     ensures { Puts (S.written out.old) (S.written out.new) (S.faults out.old) (S.faults out.new)
-        (still_text machine.now.desc.word (virtuals (H.machinery hw.now).state.cells guests.now) rests.now turns direct) result }
+        (rests_text machine.now.desc.word views.now 0 (virtuals (H.machinery hw.now).state.cells guests.now) rests.now) result }
 {
     for k in 0..guests.len() {
-        match put_one(out, machine, guests[k], rests[k], k, hw) {
+        match put_one(out, machine, guests[k], head_of(k, rests[k]), views, hw) {
             Ok(()) => {}
             Err(failed) => return Err(failed),
         }
     }
-    put_steps(out, turns, direct)
+    Ok(())
 }
 
-/// Puts the number of a guest, what is told of it, and its state.
+/// Puts the lines before what is told of a guest's cells, and what is told of them.
 fn put_one<S: Sink, H: Hardware>(
     out: &mut S,
     machine: &Machine,
     guest: Guest,
-    rest: Rest,
-    number: usize,
+    head: Line,
+    views: &[View],
     hw: &H,
 ) -> Result<(), Failed>
     requires within { guest.base + guest.size ≤ length (H.machinery hw.now).state.cells }
     requires words { All (λ cell. cell < 2 ^ machine.now.desc.word) (virtual (H.machinery hw.now).state.cells guest).cells }
+    requires views { AreViewsOf guest.size views.now }
     ensures { Puts (S.written out.old) (S.written out.new) (S.faults out.old) (S.faults out.new)
-        (head_text number rest ++ state_text machine.now.desc.word (virtual (H.machinery hw.now).state.cells guest).cells guest.psw) result }
+        (head.items ++ guest_text machine.now.desc.word views.now (virtual (H.machinery hw.now).state.cells guest)) result }
 {
-    match out.put(head_of(number, rest).as_slice()) {
-        Ok(()) => {}
-        Err(failed) => return Err(failed),
+    match out.put(head.as_slice()) {
+        Ok(()) => put_guest(out, machine, guest, views, hw),
+        Err(failed) => Err(failed),
     }
-    put_state(out, machine.shape(), hw, guest.base, guest.size, guest.psw)
 }
 
-/// The lines before the state of a guest: its number, and what is told of it.
+/// Puts what the views show of a guest, or its whole state where there is no view.
+fn put_guest<S: Sink, H: Hardware>(
+    out: &mut S,
+    machine: &Machine,
+    guest: Guest,
+    views: &[View],
+    hw: &H,
+) -> Result<(), Failed>
+    requires within { guest.base + guest.size ≤ length (H.machinery hw.now).state.cells }
+    requires words { All (λ cell. cell < 2 ^ machine.now.desc.word) (virtual (H.machinery hw.now).state.cells guest).cells }
+    requires views { AreViewsOf guest.size views.now }
+    ensures { Puts (S.written out.old) (S.written out.new) (S.faults out.old) (S.faults out.new)
+        (guest_text machine.now.desc.word views.now (virtual (H.machinery hw.now).state.cells guest)) result }
+{
+    let shape = machine.shape();
+    if views.is_empty() {
+        put_state(out, shape, hw, guest.base, guest.size, guest.psw)
+    } else {
+        put_views(out, shape, views, guest, hw)
+    }
+}
+
+/// The lines before what is told of a guest's cells: its number, and behind how many steps it is still, or how many it had.
 #[tactic(auto, unfolding(crate::specs::Running::head_text))]
 fn head_of(number: usize, rest: Rest) -> Line
     ensures { result.items ≡ head_text number rest }

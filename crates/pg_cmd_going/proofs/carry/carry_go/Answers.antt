@@ -1,11 +1,10 @@
-use Rattle.std.proofs.Common.{◌≡◌, ◌∙◌, ℕ, List, length, refl, sym, ap, subst, arith}
+use Rattle.std.proofs.Common.{◌≡◌, ◌∙◌, ℕ, All, List, refl, sym, ap, subst, arith}
 use Rattle.pg_machine.specs.declared.machine.Machine.{Machine}
 use Rattle.pg_cert.specs.declared.report.Verdict.TheVariants.{Accepted}
 use Rattle.pg_shown.specs.Runs.{run_of}
 use Rattle.pg_shown.specs.Setting.{SetUp}
-use Rattle.pg_shown.specs.Telling.{AreWithin}
-use Rattle.pg_control.specs.declared.guest.Guest.{Guest}
-use Rattle.pg_run_still.specs.declared.rounds.Rest.{Rest}
+use Rattle.pg_control.specs.Guests.{virtuals}
+use Rattle.pg_run_still.specs.declared.view.View.{View}
 use Rattle.pg_edge.specs.Sink.{Puts}
 use Rattle.pg_edge.specs.declared.shelf.Failed.{Failed}
 use Rattle.pg_steps.specs.declared.status.Status.TheVariants.{Done}
@@ -16,10 +15,11 @@ use Rattle.pg_judged.specs.Judged.{verdict_on}
 use Rattle.pg_judged.proofs.TellingLemmas.{carries-told}
 use Rattle.pg_tool_run.specs.Run.{guests_in, judged_by}
 use Rattle.pg_run_still.specs.Rested.{HaveRested}
-use Rattle.pg_run_still.specs.Running.{text_of_rest}
+use Rattle.pg_run_still.specs.Running.{still_text, text_of_rest}
+use Rattle.pg_run_still.specs.Views.{AreViewsOf}
 use Rattle.pg_cmd_going.specs.Going.{go_command}
 use Rattle.pg_cmd_going.specs.Plans.{judged_go}
-use Rattle.pg_cmd_going.proofs.EndsLemmas.{go-told, go-ran, rested-text, rested-count, rested-within}
+use Rattle.pg_cmd_going.proofs.EndsLemmas.{go-told, go-ran, granted-by, rested-text, rested-count, rested-views, rested-within}
 use Rattle.pg_cmd_going.proofs.carry.carry_go.Goals as goal
 
 -- ---- the verdict is told
@@ -79,7 +79,19 @@ put_rested-requires-clause-within g c =
     let have : HaveRested (guests_in (judged_go p)) c.in-Ok-run_until_still.ran (g.H.Hardware.machinery c.args.hw.now) (g.H.Hardware.machinery c.run_until_still.new.hw) =
     subst (λ (m : Machine). HaveRested (run_of m p.images p.slice p.steps) c.in-Ok-run_until_still.ran (g.H.Hardware.machinery c.args.hw.now) (g.H.Hardware.machinery c.run_until_still.new.hw)) c.of-accepted.ensures.same
     (subst (λ (xs : List (List ℕ)). HaveRested (run_of c.of-accepted.result.machine.now xs p.slice p.steps) c.in-Ok-run_until_still.ran (g.H.Hardware.machinery c.args.hw.now) (g.H.Hardware.machinery c.run_until_still.new.hw)) c.as_slice-images.ensures c.in-Ok-run_until_still.ensures.rested) in
-    subst (λ gs. AreWithin (g.H.Hardware.machinery c.run_until_still.new.hw).state gs) (sym c.guests.ensures) (rested-within (guests_in (judged_go p)) c.in-Ok-run_until_still.ran _ _ have)
+    rested-within (guests_in (judged_go p)) c.in-Ok-run_until_still.ran _ _ have
+
+pub put_rested-requires-clause-views : goal.put_rested-requires-clause-views
+put_rested-requires-clause-views g c =
+    let p = c.in-Ok.plan in
+    let have : HaveRested (guests_in (judged_go p)) c.in-Ok-run_until_still.ran (g.H.Hardware.machinery c.args.hw.now) (g.H.Hardware.machinery c.run_until_still.new.hw) =
+    subst (λ (m : Machine). HaveRested (run_of m p.images p.slice p.steps) c.in-Ok-run_until_still.ran (g.H.Hardware.machinery c.args.hw.now) (g.H.Hardware.machinery c.run_until_still.new.hw)) c.of-accepted.ensures.same
+    (subst (λ (xs : List (List ℕ)). HaveRested (run_of c.of-accepted.result.machine.now xs p.slice p.steps) c.in-Ok-run_until_still.ran (g.H.Hardware.machinery c.args.hw.now) (g.H.Hardware.machinery c.run_until_still.new.hw)) c.as_slice-images.ensures c.in-Ok-run_until_still.ensures.rested) in
+    let w = c.args.words.now in
+    let granted = granted-by (g.F.Shelf.files c.args.shelf.now) w (judged_go p) c.in-Ok.ensures.comes in
+    let within : AreViewsOf (judged_go p).grant w.views.items = subst (λ n. AreViewsOf n w.views.items) granted w.within in
+    subst (λ (vs : List View). All (λ guest. AreViewsOf guest.size vs) c.in-Ok-run_until_still.ran.monitor.guests) (sym c.as_slice.ensures.value)
+    (rested-views (judged_go p) w.views.items c.in-Ok-run_until_still.ran _ _ have p.filled within)
 
 pub put_rested-requires-clause-count : goal.put_rested-requires-clause-count
 put_rested-requires-clause-count g c =
@@ -87,7 +99,7 @@ put_rested-requires-clause-count g c =
     let have : HaveRested (guests_in (judged_go p)) c.in-Ok-run_until_still.ran (g.H.Hardware.machinery c.args.hw.now) (g.H.Hardware.machinery c.run_until_still.new.hw) =
     subst (λ (m : Machine). HaveRested (run_of m p.images p.slice p.steps) c.in-Ok-run_until_still.ran (g.H.Hardware.machinery c.args.hw.now) (g.H.Hardware.machinery c.run_until_still.new.hw)) c.of-accepted.ensures.same
     (subst (λ (xs : List (List ℕ)). HaveRested (run_of c.of-accepted.result.machine.now xs p.slice p.steps) c.in-Ok-run_until_still.ran (g.H.Hardware.machinery c.args.hw.now) (g.H.Hardware.machinery c.run_until_still.new.hw)) c.as_slice-images.ensures c.in-Ok-run_until_still.ensures.rested) in
-    ap (λ (xs : List Rest). length xs) c.rests.ensures ∙ rested-count (guests_in (judged_go p)) c.in-Ok-run_until_still.ran _ _ have ∙ sym (ap (λ (gs : List Guest). length gs) c.guests.ensures)
+    rested-count (guests_in (judged_go p)) c.in-Ok-run_until_still.ran _ _ have
 
 pub returns-in-Ok-put_rested-clause-carries : goal.returns-in-Ok-put_rested-clause-carries
 returns-in-Ok-put_rested-clause-carries g c =
@@ -101,13 +113,15 @@ returns-in-Ok-put_rested-clause-carries g c =
     let have : HaveRested (guests_in (judged_go p)) c.in-Ok-run_until_still.ran (g.H.Hardware.machinery c.args.hw.now) (g.H.Hardware.machinery c.run_until_still.new.hw) =
     subst (λ (m : Machine). HaveRested (run_of m p.images p.slice p.steps) c.in-Ok-run_until_still.ran (g.H.Hardware.machinery c.args.hw.now) (g.H.Hardware.machinery c.run_until_still.new.hw)) c.of-accepted.ensures.same
     (subst (λ (xs : List (List ℕ)). HaveRested (run_of c.of-accepted.result.machine.now xs p.slice p.steps) c.in-Ok-run_until_still.ran (g.H.Hardware.machinery c.args.hw.now) (g.H.Hardware.machinery c.run_until_still.new.hw)) c.as_slice-images.ensures c.in-Ok-run_until_still.ensures.rested) in
-    let told = rested-text r ran_code old.hw new.hw c.guests.result.now c.rests.result.now c.turns.result c.direct.result have c.guests.ensures c.rests.ensures c.turns.ensures c.direct.ensures in
-    let put : Puts {T = Unit {0}} {E = Failed} old.out.written new.out.written old.out.faults new.out.faults (text_of_rest r ran_code.rests.items have.rounds) c.put_rested.result =
+    let vs = c.args.words.now.views.items in
+    let told = ap (λ (xs : List View). still_text r.desc.word xs (virtuals new.hw.state.cells ran_code.monitor.guests) ran_code.rests.items ran_code.turns ran_code.direct) c.as_slice.ensures.value
+    ∙ rested-text r vs ran_code old.hw new.hw have in
+    let put : Puts {T = Unit {0}} {E = Failed} old.out.written new.out.written old.out.faults new.out.faults (text_of_rest r vs ran_code.rests.items have.rounds) c.put_rested.result =
     subst (λ t. Puts {T = Unit {0}} {E = Failed} old.out.written new.out.written old.out.faults new.out.faults t c.put_rested.result) told c.put_rested.ensures in
-    let ends = go-ran j ran_code old new is (c.in-Ok.ensures.accepts is) p.filled have c.prepare_go.ensures.reads.same_files
+    let ends = go-ran vs j ran_code old new is (c.in-Ok.ensures.accepts is) p.filled have c.prepare_go.ensures.reads.same_files
     c.prepare_go.ensures.reads.same_saves in
-    let whole = subst (λ x. Puts {T = Unit {0}} {E = Failed} old.out.written new.out.written old.out.faults new.out.faults (text_of_rest r ran_code.rests.items have.rounds) x) c.in-Ok-put_rested.is put in
-    carries-done (go_command c.args.words.now) old new j (text_of_rest r ran_code.rests.items have.rounds) c.in-Ok.ensures.comes ends whole.whole
+    let whole = subst (λ x. Puts {T = Unit {0}} {E = Failed} old.out.written new.out.written old.out.faults new.out.faults (text_of_rest r vs ran_code.rests.items have.rounds) x) c.in-Ok-put_rested.is put in
+    carries-done (go_command c.args.words.now) old new j (text_of_rest r vs ran_code.rests.items have.rounds) c.in-Ok.ensures.comes ends whole.whole
 
 pub returns-clause-carries : goal.returns-clause-carries
 returns-clause-carries g c =
@@ -121,10 +135,12 @@ returns-clause-carries g c =
     let have : HaveRested (guests_in (judged_go p)) c.in-Ok-run_until_still.ran (g.H.Hardware.machinery c.args.hw.now) (g.H.Hardware.machinery c.run_until_still.new.hw) =
     subst (λ (m : Machine). HaveRested (run_of m p.images p.slice p.steps) c.in-Ok-run_until_still.ran (g.H.Hardware.machinery c.args.hw.now) (g.H.Hardware.machinery c.run_until_still.new.hw)) c.of-accepted.ensures.same
     (subst (λ (xs : List (List ℕ)). HaveRested (run_of c.of-accepted.result.machine.now xs p.slice p.steps) c.in-Ok-run_until_still.ran (g.H.Hardware.machinery c.args.hw.now) (g.H.Hardware.machinery c.run_until_still.new.hw)) c.as_slice-images.ensures c.in-Ok-run_until_still.ensures.rested) in
-    let told = rested-text r ran_code old.hw new.hw c.guests.result.now c.rests.result.now c.turns.result c.direct.result have c.guests.ensures c.rests.ensures c.turns.ensures c.direct.ensures in
-    let put : Puts {T = Unit {0}} {E = Failed} old.out.written new.out.written old.out.faults new.out.faults (text_of_rest r ran_code.rests.items have.rounds) c.put_rested.result =
+    let vs = c.args.words.now.views.items in
+    let told = ap (λ (xs : List View). still_text r.desc.word xs (virtuals new.hw.state.cells ran_code.monitor.guests) ran_code.rests.items ran_code.turns ran_code.direct) c.as_slice.ensures.value
+    ∙ rested-text r vs ran_code old.hw new.hw have in
+    let put : Puts {T = Unit {0}} {E = Failed} old.out.written new.out.written old.out.faults new.out.faults (text_of_rest r vs ran_code.rests.items have.rounds) c.put_rested.result =
     subst (λ t. Puts {T = Unit {0}} {E = Failed} old.out.written new.out.written old.out.faults new.out.faults t c.put_rested.result) told c.put_rested.ensures in
-    let ends = go-ran j ran_code old new is (c.in-Ok.ensures.accepts is) p.filled have c.prepare_go.ensures.reads.same_files
+    let ends = go-ran vs j ran_code old new is (c.in-Ok.ensures.accepts is) p.filled have c.prepare_go.ensures.reads.same_files
     c.prepare_go.ensures.reads.same_saves in
-    let broken = subst (λ x. Puts {T = Unit {0}} {E = Failed} old.out.written new.out.written old.out.faults new.out.faults (text_of_rest r ran_code.rests.items have.rounds) x) c.in-Err-put_rested.is put in
-    carries-broken (go_command c.args.words.now) old new j Done (text_of_rest r ran_code.rests.items have.rounds) c.in-Ok.ensures.comes ends (record { cause = broken.cause; front = broken.front })
+    let broken = subst (λ x. Puts {T = Unit {0}} {E = Failed} old.out.written new.out.written old.out.faults new.out.faults (text_of_rest r vs ran_code.rests.items have.rounds) x) c.in-Err-put_rested.is put in
+    carries-broken (go_command c.args.words.now) old new j Done (text_of_rest r vs ran_code.rests.items have.rounds) c.in-Ok.ensures.comes ends (record { cause = broken.cause; front = broken.front })

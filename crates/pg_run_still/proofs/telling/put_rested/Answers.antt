@@ -1,73 +1,54 @@
-use Rattle.std.proofs.Common.{◌≡◌, ◌+◌, ◌≤◌, ◌++◌, ◌∙◌, ap, subst, take, drop, get_or, length, List, Ok, Err, arith}
-use Rattle.std.proofs.lemmas.List.{length-map, take_all}
-use Rattle.std.proofs.lemmas.Option.{slice_get-get_or}
+use Rattle.std.proofs.Common.{◌≡◌, ◌++◌, ◌∙◌, ℕ, All, List, length, ap, subst, sym, Err}
 use Rattle.pg_edge.specs.Sink.{Puts}
 use Rattle.pg_edge.specs.declared.shelf.Failed.{Failed}
 use Rattle.pg_edge.proofs.PutsLaws.{Puts-then, Puts-stopped}
-use Rattle.pg_meaning.specs.States.{State}
-use Rattle.pg_image.specs.Lines.{state_text}
-use Rattle.pg_control.specs.Guests.{virtual, virtuals}
+use Rattle.pg_control.specs.declared.guest.Guest.{Guest}
+use Rattle.pg_control.specs.Guests.{virtuals}
 use Rattle.pg_report.specs.Runs.{steps_line}
-use Rattle.pg_shown.proofs.TellLemmas.{no_guest, virtuals-of}
+use Rattle.pg_shown.specs.Telling.{AreWithin}
 use Rattle.pg_run_still.specs.declared.rounds.Rest.{Rest}
-use Rattle.pg_run_still.specs.Running.{head_text, rests_text, still_text}
-use Rattle.pg_run_still.proofs.GoingLemmas.{no_turns}
-use Rattle.pg_run_still.proofs.TellLemmas.{told-next, told-rest, told-whole}
+use Rattle.pg_run_still.specs.Running.{rests_text, still_text}
+use Rattle.pg_run_still.specs.Views.{AreViewsOf}
+use Rattle.pg_run_still.proofs.TellLemmas.{told-whole}
 use Rattle.pg_run_still.proofs.telling.put_rested.Goals as goal
 
-pub loop-k-preserved : goal.loop-k-preserved
-loop-k-preserved g c =
-    let w = c.args.machine.now.desc.word in
-    let cells = (g.H.Hardware.machinery c.args.hw.now).state.cells in
-    let states = virtuals cells c.args.guests.now in
-    let rests = c.args.rests.now in
-    let k = c.loop-k.k in
-    let x = get_or c.args.guests.now k no_guest in
-    let rest = get_or rests k no_turns in
-    let rest_is = slice_get-get_or rests k no_turns (omega (arith, c.requires.count, c.loop-k-test.true)) in
-    record {
-      put = subst (λ t. Puts {T = Unit {0}} {E = Failed} (g.S.Sink.written c.args.out.now) (g.S.Sink.written c.put_one.new.out) (g.S.Sink.faults c.args.out.now) (g.S.Sink.faults c.put_one.new.out) t (Ok tt))
-          (told-next w states rests k (virtual cells x) rest (virtuals-of cells c.args.guests.now k c.loop-k-test.true) rest_is)
-          (Puts-then _ _ _ _ _ _ (rests_text w 0 (take k states) (take k rests)) (head_text k rest ++ state_text w (virtual cells x).cells x.psw) tt (Ok tt) c.loop-k.invariant.put
-          c.in-Ok.ensures);
-    }
+pub put_guests-requires-clause-count : goal.put_guests-requires-clause-count
+put_guests-requires-clause-count g c = ap (λ (rs : List Rest). length rs) c.rests.ensures ∙ c.requires.count ∙ sym (ap (λ (gs : List Guest). length gs) c.guests.ensures)
 
--- a guest's text was not put whole, and what stands behind it was not begun
+pub put_guests-requires-clause-within : goal.put_guests-requires-clause-within
+put_guests-requires-clause-within g c = subst (λ (gs : List Guest). AreWithin (g.H.Hardware.machinery c.args.hw.now).state gs) (sym c.guests.ensures) c.requires.within
+
+pub put_guests-requires-clause-views : goal.put_guests-requires-clause-views
+put_guests-requires-clause-views g c = subst (λ (gs : List Guest). All (λ guest. AreViewsOf guest.size c.args.views.now) gs) (sym c.guests.ensures) c.requires.views
+
+pub returns-in-Ok : goal.returns-in-Ok
+returns-in-Ok g c =
+    let w = c.args.machine.now.desc.word in
+    let vs = c.args.views.now in
+    let ran = c.args.ran.now in
+    let cells = (g.H.Hardware.machinery c.args.hw.now).state.cells in
+    let whole : rests_text w vs 0 (virtuals cells c.guests.result.now) c.rests.result.now ++ steps_line c.turns.result c.direct.result
+    ≡ still_text w vs (virtuals cells ran.monitor.guests) ran.rests.items ran.turns ran.direct =
+    told-whole w vs (virtuals cells c.guests.result.now) c.rests.result.now c.turns.result c.direct.result
+    ∙ ap (λ (gs : List Guest). still_text w vs (virtuals cells gs) c.rests.result.now c.turns.result c.direct.result) c.guests.ensures
+    ∙ ap (λ (rs : List Rest). still_text w vs (virtuals cells ran.monitor.guests) rs c.turns.result c.direct.result) c.rests.ensures
+    ∙ ap (λ (n : ℕ). still_text w vs (virtuals cells ran.monitor.guests) ran.rests.items n c.direct.result) c.turns.ensures
+    ∙ ap (λ (n : ℕ). still_text w vs (virtuals cells ran.monitor.guests) ran.rests.items ran.turns n) c.direct.ensures in
+    subst (λ t. Puts {T = Unit {0}} {E = Failed} (g.S.Sink.written c.args.out.now) (g.S.Sink.written c.put_steps.new.out) (g.S.Sink.faults c.args.out.now) (g.S.Sink.faults c.put_steps.new.out) t c.put_steps.result)
+    whole
+    (Puts-then _ _ _ _ _ _ (rests_text w vs 0 (virtuals cells c.guests.result.now) c.rests.result.now) (steps_line c.turns.result c.direct.result) c.in-Ok.field-0 c.put_steps.result c.in-Ok.ensures c.put_steps.ensures)
+
 pub returns-in-Err : goal.returns-in-Err
 returns-in-Err g c =
     let w = c.args.machine.now.desc.word in
+    let vs = c.args.views.now in
+    let ran = c.args.ran.now in
     let cells = (g.H.Hardware.machinery c.args.hw.now).state.cells in
-    let states = virtuals cells c.args.guests.now in
-    let rests = c.args.rests.now in
-    let k = c.loop-k.k in
-    let x = get_or c.args.guests.now k no_guest in
-    let rest = get_or rests k no_turns in
-    let rest_is = slice_get-get_or rests k no_turns (omega (arith, c.requires.count, c.loop-k-test.true)) in
-    let within : k + 1 ≤ length states = (let len = length-map c.args.guests.now (virtual cells) in omega (arith, len, c.loop-k-test.true)) in
-    let same : length rests ≡ length states = (let len = length-map c.args.guests.now (virtual cells) in omega (arith, len, c.requires.count)) in
-    let front : Puts {T = Unit {0}} {E = Failed} (g.S.Sink.written c.args.out.now) (g.S.Sink.written c.put_one.new.out) (g.S.Sink.faults c.args.out.now) (g.S.Sink.faults c.put_one.new.out)
-    (rests_text w 0 (take (k + 1) states) (take (k + 1) rests)) (Err c.in-Err.failed) =
-    subst (λ t. Puts {T = Unit {0}} {E = Failed} (g.S.Sink.written c.args.out.now) (g.S.Sink.written c.put_one.new.out) (g.S.Sink.faults c.args.out.now) (g.S.Sink.faults c.put_one.new.out) t (Err c.in-Err.failed))
-    (told-next w states rests k (virtual cells x) rest (virtuals-of cells c.args.guests.now k c.loop-k-test.true) rest_is)
-    (Puts-then _ _ _ _ _ _ (rests_text w 0 (take k states) (take k rests)) (head_text k rest ++ state_text w (virtual cells x).cells x.psw) tt (Err c.in-Err.failed) c.loop-k.invariant.put c.in-Err.ensures) in
-    subst (λ t. Puts {T = Unit {0}} {E = Failed} (g.S.Sink.written c.args.out.now) (g.S.Sink.written c.put_one.new.out) (g.S.Sink.faults c.args.out.now) (g.S.Sink.faults c.put_one.new.out) t (Err c.in-Err.failed))
-    (told-rest w states rests c.args.turns c.args.direct (k + 1) within same)
-    (Puts-stopped _ _ _ _ (rests_text w 0 (take (k + 1) states) (take (k + 1) rests)) (rests_text w (k + 1) (drop (k + 1) states) (drop (k + 1) rests) ++ steps_line c.args.turns c.args.direct)
-    c.in-Err.failed c.in-Err.failed front)
-
-pub returns : goal.returns
-returns g c =
-    let w = c.args.machine.now.desc.word in
-    let cells = (g.H.Hardware.machinery c.args.hw.now).state.cells in
-    let states = virtuals cells c.args.guests.now in
-    let rests = c.args.rests.now in
-    let k = c.loop-k.k in
-    let len = length-map c.args.guests.now (virtual cells) in
-    let all : take k states ≡ states = take_all k states (omega (arith, len, c.loop-k-test.false)) in
-    let all' : take k rests ≡ rests = take_all k rests (omega (arith, c.requires.count, c.loop-k-test.false)) in
-    let whole : rests_text w 0 (take k states) (take k rests) ++ steps_line c.args.turns c.args.direct ≡ still_text w states rests c.args.turns c.args.direct =
-    ap (λ (ss : List State). rests_text w 0 ss (take k rests) ++ steps_line c.args.turns c.args.direct) all
-    ∙ ap (λ (rs : List Rest). rests_text w 0 states rs ++ steps_line c.args.turns c.args.direct) all' ∙ told-whole w states rests c.args.turns c.args.direct in
-    subst (λ t. Puts {T = Unit {0}} {E = Failed} (g.S.Sink.written c.args.out.now) (g.S.Sink.written c.put_steps.new.out) (g.S.Sink.faults c.args.out.now) (g.S.Sink.faults c.put_steps.new.out) t c.put_steps.result)
+    let whole : rests_text w vs 0 (virtuals cells c.guests.result.now) c.rests.result.now ++ steps_line ran.turns ran.direct
+    ≡ still_text w vs (virtuals cells ran.monitor.guests) ran.rests.items ran.turns ran.direct =
+    told-whole w vs (virtuals cells c.guests.result.now) c.rests.result.now ran.turns ran.direct
+    ∙ ap (λ (gs : List Guest). still_text w vs (virtuals cells gs) c.rests.result.now ran.turns ran.direct) c.guests.ensures
+    ∙ ap (λ (rs : List Rest). still_text w vs (virtuals cells ran.monitor.guests) rs ran.turns ran.direct) c.rests.ensures in
+    subst (λ t. Puts {T = Unit {0}} {E = Failed} (g.S.Sink.written c.args.out.now) (g.S.Sink.written c.put_guests.new.out) (g.S.Sink.faults c.args.out.now) (g.S.Sink.faults c.put_guests.new.out) t (Err c.in-Err.failed))
     whole
-    (Puts-then _ _ _ _ _ _ (rests_text w 0 (take k states) (take k rests)) (steps_line c.args.turns c.args.direct) tt c.put_steps.result c.loop-k.invariant.put c.put_steps.ensures)
+    (Puts-stopped _ _ _ _ (rests_text w vs 0 (virtuals cells c.guests.result.now) c.rests.result.now) (steps_line ran.turns ran.direct) c.in-Err.failed c.in-Err.failed c.in-Err.ensures)

@@ -3,11 +3,11 @@ use Rattle.pg_edge.specs.Sink.{Puts}
 use Rattle.pg_edge.specs.declared.shelf.Failed.{Failed}
 use Rattle.pg_control.specs.Guests.{virtuals}
 use Rattle.pg_run_still.specs.Running.{rests_text}
-use Rattle.pg_run_still.proofs.telling.put_rested.Given as goal
+use Rattle.pg_run_still.proofs.telling.put_guests.Given as goal
 
 -- the guests before this one were put
 abbrev pub invariant-loop-k : goal.invariant-loop-k
 invariant-loop-k g l = record {
   put : Puts {T = Unit {0}} {E = Failed} (g.S.Sink.written l.initial.out) (g.S.Sink.written l.out) (g.S.Sink.faults l.initial.out) (g.S.Sink.faults l.out)
-      (rests_text l.machine.desc.word 0 (take l.k (virtuals (g.H.Hardware.machinery l.hw).state.cells l.guests)) (take l.k l.rests)) (Ok tt);
+      (rests_text l.machine.desc.word l.views 0 (take l.k (virtuals (g.H.Hardware.machinery l.hw).state.cells l.guests)) (take l.k l.rests)) (Ok tt);
 }
