@@ -1,2 +1,3 @@
 mod EndsLemmas
 mod PlanLemmas
+mod OneGo

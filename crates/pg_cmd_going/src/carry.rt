@@ -5,9 +5,10 @@
 //! (`pg_run_still`), and their text is put, by the views of the words. Memory is taken before the first turn; where it is refused no turn was made, but the
 //! hardware may be set up (`SetUp`).
 
-ghost use Rattle.std.specs.Prelude.{◌≡◌, None};
+ghost use Rattle.std.specs.Prelude.{◌≡◌, None, Some};
+ghost use Rattle.pg_edge.specs.Shelf.{Files};
 ghost use Rattle.pg_steps.specs.Able.{IsAble};
-ghost use Rattle.pg_steps.specs.Commands.{Carries};
+ghost use Rattle.pg_steps.specs.Commands.{Carries, Exactly};
 ghost use Rattle.pg_steps.specs.World.{Keeps, around};
 ghost use Rattle.pg_cmd_going.specs.Going.{go_command};
 
@@ -22,6 +23,28 @@ use std::alloc::Global;
 
 /// Carries out `pg_go`.
 pub fn carry_go<F: Shelf, S: Sink, H: Settling, W: StopWatcher>(
+    alloc: Global,
+    words: &GoWords,
+    shelf: &mut F,
+    out: &mut S,
+    hw: &mut H,
+    watcher: &mut W,
+) -> Status
+    requires able { IsAble H.Hardware hw.old }
+    ensures carries { Carries (go_command words.now) (around F.Shelf S.Sink H.Hardware shelf.old out.old hw.old)
+        (around F.Shelf S.Sink H.Hardware shelf.new out.new hw.new) result }
+    // Where the files are told: a refusal that is due comes, and where work is due none does, but for faults and memory.
+    ensures exactly { (files : Files) → F.files shelf.old ≡ Some files → Exactly (go_command words.now)
+        (around F.Shelf S.Sink H.Hardware shelf.old out.old hw.old) (around F.Shelf S.Sink H.Hardware shelf.new out.new hw.new) result }
+    ensures keeps { Keeps None (around F.Shelf S.Sink H.Hardware shelf.old out.old hw.old)
+        (around F.Shelf S.Sink H.Hardware shelf.new out.new hw.new) }
+    ensures fixed { H.fixed hw.new ≡ H.fixed hw.old }
+{
+    carry_out(alloc, words, shelf, out, hw, watcher)
+}
+
+/// The same. What is due is one thing, so `carries` alone is shown here.
+fn carry_out<F: Shelf, S: Sink, H: Settling, W: StopWatcher>(
     alloc: Global,
     words: &GoWords,
     shelf: &mut F,
