@@ -90,6 +90,13 @@ ROWS = (
         *(MACHINE, SYSTEM, "8 --steps 9 --until trap --counts"),
         ("instr svc 1", "trap (memory) 0", "trap (trap) 1", "trap (no pattern) 0", "steps 1"),
     ),
+    Traced(
+        *(MACHINE, SYSTEM, "8 --steps 1 --only-traps"),
+        (
+            *(SYSTEM_LINES[0], "instr svc 1", "trap (memory) 0", "trap (trap) 1", "trap (no pattern) 0", "steps 1"),
+            *("size 8", "psw u 2 0 4", "0: 00020008 01020004 03000000 ffffffff 00000000 00000000 00000000 00000000"),
+        ),
+    ),
     # A word without a pattern; then one whose address is not usable, and P outside the window. With causes.
     Traced(
         CAUSES,
@@ -141,7 +148,7 @@ LINES = (
     ("--help x", Answer(0, USAGE.encode())),
     # The words: two files; options once, those with a value as two words; and such as may not stand together.
     *((words, USED) for words in ("", "m --grant 2 --steps 0", "m e e --grant 2 --steps 0", "m e --grant 2", "m e --steps 2")),
-    *((f"m e --grant 2 --steps 0 {more}", USED) for more in ("-", "--", "-h", "--help", "--steps 0", "--until", "--cert", "--slice")),
+    *((f"m e --grant 2 --steps 0 {more}", USED) for more in ("-", "--", "-h", "--help", "--steps 0", "--until", "--cert", "-x")),
     *((f"m e --grant 2 --steps 0 {more}", USED) for more in ("--counts --counts", "--until=still", "--until still --until still")),
     *((f"m e --grant 2 --steps 0 --until {end}", USED) for end in ("x", "P", "P=", "P=1048576", "P=-1", "p=2", "--counts")),
     *((f"m e --grant 2 --steps 0 --vcd {more}", USED) for more in ("--only-traps", "--counts", "--json", "--vcd")),
@@ -172,10 +179,11 @@ SPOILED_DUMPS = (
     (*HEAD, "#0", *FIRST, "#1", 'b11 "', "b1 %", "#2", "bx %", "bx &"),
     (*HEAD, "#0", *FIRST, "#1", 'b11 "', "b1 %", "#2", 'b11 "', "#3", "bx %", "bx &"),
     (*HEAD, "#0", *FIRST, "#1", "b1 %", "#3", "bx %", "bx &"),
-    (*HEAD, "#0", *FIRST, "#1", 'b11 "', "b1 %", "#3", "bx %"),
+    (*HEAD, "#0", *FIRST, "#1", 'b11 "', "b1 %", "#3", "bx &"),
+    (*HEAD, "#0", *FIRST, "#1", 'b11 "', "b1 %", "#3", "bx %", "b1 &"),
     (*HEAD, "#0", *FIRST, "#1", 'b11 "', "b1 %", "#3", "bx %", "bx &", "#4", "1!"),
     (*HEAD, "#0", *FIRST, "#1", 'b11 "', "b101 %", "#3", "bx %", "bx &"),
-    (*HEAD, "#0", *FIRST, "#1", 'b11 "', "b1 %", "#1", "bx %", "bx &"),
+    (*HEAD, "#0", *FIRST, "#1", "#1", 'b11 "', "b1 %", "#3", "bx %", "bx &"),
     (*HEAD[:-1], "#0", *FIRST, "#1", 'b11 "', "b1 %", "#3", "bx %", "bx &"),
     (*HEAD[:3], *HEAD[4:], "#0", *FIRST[1:], "#1", 'b11 "', "b1 %", "#3", "bx %", "bx &"),
     (*HEAD, *FIRST, "#1", 'b11 "', "b1 %", "#3", "bx %", "bx &"),

@@ -32,7 +32,10 @@ CLASHES = (
 )
 """Options that may not stand together, or not twice."""
 
-NO_ENDS = ("", "P", "P=", "P=x", "P=-1", "P=1048576", "p=2", "P =2", "P=2 ", "=2", "Still", "still ", "traps", "P=0x2", "--counts", "2")
+NO_ENDS = (
+    *("", "P", "P=", "P=x", "P=-1", "P=1048576", "p=2", "P =2", "P=2 ", "P==2", "P=0x2", "=2", "2", "Still", "still ", "traps"),
+    *("--counts", "P=18446744073709551618"),
+)
 
 SPOILED = (
     *("--grant=8", "--grant", "--steps", "--steps=3", "--until", "--until=still", "--cert", "-", "--", "-x", "-h", "--help"),

@@ -23,7 +23,7 @@ class Row(NamedTuple):
 
 
 class Dump(NamedTuple):
-    """A row for each time, from 0 on."""
+    """A row for each time, from 0 on. In the last one `cause` is of no step, and may be told as `x` or as 0."""
 
     rows: tuple[Row, ...]
 
@@ -43,8 +43,9 @@ class Dump(NamedTuple):
                 if name in values and values[name] == value:
                     yield f"at {time} {name} is given, and is as before"
                 values[name] = value
+            is_last = time == len(self.rows) - 1
             for name, value in row._asdict().items():
-                if values.get(name) != value:
+                if values.get(name) != value and not (is_last and name == "cause" and values.get(name) == 0):
                     yield f"at {time} {name} is {values.get(name)}, and not {value}"
         if found.changes:
             yield f"times {', '.join(map(str, found.changes))} of {len(self.rows) - 1}"

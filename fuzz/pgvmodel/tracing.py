@@ -224,11 +224,11 @@ class _Request(NamedTuple):
 def answer(words: Sequence[str], load: Load, questions: Questions) -> Answer | Dump:
     """What `pg_trace` is to answer to the words behind its name: refusals as of `bare`, then the run.
 
-    No line on standard error is told, and no text of a version.
+    No line on standard error is told, and no text of a version; nor whether `-h` asks for help, which only `pg_go.1` says.
     """
     if words and words[0] == "--help":
         return told(DONE, USAGE)
-    if words and words[0] == "--version":
+    if words and words[0] in ("--version", "-h"):
         raise NotModelled
     try:
         return _run(_request(words), World(load, bool, questions))
