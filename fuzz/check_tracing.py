@@ -149,6 +149,7 @@ LINES = (
     # The words: two files; options once, those with a value as two words; and such as may not stand together.
     *((words, USED) for words in ("", "m --grant 2 --steps 0", "m e e --grant 2 --steps 0", "m e --grant 2", "m e --steps 2")),
     *((f"m e --grant 2 --steps 0 {more}", USED) for more in ("-", "--", "-h", "--help", "--steps 0", "--until", "--cert", "-x")),
+    *((f"m e --grant 2 --steps 0 {more}", USED) for more in ("--cert -x", "--cert --counts", "--cert -")),
     *((f"m e --grant 2 --steps 0 {more}", USED) for more in ("--counts --counts", "--until=still", "--until still --until still")),
     *((f"m e --grant 2 --steps 0 --until {end}", USED) for end in ("x", "P", "P=", "P=1048576", "P=-1", "p=2", "--counts")),
     *((f"m e --grant 2 --steps 0 --vcd {more}", USED) for more in ("--only-traps", "--counts", "--json", "--vcd")),
