@@ -83,7 +83,62 @@ ROWS = (
 
 USED = Answer(3, USAGE.encode())
 
+def cells_of(image: str, words: str, *lines: bytes) -> Line:
+    """A guest that is still at once, and its cells in place of its state."""
+    text = b"".join(line + b"\n" for line in (b"guest 0", b"still after 0 steps", *lines, b"steps 1000 direct 1000"))
+    return Line(f"m c {image} --grant 12 {words}", Answer(0, text))
+
+
+SAID = b"2: 02000002 00000048 6fffff69 8000210a\n10: fffffffe 00000001\n"
+"""A jump to itself, and cells of which some bytes are letters."""
+
+EIGHT = b"0: 00000000 00000000 02000002 00000048 6fffff69 8000210a 00000000 00000000"
+NEXT_EIGHT = b"1: 00000000 02000002 00000048 6fffff69 8000210a 00000000 00000000 00000000"
+
+CELLS = (
+    cells_of("said", "--show 2..3", b"2: 02000002"),
+    cells_of("said", "--show 0..12", EIGHT, b"8: 00000000 00000000 fffffffe 00000001"),
+    cells_of("said", "--show 1..9", NEXT_EIGHT),
+    cells_of("said", "--show 1..10", NEXT_EIGHT, b"9: 00000000"),
+    cells_of("said", "--show 6..10", b"6: 00000000 00000000 00000000 00000000"),
+    # The low byte; then more of them, the low one first, and none above the word.
+    cells_of("said", "--text 3..5", b"Hi"),
+    cells_of("said", "--text 5..6:16", b"\n!"),
+    cells_of("said", "--text 3..6:24", b"H\0\0i\xff\xff\n!\0"),
+    cells_of("said", "--text 4..6:32", b"i\xff\xffo\n!\0\x80"),
+    cells_of("said", "--text 5..6:40", b"\n!\0\x80\0"),
+    cells_of("said", "--text 10..12:64", b"\xfe\xff\xff\xff\0\0\0\0\1\0\0\0\0\0\0\0"),
+    cells_of("said", "--text 7..8", b"\0"),
+    # In their order, and of each guest.
+    cells_of("said", "--text 3..4 --show 3..4 --text 3..5:8 --show 2..3", b"H", b"3: 00000048", b"Hi", b"2: 02000002"),
+    Line(
+        "m --show 11..12 c said e --text 3..4 --grant 12 --steps 0",
+        told(
+            0, *("guest 0", "after 0 steps", "11: 00000001", "H", "guest 1", "after 0 steps", "11: 00000000", "\0"),
+            "steps 0 direct 0",
+        ),
+    ),
+    cells_of("said", "--show 2..3 " * 8 + "--text 3..4 " * 8, *[b"2: 02000002"] * 8, *[b"H"] * 8),
+    # No cells, or not so many bits; and more than 16 words.
+    Line("m c said --grant 12 " + "--show 2..3 " * 9 + "--text 3..4 " * 8, USED),
+    *(Line(f"m c said --grant 12 {words}", USED) for words in ("--show", "--text", "--show=2..3")),
+    *(
+        Line(f"m c said --grant 12 {option} {cells}", USED)
+        for option in ("--show", "--text")
+        for cells in ("2", "2..", "..3", "2..2", "3..2", "2..13", "12..13", "2.3", "2...3", "x..3", "-1..3", "2..1048576", "2..3..")
+    ),
+    *(Line(f"m c said --grant 12 --text 2..3{bits}", USED) for bits in (":", ":0", ":4", ":12", ":72", ":x", ":8:8", ":-8", "8:")),
+    Line("m c said --grant 12 --show 2..3:8", USED),
+    Line(
+        "m c said --show 9..13 --text 2..3 --grant 13",
+        told(0, *("guest 0", "still after 0 steps", "9: 00000000 fffffffe 00000001 00000000", "\2"), "steps 1000 direct 1000"),
+    ),
+    Line("m none none --grant 63 --show 2..63", told(7, "room 63 62")),
+    Line("none none none --grant 63 --show 2..64", USED),
+)
+
 LINES = (
+    *CELLS,
     Line("m c e --grant 2 --steps 0", told(0, "guest 0", "after 0 steps", *EMPTY, "steps 0 direct 0")),
     Line("--slice 1 m --grant 2 c e", told(0, "guest 0", "still after 2 steps", "size 2", "psw s 0 0 0", "steps 3 direct 0")),
     Line(
@@ -91,6 +146,7 @@ LINES = (
         told(0, "guest 0", "still after 2 steps", "size 2", "psw s 0 0 0", "steps 1000 direct 0"),
     ),
     Line("--help m", Answer(0, USAGE.encode())),
+    Line("-h", Answer(0, USAGE.encode())),
     # The words: options of two words, each once, and three to ten files.
     *(Line(words, USED) for words in ("", "m c --grant 2", "m c e", "m c e --grant", "m c e --grant=2", "m c e -- --grant 2")),
     *(Line(f"m c e --grant 2 {more}", USED) for more in ("-", "-x", "--help", "--budget 3", "--grant 2", "e e e e e e e e")),
@@ -127,7 +183,7 @@ def wrong_rows() -> list[str]:
         if (found.status, lines) != (0, [*due, f"steps {row.turns} direct {row.direct}"]):
             wrong.append(f"{row}: {found}")
     for line in LINES:
-        found = answer(line.words.split(), load, _Square())
+        found = answer(line.words.split(), lambda name: SAID if name == "said" else load(name), _Square())
         if found != line.answer:
             wrong.append(f"{line.words}: {found}, and not {line.answer}")
     return wrong

@@ -16,10 +16,11 @@ from inputs.case import CERTIFICATE_FILE, DESCRIPTION_FILE, SAVED_FILE, Case
 from judging import Ended, Files, Judge, counted
 from judging_generated import GenerationJudge
 from judging_migrations import MigrationJudge
-from pgvmodel import going
-from pgvmodel.answers import CERTIFICATE, DESCRIPTION, IMAGE, SAVED, SOURCE, Answer
+from pgvmodel import going, tracing
+from pgvmodel.answers import CERTIFICATE, DESCRIPTION, DONE, IMAGE, SAVED, SOURCE, UNWRITABLE, Answer
 from pgvmodel.command import SAVING, Answered, Generation, Migration, Search, answer, on_full_output
 from pgvmodel.deciding import Solver
+from pgvmodel.dump import Dump
 from pgvmodel.error_lines import NO_OUTPUT, fits_refusal
 from pgvmodel.questions import NotModelled, Questions, is_side
 from pgvmodel.words import SWITCHED_ON
@@ -33,7 +34,10 @@ SECONDS = 120
 REFUSED_FILES = (DESCRIPTION, IMAGE, CERTIFICATE, SOURCE, SAVED)
 """Statuses of which the class of the fault is told beside."""
 
-WATCHED = (*SAVING, "run", "hybrid", "nest", "asm", "disasm", "resume", going.NAME)
+SIDES = {going.NAME: going.answer, tracing.NAME: tracing.answer}
+"""The side programs that are modelled."""
+
+WATCHED = (*SAVING, "run", "hybrid", "nest", "asm", "disasm", "resume", *SIDES)
 """Commands whose files are looked at behind a run: some may change, or none of many."""
 
 CHANGED = b"other files were changed, or saved"
@@ -82,7 +86,7 @@ def with_saved(model: Answer, before: Files | None) -> Files | None:
 
 def _is_of_side(words: Sequence[str]) -> bool:
     """Whether the words call a side program: its name is the first of them."""
-    return bool(words) and words[0] == going.NAME
+    return bool(words) and words[0] in SIDES
 
 
 def _failed() -> Outcome:
@@ -202,7 +206,7 @@ class Comparison:
             return False
         return bool(name)
 
-    def by_model(self, case: Case) -> Answered | Outcome | None:
+    def by_model(self, case: Case) -> Answered | Outcome | Dump | None:
         """None where the model has no answer; an outcome where it failed, and of a side program."""
         try:
             if _is_of_side(case.words):
@@ -214,16 +218,20 @@ class Comparison:
         except Exception:  # a fault of the model is a difference too, and its input is wanted
             return _failed()
 
-    def by_side_model(self, case: Case) -> Outcome:
-        """The outcome of `pg_go`, of which nothing on standard error is compared."""
+    def by_side_model(self, case: Case) -> Outcome | Dump:
+        """The outcome of a side program, of which nothing on standard error is compared; or the dump that it has to write."""
         if not is_side(self.questions.program):
             raise NotModelled
-        answered = going.answer(case.words[1:], self.load, self.questions)
+        answered = SIDES[case.words[0]](case.words[1:], self.load, self.questions)
+        if isinstance(answered, Dump):
+            return Outcome(UNWRITABLE, b"", b"") if case.is_full else answered
         if case.is_full:
             answered = on_full_output(answered)
         return Outcome(answered.status, answered.output, b"")
 
-    def compared(self, model: Answered | Outcome, program: Outcome, before: Mapping[str, bytes | None] | None) -> Outcome:
+    def compared(
+        self, model: Answered | Outcome | Dump, program: Outcome, before: Mapping[str, bytes | None] | None
+    ) -> Outcome:
         """What the model has to say of a run: the same outcome, where nothing is wrong with it.
 
         A run that is watched has the files `before` it; else nothing can have changed.
@@ -233,6 +241,9 @@ class Comparison:
             after = self.found()
             if after != before:
                 self.placed = None
+        if isinstance(model, Dump):
+            complaints = list(model.complaints(program.output))
+            model = Outcome(None, b"", "\n".join(complaints).encode()) if complaints else Outcome(DONE, program.output, b"")
         if isinstance(model, Outcome):
             return model if after == before else model._replace(errors=CHANGED)
         if isinstance(model, Answer):

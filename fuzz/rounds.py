@@ -8,7 +8,7 @@ from random import Random
 
 from inputs import (
     certificates, checks, command_lines, depths, further_guests, further_lines, generations, guests, large, limits, lines, patterns,
-    saved_texts, sources, still_guests, tampered, windows,
+    saved_texts, sources, still_guests, tampered, traces, windows,
 )
 from inputs.case import DESCRIPTION_FILE, Case, printing, running_bare
 from inputs.checker import Means
@@ -222,6 +222,12 @@ def operators(rng: Random) -> Case:
     return running_bare(description, b"", description.size, 1)
 
 
+def any_traces(rng: Random) -> Case:
+    """Traces of any runs of bare machines."""
+    makers = [bare_runs, tame_bare_runs, tame_bare_runs, windows.windows, windows.windows, traces.own, traces.own, traces.systems]
+    return traces.tracing(rng, rng.choice(makers)(rng))
+
+
 def full_outputs(rng: Random, means: Means) -> Iterator[Case]:
     """Any of these where standard output takes nothing; some without their last word. None of them saves a file.
 
@@ -269,6 +275,7 @@ ROUNDS = (
     CheckedRound("guest-certificates", guests.certified),
     CheckedListRound("guest-rows", guests.rows),
     CheckedRound("still-guests", still_guests.still_guests),
+    RandomRound("traces", any_traces),
     RandomRound("operators", operators),
     QuestionRound("certificates", certificates.certificates),
     QuestionRound("spoiled-certificates", certificates.spoiled_certificates),

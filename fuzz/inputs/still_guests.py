@@ -54,7 +54,26 @@ LOOK = 1100
 MOST_TURNS = 3000
 """A slice of more turns stands only where steps are told that are few."""
 
-SPOILED = ("--grant=8", "--grant", "--steps", "--slice", "-", "--", "-x", "--help", "--budget", "--json", "x.img", "\udcff", "")
+SPOILED = (
+    *("--grant=8", "--grant", "--steps", "--slice", "-", "--", "-x", "--help", "--budget", "--json", "x.img", "\udcff", ""),
+    *("-h", "--show", "--text", "--show=0..2"),
+)
+
+
+COUNTS = (0, 0, 0, 0, 1, 1, 1, 1, 2, 3, 4, 16, 17)
+"""How many times cells are named in place of a state; once more than they may be, too."""
+
+BITS = ("", "", ":8", ":16", ":24", ":32", ":40", ":48", ":56", ":64")
+
+NO_CELLS = (
+    *("{a}", "{a}..", "..{b}", "{a}.{b}", "{a}...{b}", "{a}-{b}", "{a}..{b}..{b}", "{a} ..{b}", "-1..{b}", "x..{b}", "{a}..0x8"),
+    *("", "{a}..{a}", "{b}..{a}", "{a}..{past}", "{past}..{past}", "{a}..1048576", "{a}..18446744073709551617", "--text"),
+    *("{a}..{b}:", "{a}..{b}:0", "{a}..{b}:12", "{a}..{b}:72", "{a}..{b}:x", "{a}..{b}:-8", "{a}..{b}:8:8", "{a}:8..{b}"),
+)
+"""Words behind `--show` and `--text` that name no cells of a guest, or not so many bits."""
+
+FINE_CELLS = ("+{a}..{b}", "0{a}..00{b}", "{a}..+{b}", "{a}..{past}", "{a}..{b}:8", "{a}..{b}:+16", "{a}..{b}:08")
+"""Odd words, some of which name cells."""
 
 
 def word(name: str, *fields: int) -> int:
@@ -150,7 +169,7 @@ def _going(rng: Random, case: Case) -> Case:
         if rng.random() < 0.7:
             del options["--steps"]
     parts = [[name] for name in files]
-    for option in options.items():
+    for option in (*options.items(), *pieces(rng, int(options["--grant"]))):
         parts.insert(rng.randint(0, len(parts)), list(option))
     words = [part for both in parts for part in both]
     if rng.random() < 0.03:
@@ -158,6 +177,18 @@ def _going(rng: Random, case: Case) -> Case:
     if rng.random() < 0.01:
         words[words.index("--grant") + 1] = rng.choice(["1", "0", "+8", "08", "1048576", str(MOST_STEPS + 1), ""])
     return case._replace(words=(NAME, *words), other_words=None, is_full=rng.random() < 0.02)
+
+
+def pieces(rng: Random, grant: int) -> Iterator[tuple[str, str]]:
+    """Options that name cells: mostly some of the guest, all, or those at its ends; a few name none."""
+    for _ in range(rng.choice(COUNTS)):
+        option = rng.choice(["--show", "--text"])
+        a = rng.choice([0, rng.randrange(grant), rng.randrange(grant), grant - 1])
+        b = rng.choice([a + 1, rng.randint(a + 1, grant), rng.randint(a + 1, grant), grant])
+        form = "{a}..{b}" + (rng.choice(BITS) if option == "--text" else "")
+        if rng.random() < 0.03:
+            form = rng.choice(rng.choice([NO_CELLS, NO_CELLS, FINE_CELLS]))
+        yield option, form.format(a=a, b=b, past=grant + 1)
 
 
 def _ends(case: Case, names: Sequence[str], grant: int) -> list[int | None]:

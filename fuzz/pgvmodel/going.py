@@ -9,14 +9,17 @@ from typing import NamedTuple
 
 from pgvmodel import tree
 from pgvmodel.answers import DONE, WORDS, Answer, Load, Refused, World, ask_to_accept, described, told
+from pgvmodel.body import mask
 from pgvmodel.guests import Asked, storages_of
-from pgvmodel.machine import Machine, State, base_of, power_on, state_text
+from pgvmodel.machine import CELLS_A_LINE, Machine, State, base_of, power_on, state_text
 from pgvmodel.questions import NotModelled, Questions
 from pgvmodel.words import MOST_IMAGES, RANGES, SLICE, RefusedWords, Request, allowed_number, is_text
 
 NAME = "pg_go"
 
-USAGE = f"usage: {NAME} DESC CERT IMAGE.. --grant G [--steps N] [--slice K]\n"
+USAGE = (
+    f"usage: {NAME} DESC CERT IMAGE.. --grant G [--steps N] [--slice K] [--show A..B].. [--text A..B[:BITS]]..\n"
+)
 
 MOST_STEPS = 1 << 57
 """Steps of a guest at most, and where it is not told how many."""
@@ -27,8 +30,52 @@ _LEFT_OUT = {"steps": MOST_STEPS, "slice": SLICE}
 _FILES = range(3, 3 + MOST_IMAGES)
 """A description, a certificate and the images."""
 
+SHOW, TEXT = "--show", "--text"
+
+MOST_PIECES = 16
+"""Of the two options above, how many may be given in all."""
+
+BITS = 8
+"""Bits of a cell that are told as a byte each eight, where it is not told how many."""
+
+_BITS = range(8, 65, 8)
+_PLACES = range(_RANGES["grant"].stop)
+
 MOST_MODELLED = 100_000
 """A guest that makes more steps, and is not still before, is not modelled."""
+
+
+class Piece(NamedTuple):
+    """Cells of each guest that are told in place of its state: as words in lines, or so many low bits of each as bytes."""
+
+    cells: range
+    bits: int | None = None
+
+    def told(self, state: State, word: int) -> bytes:
+        """What is told of a guest's cells; each line has the address of its first one, and none is left out."""
+        cells = state.cells[self.cells.start : self.cells.stop]
+        if self.bits is not None:
+            return b"".join((cell & mask(self.bits)).to_bytes(self.bits // 8, "little") for cell in cells) + b"\n"
+        lines = []
+        for i in range(0, len(cells), CELLS_A_LINE):
+            words = " ".join(f"{cell:0{word // 4}x}" for cell in cells[i : i + CELLS_A_LINE])
+            lines.append(f"{self.cells.start + i}: {words}\n")
+        return "".join(lines).encode()
+
+
+def _piece(option: str, word: str) -> Piece:
+    """What the word behind an option names: `A..B`, B not among them, and behind `--text` perhaps how many bits."""
+    bits: int | None = None
+    if option == TEXT:
+        word, colon, spelled = word.partition(":")
+        bits = allowed_number(spelled, _BITS) if colon else BITS
+    first, dots, end = word.partition("..")
+    if not dots:
+        raise RefusedWords
+    cells = range(allowed_number(first, _PLACES), allowed_number(end, _PLACES))
+    if not cells:
+        raise RefusedWords
+    return Piece(cells, bits)
 
 
 class Gone(NamedTuple):
@@ -71,39 +118,48 @@ def gone(description: tree.Description, cells: list[int], base: int, steps: int,
 def answer(words: Sequence[str], load: Load, questions: Questions) -> Answer:
     """What `pg_go` is to answer to the words behind its name: refusals as of `run`, then each guest, then all turns.
 
-    No line on standard error is told.
+    No line on standard error is told, and no text of a version.
     """
-    if words and words[0] == "--help":
+    if words and words[0] in ("--help", "-h"):
         return told(DONE, USAGE)
+    if words and words[0] == "--version":
+        raise NotModelled
     try:
-        request = _request(words)
+        request, pieces = _request(words)
         world = World(load, bool, questions)
         text = world.loaded(request.files[0])
-        return _run(Asked(request, text, described(text), world))
+        return _run(Asked(request, text, described(text), world), pieces)
     except RefusedWords:
         return told(WORDS, USAGE)
     except Refused as refused:
         return refused.answer._replace(error=None)
 
 
-def _run(asked: Asked) -> Answer:
+def _run(asked: Asked, pieces: Sequence[Piece]) -> Answer:
     storages = storages_of(asked)
     ask_to_accept(asked.description, asked.file(1), asked.world.question(asked.text))
     steps, slice_ = asked.number("steps"), asked.number("slice")
     ends = [gone(asked.description, cells, base_of(k, len(cells)), steps, slice_) for k, cells in enumerate(storages)]
-    texts = (f"guest {k}\n{end.line()}{state_text(end.state, asked.description.word)}" for k, end in enumerate(ends))
+    word = asked.description.word
+    texts = []
+    for k, end in enumerate(ends):
+        told_cells = [piece.told(end.state, word) for piece in pieces] or [state_text(end.state, word).encode()]
+        texts += [f"guest {k}\n{end.line()}".encode(), *told_cells]
     last = f"steps {sum(end.turns for end in ends)} direct {sum(end.direct for end in ends)}\n"
-    return told(DONE, "".join(texts) + last)
+    return Answer(DONE, b"".join([*texts, last.encode()]))
 
 
-def _request(words: Sequence[str]) -> Request:
-    """What the words ask for. An option is two words; any other word that begins with a dash is refused."""
+def _request(words: Sequence[str]) -> tuple[Request, list[Piece]]:
+    """What the words ask for, and which cells are told. An option is two words; any other that begins with a dash is refused."""
     files: list[str] = []
     numbers: dict[str, int] = {}
+    pieces: list[Piece] = []
     rest = iter(words)
     for word in rest:
         name = word.removeprefix("--")
-        if word.startswith("--") and name in _RANGES and name not in numbers:
+        if word in (SHOW, TEXT):
+            pieces.append(_piece(word, next(rest, "")))
+        elif word.startswith("--") and name in _RANGES and name not in numbers:
             numbers[name] = allowed_number(next(rest, ""), _RANGES[name])
         elif word.startswith("-"):
             raise RefusedWords
@@ -111,4 +167,6 @@ def _request(words: Sequence[str]) -> Request:
             files.append(word)
     if len(files) not in _FILES or "grant" not in numbers or not all(map(is_text, words)):
         raise RefusedWords
-    return Request(NAME, tuple(files), {**_LEFT_OUT, **numbers})
+    if len(pieces) > MOST_PIECES or any(piece.cells.stop > numbers["grant"] for piece in pieces):
+        raise RefusedWords
+    return Request(NAME, tuple(files), {**_LEFT_OUT, **numbers}), pieces
