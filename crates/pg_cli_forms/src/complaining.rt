@@ -57,6 +57,8 @@ enum Wrong<'a> {
     Twice(OptionForm),
     /// A value that an option does not take.
     Value(OptionForm, &'a str),
+    /// An option beside one of this name.
+    Beside(OptionForm, &'static str),
     /// More options with cells than may stand there.
     Views,
     /// A word that is no kind.
@@ -87,13 +89,22 @@ fn wrong_part<'a>(
         Part::Given(option, _) if option.times == Times::Often && are_many(words) => {
             Some(Wrong::Views)
         }
-        Part::Given(..) => None,
+        Part::Given(option, _) => beside(words, option).map(|other| Wrong::Beside(option, other)),
     }
 }
 
 /// How often a word stands there.
 fn count(words: &[String], name: &str) -> usize {
     words.iter().filter(|word| word.as_str() == name).count()
+}
+
+/// The name of an option that stands there, beside which another one may not stand.
+fn beside(words: &[String], option: OptionForm) -> Option<&'static str> {
+    option
+        .against
+        .iter()
+        .find(|other| 0 < count(words, other))
+        .copied()
 }
 
 /// Whether an option takes a value.
@@ -192,6 +203,11 @@ fn told(line: Line, wrong: Wrong<'_>) -> Result<Line, AllocError> {
                 .words(": ")?,
             option.value,
         ),
+        Wrong::Beside(option, other) => line
+            .words("the argument ")?
+            .shown(option.shown)?
+            .words(" cannot be used with ")?
+            .shown(other),
         Wrong::Views => line.words(
             "the arguments '--show' and '--text' cannot be used more than 16 times in all",
         ),

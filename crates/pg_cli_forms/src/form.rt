@@ -41,6 +41,8 @@ pub struct OptionForm {
     pub value: Value,
     /// How often it may stand there.
     pub times: Times,
+    /// The names of those beside which it may not stand.
+    pub against: &'static [&'static str],
 }
 
 /// How a program takes its words: those in places, in order, of which so many have to be there, and its options.
