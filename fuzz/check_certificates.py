@@ -15,7 +15,7 @@ from judging_migrations import MigrationJudge
 from pgvmodel.answers import Answer, verifying
 from pgvmodel.clauses import Clause, Clauses, Step, Wrong
 from pgvmodel.command import Migration, answer, on_full_output
-from pgvmodel.error_lines import NO_OUTPUT, ErrorLine, fits_refusal, missing, unreadable, unwritable
+from pgvmodel.error_lines import NO_OUTPUT, ErrorLine, fits_refusal, fits_side, missing, unreadable, unwritable
 from pgvmodel.families import HYBRID
 from pgvmodel.questions import NotModelled, read_formula
 from pgvmodel.reader import read
@@ -518,6 +518,12 @@ def wrong_migrations() -> list[str]:
 def wrong_error_lines() -> list[str]:
     """Lines on standard error that are taken or not, and should not or should."""
     folder, absent = unreadable("a/b"), missing("none")
+    point, wide = b"f:3:6: `pc` takes 8 bits, and this has 1\npc = mode;\n     ^\n", b"description: width 0 0\n"
+    stale = b"pgv: d may have changed since c was made: pgv check d --cert c makes it anew\n"
+    room = b"pgv: no room: 65 cells wanted, 64 free: take a smaller --grant, or a greater size in the description\n"
+    settled = b"pgv: a mode is open: a greater budget may settle it: pgv check d --cert c --budget K, K up to 1,000,000\n"
+    solver = b"pgv: or another solver: pg_dimacs d a mode writes its clauses, and pg_import d c a mode PROOF FILE takes what it finds\n"
+    long = b"pgv: c has 12,345,678 bytes: a smaller --budget makes it shorter\n"
     checks = {
         "missing": absent.fits(b"pgv: none: no such file\n"),
         "no line feed": not absent.fits(b"pgv: none: no such file"),
@@ -539,12 +545,34 @@ def wrong_error_lines() -> list[str]:
         "sink": NO_OUTPUT.fits(b"pgv: standard output: cannot be written: no space left on device\n"),
         "behind a verdict": unwritable("c").fits(b"pgv: warning: c: cannot be written: x\naccepted\npgv: c: cannot be written: is a directory\n"),
         "words": fits_refusal(3, b"pgv: unexpected argument 'x' found\n", 0),
+        "version": fits_refusal(3, b"pgv 1.0.0 (rattle-kit-13f)\n", 0),
         "no words": not fits_refusal(3, b"", 0),
         "pointed": fits_refusal(4, b"a b:2:10: this cannot stand here\n\tlet x\n\t    ^\n", 0),
         "the whole file": fits_refusal(5, b"f: an image has at most 33,554,432 bytes\n", 0),
         "no caret": not fits_refusal(4, b"f:2:10: this cannot stand here\nlet x\n", 0),
         "a long file": fits_refusal(5, b"", 1 << 21) and not fits_refusal(5, b"", 9),
         "nothing else": fits_refusal(0, b"", 0) and not fits_refusal(0, b"f: x\n", 0),
+        "statements": fits_refusal(4, point * 21, 0, wide) and not fits_refusal(4, point * 22, 0, wide),
+        "statements left": fits_refusal(4, point * 21 + b"f: and 1 more statement whose widths do not fit\n", 0, wide),
+        "few, and some left": not fits_refusal(4, point + b"f: and 2 more statements whose widths do not fit\n", 0, wide),
+        "statements of no width": not fits_refusal(4, point * 2, 0, b"description: twice v\n"),
+        "stale": fits_refusal(6, point + stale, 0, b"certificate: instr 2\n"),
+        "stale, and nothing told": not fits_refusal(6, point, 0, b"certificate: instr 2\n"),
+        "stale, and by no fault of it": not fits_refusal(6, point + stale, 0, b"certificate: grammar 2\n"),
+        "stale, another name": not fits_refusal(6, point + stale.replace(b"--cert c", b"--cert b"), 0, b""),
+        "stale, of a long file": fits_refusal(6, stale, 1 << 21, b"certificate: pair 2\n"),
+        "room": fits_refusal(7, room, 0, b"room 65 64\n") and not fits_refusal(7, room, 0, b"room 66 64\n"),
+        "much room": fits_refusal(7, room.replace(b"65", b"1,065"), 0, b"room 1065 64\n") and not fits_refusal(7, room.replace(b"65", b"1,65"), 0),
+        "a side program": fits_side(11, b"pg_go: x: no such file\n", 0, b"") and not fits_side(11, b"", 0, b""),
+        "a side program, behind a refusal": fits_side(9, point + b"pg_go: standard output: cannot be written: x\n", 0, b""),
+        "no room told": not fits_refusal(7, b"", 0, b"room 65 64\n"),
+        "room elsewhere": not fits_refusal(5, room[5:] + room, 0, b""),
+        "mended": fits_refusal(1, b"pgv: pg_explain d 'my c' says why, and what mends the machine\n", 0, b"refused x\n"),
+        "not mended": fits_refusal(1, b"", 0) and not fits_refusal(0, b"pgv: pg_explain d c says why, and what mends the machine\n", 0),
+        "open": fits_refusal(2, settled, 0, b"open a mode\n") and fits_refusal(2, settled + solver, 0, b"open a mode\n"),
+        "another is open": not fits_refusal(2, settled, 0, b"open b mode\n"),
+        "a solver alone": not fits_refusal(2, solver, 0, b"open a mode\n"),
+        "long": fits_refusal(2, settled + solver + long, 10_000_001) and not fits_refusal(2, settled + solver + long, 10_000_000),
     }
     return [name for name, is_so in checks.items() if not is_so]
 

@@ -21,7 +21,7 @@ from pgvmodel.answers import CERTIFICATE, DESCRIPTION, DONE, IMAGE, SAVED, SOURC
 from pgvmodel.command import SAVING, Answered, Generation, Migration, Search, answer, on_full_output
 from pgvmodel.deciding import Solver
 from pgvmodel.dump import Dump
-from pgvmodel.error_lines import NO_OUTPUT, fits_refusal
+from pgvmodel.error_lines import NO_OUTPUT, fits_refusal, fits_side
 from pgvmodel.questions import NotModelled, Questions, is_side
 from pgvmodel.words import SWITCHED_ON
 
@@ -73,10 +73,18 @@ def beside(model: Answer, program: Outcome, longest: int) -> Outcome:
     The longest file has so many bytes.
     """
     if model.error is None:
-        fits = fits_refusal(model.status, program.errors, longest)
+        fits = fits_refusal(model.status, program.errors, longest, model.output)
         return Outcome(model.status, model.output, program.errors if fits else b"(the form that is due)")
     errors = program.errors if model.error.fits(program.errors) else model.error.spelled()
     return Outcome(model.status, model.output, errors)
+
+
+def beside_side(model: Outcome, program: Outcome, longest: int) -> Outcome:
+    """The outcome of a side program, with what the program says on standard error, where that has the form that is due."""
+    if model.status is None:
+        return model
+    fits = fits_side(model.status, program.errors, longest, model.output)
+    return model._replace(errors=program.errors if fits else b"(the form that is due)")
 
 
 def with_saved(model: Answer, before: Files | None) -> Files | None:
@@ -219,7 +227,7 @@ class Comparison:
             return _failed()
 
     def by_side_model(self, case: Case) -> Outcome | Dump:
-        """The outcome of a side program, of which nothing on standard error is compared; or the dump that it has to write."""
+        """The outcome of a side program, but for standard error; or the dump that it has to write."""
         if not is_side(self.questions.program):
             raise NotModelled
         answered = SIDES[case.words[0]](case.words[1:], self.load, self.questions)
@@ -245,6 +253,7 @@ class Comparison:
             complaints = list(model.complaints(program.output))
             model = Outcome(None, b"", "\n".join(complaints).encode()) if complaints else Outcome(DONE, program.output, b"")
         if isinstance(model, Outcome):
+            model = beside_side(model, program, self.longest())
             return model if after == before else model._replace(errors=CHANGED)
         if isinstance(model, Answer):
             outcome = beside(model, program, self.longest())
@@ -289,7 +298,7 @@ class Comparison:
         (self.again / DESCRIPTION_FILE).write_bytes(description)
         (self.again / CERTIFICATE_FILE).write_bytes(certificate)
         program = self.by_program(words, self.again)
-        words = fits_refusal(program.status, program.errors, len(certificate))
+        words = fits_refusal(program.status, program.errors, len(certificate), program.output)
         return Ended(program.status, program.output + (b"" if words else program.errors))
 
     def by_program(self, words: Sequence[str], folder: Path, is_full: bool = False) -> Outcome:
@@ -307,7 +316,7 @@ class Comparison:
                 )
             except subprocess.TimeoutExpired:
                 return Outcome(None, b"", b"")
-        return Outcome(ended.returncode, ended.stdout or b"", b"" if of_side else ended.stderr)
+        return Outcome(ended.returncode, ended.stdout or b"", ended.stderr)
 
     def keep(self, folder: Path, case: Case, program: Outcome, model: Outcome) -> Difference:
         """Keeps the files, the words, and what either wrote."""
