@@ -3,7 +3,7 @@
 
     bench/plain.py FOLDER
 
-It writes a Rust project in FOLDER: contracts and proofs are left out of the sources of `pg_watch`, `pg_sat`, `pg_forget` and what they
+It writes a Rust project in FOLDER: contracts and proofs are left out of the sources of `pg_watch`, `pg_sat`, `pg_sat_search` and what they
 use, and `bench/plain.rs` stands for the library that they are written over. `cargo build --release` there, and then
 
     FOLDER/target/release/plain FORMULA [BUDGET] [find|keep]
@@ -18,7 +18,7 @@ from pathlib import Path
 
 TOP = Path(__file__).resolve().parent.parent
 # of a crate the modules that are taken: all where none is named
-CRATES = {"pg_cnf": ("clause",), "pg_proof": ("step",), "pg_watch": (), "pg_sat": (), "pg_forget": ()}
+CRATES = {"pg_cnf": ("clause",), "pg_proof": ("step",), "pg_watch": (), "pg_sat": (), "pg_sat_search": ()}
 MANIFEST = '[package]\nname = "plain"\nversion = "0.1.0"\nedition = "2021"\n\n[profile.release]\ndebug = 1\npanic = "abort"\n'
 # lines that are left out, and what begins a clause that is, over as many lines as its brackets take
 LEFT_OUT = re.compile(r"#!?\[(tactic|error)|//!|use (std::alloc|std::marker|sqlite_items|smallvec|thiserror)\b")

@@ -2,7 +2,7 @@
 #![allow(unused)]
 
 mod pg_cnf;
-mod pg_forget;
+mod pg_sat_search;
 mod pg_proof;
 mod pg_sat;
 mod pg_watch;
@@ -132,7 +132,7 @@ mod library {
 
 use library::{AllocError, Global, SmallVec};
 use pg_cnf::{Clause, Cnf};
-use pg_forget::Found;
+use pg_sat_search::Found;
 use pg_proof::Step;
 use pg_sat::{Answer, Counts};
 use std::time::Instant;
@@ -188,7 +188,7 @@ fn solved(cnf: &Cnf, budget: u32, keeps: bool) -> Result<(String, Counts), Alloc
         };
         return Ok((told, counts));
     }
-    let (found, counts) = pg_forget::find_counted(Global, cnf, budget)?;
+    let (found, counts) = pg_sat_search::find_counted(Global, cnf, budget)?;
     let told = match found {
         Found::Model(_) => "yes".to_string(),
         Found::Refuted(steps) => format!("no {}", size(&steps)),

@@ -9,12 +9,12 @@ use Rattle.pg_cells.specs.Made.{touch_made, cells_after}
 use Rattle.pg_ast.specs.declared.tree.Instr.{Instr}
 use Rattle.pg_ast.specs.declared.tree.Desc.{Desc}
 use Rattle.pg_word.specs.declared.shape.Shape.{Shape}
-use Rattle.pg_meaning.specs.States.{shape_of}
-use Rattle.pg_valid.specs.Valid.{IsValid}
+use Rattle.pg_lang_meaning.specs.States.{shape_of}
+use Rattle.pg_lang_valid.specs.Valid.{IsValid}
 use Rattle.pg_word.specs.Bits.{IsWidth}
 use Rattle.pg_vec.specs.There.{AreThere}
-use Rattle.pg_valid.proofs.ValidFacts.{IsWidth-word}
-use Rattle.pg_valid.proofs.PatternFacts.{valid-length}
+use Rattle.pg_lang_valid.proofs.ValidFacts.{IsWidth-word}
+use Rattle.pg_lang_valid.proofs.PatternFacts.{valid-length}
 use Rattle.pg_cnf.specs.Encoded.{clauses_of}
 use Rattle.pg_symex.proofs.RunLaw.{all_run_right}
 use Rattle.pg_type.specs.declared.kind.Kind.{Kind}

@@ -20,14 +20,14 @@ use Rattle.pg_cells.specs.Over.{IsWhole}
 use Rattle.pg_cells.proofs.ConsistentLaws.{cells-whole}
 use Rattle.pg_ast.specs.declared.tree.Instr.{Instr}
 use Rattle.pg_ast.specs.declared.tree.Desc.{Desc}
-use Rattle.pg_meaning.specs.Patterns.{matches}
-use Rattle.pg_meaning.specs.Bodies.{body}
+use Rattle.pg_lang_meaning.specs.Patterns.{matches}
+use Rattle.pg_lang_meaning.specs.Bodies.{body}
 use Rattle.pg_type.specs.declared.kind.Kind.{Kind}
 use Rattle.pg_type.specs.declared.kind.Kind.TheVariants.{Privileged, Control, ModeDep, Location, Bound, UControl, ULocation, UBound}
 use Rattle.pg_type.specs.Kinds.{fetched_word}
 use Rattle.pg_symex.specs.There.{AreBits}
 use Rattle.pg_symex.specs.Runs.{AllRunRight}
-use Rattle.pg_pairs.specs.Pair.{Pair, Relates, IsInBothModes, IsGivenTwice, IsMoved, IsRebounded, Ends, first_course, second_course, PairShows}
+use Rattle.pg_mach_pairs.specs.Pair.{Pair, Relates, IsInBothModes, IsGivenTwice, IsMoved, IsRebounded, Ends, first_course, second_course, PairShows}
 use Rattle.pg_ask.specs.Unknowns.{moves, rebounds}
 use Rattle.pg_ask.specs.Question.{Question, question_made}
 use Rattle.pg_ask.specs.Means.{pair_of, StandFor, AssignmentsShow}

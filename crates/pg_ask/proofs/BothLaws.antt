@@ -20,8 +20,8 @@ use Rattle.pg_cells.specs.Made.{touch_made, cells_after}
 use Rattle.pg_cells.proofs.TouchLaws.{touches}
 use Rattle.pg_ast.specs.declared.tree.Instr.{Instr}
 use Rattle.pg_ast.specs.declared.tree.Desc.{Desc}
-use Rattle.pg_meaning.specs.Bodies.{Course, MemTrapped, Trapped, Going, After, body}
-use Rattle.pg_valid.specs.Valid.{IsValid}
+use Rattle.pg_lang_meaning.specs.Bodies.{Course, MemTrapped, Trapped, Going, After, body}
+use Rattle.pg_lang_valid.specs.Valid.{IsValid}
 use Rattle.pg_symex.specs.declared.regs.Regs.{Regs}
 use Rattle.pg_symex.specs.Flow.{SymRun}
 use Rattle.pg_symex.specs.Numbers.{entry_psw}

@@ -17,8 +17,8 @@ use Rattle.pg_cells.specs.Made.{inputs_made}
 use Rattle.pg_cells.proofs.TouchLaws.{length-gates_from}
 use Rattle.pg_ast.specs.declared.tree.Instr.{Instr}
 use Rattle.pg_ast.specs.declared.tree.Desc.{Desc}
-use Rattle.pg_valid.specs.Valid.{IsValid}
-use Rattle.pg_valid.proofs.ValidFacts.{IsShape-of_valid}
+use Rattle.pg_lang_valid.specs.Valid.{IsValid}
+use Rattle.pg_lang_valid.proofs.ValidFacts.{IsShape-of_valid}
 use Rattle.pg_type.specs.declared.kind.Kind.{Kind}
 use Rattle.pg_symex.specs.There.{AreBits}
 use Rattle.pg_symex.specs.Exprs.{literal_bits, bit_0}

@@ -8,7 +8,7 @@ use Rattle.pg_circuit.specs.Values.{differ, gate_value}
 use Rattle.pg_word.specs.declared.psw.Psw.{Psw}
 use Rattle.pg_word.specs.Psw.{mode_of}
 use Rattle.pg_vec.specs.Number.{number}
-use Rattle.pg_meaning.specs.Bodies.{Course, MemTrapped, Trapped, Going, After}
+use Rattle.pg_lang_meaning.specs.Bodies.{Course, MemTrapped, Trapped, Going, After}
 use Rattle.pg_type.specs.Kinds.{SeenDone, observed, IsDone, IsTrap, IsNoMemTrap, ChangesControl}
 use Rattle.pg_ask.specs.declared.unknowns.Unknowns.{Unknowns}
 use Rattle.pg_ask.specs.declared.ends.End.{End}

@@ -13,7 +13,7 @@ use Rattle.pg_vec.specs.There.{AreThere, AreValues}
 use Rattle.pg_vec.proofs.Kept.{front_then, there_later, all_there_later, values_earlier, constant-value}
 use Rattle.pg_ast.specs.declared.tree.Instr.{Instr}
 use Rattle.pg_ast.specs.declared.tree.Desc.{Desc}
-use Rattle.pg_meaning.specs.Patterns.{matches}
+use Rattle.pg_lang_meaning.specs.Patterns.{matches}
 use Rattle.pg_type.specs.declared.kind.Kind.{Kind}
 use Rattle.pg_type.specs.declared.kind.Kind.TheVariants.{Privileged, Control, ModeDep, Location, Bound, UControl, ULocation, UBound}
 use Rattle.pg_symex.specs.There.{AreBits}

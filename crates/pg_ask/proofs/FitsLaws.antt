@@ -18,7 +18,7 @@ use Rattle.pg_vec.proofs.Kept.{front_same, front_then, there_later, all_there_la
 use Rattle.pg_vec.proofs.CompareLaws.{sub-makes}
 use Rattle.pg_vec.proofs.EachLaws.{mux-makes, number-below}
 use Rattle.pg_vec.proofs.Strings.{number-drop}
-use Rattle.pg_meaning.specs.Patterns.{byte_0, byte_1, bit_of_word, takes_bit, matches}
+use Rattle.pg_lang_meaning.specs.Patterns.{byte_0, byte_1, bit_of_word, takes_bit, matches}
 use Rattle.pg_symex.specs.Exprs.{literal_bits}
 use Rattle.pg_symex.proofs.LeafLaws.{length-literal, literal-there, number-literal}
 use Rattle.pg_ask.specs.Fits.{usable_made, size_made, alike_made, differ_made, place_made, matches_made}

@@ -24,14 +24,14 @@ use Rattle.pg_cells.proofs.InputLaws.{has_inputs}
 use Rattle.pg_cells.proofs.LaterLaws.{given_true}
 use Rattle.pg_ast.specs.declared.tree.Instr.{Instr}
 use Rattle.pg_ast.specs.declared.tree.Desc.{Desc}
-use Rattle.pg_meaning.specs.Patterns.{matches}
-use Rattle.pg_meaning.specs.Bodies.{body}
-use Rattle.pg_valid.proofs.ValidFacts.{IsShape-of_valid}
+use Rattle.pg_lang_meaning.specs.Patterns.{matches}
+use Rattle.pg_lang_meaning.specs.Bodies.{body}
+use Rattle.pg_lang_valid.proofs.ValidFacts.{IsShape-of_valid}
 use Rattle.pg_type.specs.declared.kind.Kind.{Kind}
 use Rattle.pg_type.specs.declared.kind.Kind.TheVariants.{Privileged, Control, ModeDep, Location, Bound, UControl, ULocation, UBound}
 use Rattle.pg_symex.specs.Numbers.{entry_psw}
 use Rattle.pg_symex.specs.Runs.{AllRunRight}
-use Rattle.pg_pairs.specs.Pair.{Pair, IsPair, Relates, IsInBothModes, IsGivenTwice, first_course, second_course, PairShows}
+use Rattle.pg_mach_pairs.specs.Pair.{Pair, IsPair, Relates, IsInBothModes, IsGivenTwice, first_course, second_course, PairShows}
 use Rattle.pg_ask.specs.declared.unknowns.Unknowns.{Unknowns}
 use Rattle.pg_ask.specs.Unknowns.{moves, rebounds, first_regs, second_regs}
 use Rattle.pg_ask.specs.Question.{Question, question_made}

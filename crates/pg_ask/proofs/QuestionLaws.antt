@@ -23,10 +23,10 @@ use Rattle.pg_cells.proofs.LaterLaws.{tells_later}
 use Rattle.pg_cells.proofs.ConsistentLaws.{cells-whole, consistent-makes, tells}
 use Rattle.pg_ast.specs.declared.tree.Instr.{Instr}
 use Rattle.pg_ast.specs.declared.tree.Desc.{Desc}
-use Rattle.pg_meaning.specs.Bodies.{body}
-use Rattle.pg_valid.specs.Valid.{IsValid}
-use Rattle.pg_valid.proofs.ValidFacts.{IsShape-of_valid, IsWidth-word, IsWidth-address}
-use Rattle.pg_valid.proofs.PatternFacts.{valid-length}
+use Rattle.pg_lang_meaning.specs.Bodies.{body}
+use Rattle.pg_lang_valid.specs.Valid.{IsValid}
+use Rattle.pg_lang_valid.proofs.ValidFacts.{IsShape-of_valid, IsWidth-word, IsWidth-address}
+use Rattle.pg_lang_valid.proofs.PatternFacts.{valid-length}
 use Rattle.pg_type.specs.declared.kind.Kind.{Kind}
 use Rattle.pg_symex.specs.Numbers.{entry_psw}
 use Rattle.pg_symex.specs.There.{AreBits}

@@ -10,7 +10,7 @@ use Rattle.pg_cells.specs.Over.{IsOver}
 use Rattle.pg_cells.specs.Made.{touch_made, cells_after}
 use Rattle.pg_ast.specs.declared.tree.Instr.{Instr}
 use Rattle.pg_ast.specs.declared.tree.Desc.{Desc}
-use Rattle.pg_valid.specs.Valid.{IsValid}
+use Rattle.pg_lang_valid.specs.Valid.{IsValid}
 use Rattle.pg_symex.specs.declared.regs.Regs.{Regs}
 use Rattle.pg_symex.specs.declared.symbolic.SymOutcome.{SymOutcome}
 use Rattle.pg_symex.specs.Flow.{SymRun}

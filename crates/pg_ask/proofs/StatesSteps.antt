@@ -14,15 +14,15 @@ use Rattle.pg_cells.proofs.ConsistentLaws.{cells-whole}
 use Rattle.pg_cnf.specs.Truth.{clauses_true}
 use Rattle.pg_ast.specs.declared.tree.Instr.{Instr}
 use Rattle.pg_ast.specs.declared.tree.Desc.{Desc}
-use Rattle.pg_valid.specs.Valid.{IsValid}
-use Rattle.pg_valid.proofs.ValidFacts.{IsShape-of_valid}
+use Rattle.pg_lang_valid.specs.Valid.{IsValid}
+use Rattle.pg_lang_valid.proofs.ValidFacts.{IsShape-of_valid}
 use Rattle.pg_type.specs.declared.kind.Kind.{Kind}
 use Rattle.pg_type.specs.Kinds.{Shows}
 use Rattle.pg_type.specs.Listed.{state_of}
 use Rattle.pg_symex.proofs.RunLaw.{all_run_right}
-use Rattle.pg_pairs.specs.Placing.{window_of, state_around}
-use Rattle.pg_pairs.proofs.PairLemmas.{pairs_show}
-use Rattle.pg_pairs.proofs.PlacingLemmas.{states_around}
+use Rattle.pg_mach_pairs.specs.Placing.{window_of, state_around}
+use Rattle.pg_mach_pairs.proofs.PairLemmas.{pairs_show}
+use Rattle.pg_mach_pairs.proofs.PlacingLemmas.{states_around}
 use Rattle.pg_ask.specs.declared.unknowns.Unknowns.{Unknowns}
 use Rattle.pg_ask.specs.Question.{question_made, question}
 use Rattle.pg_ask.specs.Asked.{IsQuestionOf, IsAsked}

@@ -4,11 +4,11 @@ use Rattle.pg_circuit.specs.declared.node.Gate.{Gate}
 use Rattle.pg_cells.specs.declared.cell.Cell.{Cell}
 use Rattle.pg_ast.specs.declared.tree.Instr.{Instr}
 use Rattle.pg_ast.specs.declared.tree.Desc.{Desc}
-use Rattle.pg_valid.specs.Valid.{IsValid}
+use Rattle.pg_lang_valid.specs.Valid.{IsValid}
 use Rattle.pg_type.specs.declared.kind.Kind.{Kind}
 use Rattle.pg_type.specs.Kinds.{Shows}
 use Rattle.pg_cnf.specs.Truth.{clauses_true}
-use Rattle.pg_meaning.specs.States.{State}
+use Rattle.pg_lang_meaning.specs.States.{State}
 use Rattle.pg_ask.specs.declared.unknowns.Unknowns.{Unknowns}
 use Rattle.pg_ask.specs.Question.{question_made, question}
 

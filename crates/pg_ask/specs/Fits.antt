@@ -5,7 +5,7 @@ use Rattle.pg_circuit.specs.declared.node.Node.{Node}
 use Rattle.pg_circuit.specs.Made.{constant_gate, not_gate, and_made}
 use Rattle.pg_vec.specs.Gates.{then_made}
 use Rattle.pg_vec.specs.Strings.{sub_made, lt_made, mux_made, same_made}
-use Rattle.pg_meaning.specs.Patterns.{byte_0, byte_1}
+use Rattle.pg_lang_meaning.specs.Patterns.{byte_0, byte_1}
 use Rattle.pg_ast.specs.declared.tree.Instr.{Instr}
 use Rattle.pg_ast.specs.declared.tree.Desc.{Desc}
 use Rattle.pg_type.specs.declared.kind.Kind.{Kind}

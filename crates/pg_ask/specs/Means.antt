@@ -13,12 +13,12 @@ use Rattle.pg_word.specs.declared.psw.Psw.{Psw}
 use Rattle.pg_word.specs.Psw.{mode_of, window_len_of}
 use Rattle.pg_ast.specs.declared.tree.Instr.{Instr}
 use Rattle.pg_ast.specs.declared.tree.Desc.{Desc}
-use Rattle.pg_valid.specs.Valid.{IsValid}
+use Rattle.pg_lang_valid.specs.Valid.{IsValid}
 use Rattle.pg_type.specs.declared.kind.Kind.{Kind}
 use Rattle.pg_symex.specs.Numbers.{entry_psw}
 use Rattle.pg_symex.specs.There.{AreBits}
-use Rattle.pg_pairs.specs.Pair.{Pair, PairShows}
-use Rattle.pg_pairs.specs.Placing.{window_of}
+use Rattle.pg_mach_pairs.specs.Pair.{Pair, PairShows}
+use Rattle.pg_mach_pairs.specs.Placing.{window_of}
 use Rattle.pg_ask.specs.Unknowns.{first_regs, second_regs}
 use Rattle.pg_ask.specs.There.{AreUnknowns}
 use Rattle.pg_ask.specs.Ends.{view_for}

@@ -23,7 +23,7 @@ use crate::unknowns::{Unknowns, unknowns_of};
 use pg_cells::{Cell, Touched};
 use pg_circuit::{Circuit, Gate};
 use pg_cnf::{Cnf, encode};
-use pg_machine::Machine;
+use pg_mach_ready::Machine;
 use pg_type::Kind;
 use pg_vec::Bits;
 use pg_vec::gate::and;

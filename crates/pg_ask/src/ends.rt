@@ -15,7 +15,7 @@ use crate::fits::{alike, bit_0};
 use crate::unknowns::Unknowns;
 use pg_cells::Touched;
 use pg_circuit::{Circuit, Gate};
-use pg_machine::Machine;
+use pg_mach_ready::Machine;
 use pg_symex::{Regs, SymOutcome, run_symbolic};
 use pg_type::Kind;
 use pg_vec::compare::same;

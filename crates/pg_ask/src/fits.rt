@@ -12,7 +12,7 @@ ghost use Rattle.pg_ask.specs.Fits.{usable_made, size_made, alike_made, differ_m
 use crate::unknowns::{Unknowns, moves, rebounds};
 use pg_ast::Instr;
 use pg_circuit::{Circuit, Gate};
-use pg_machine::Machine;
+use pg_mach_ready::Machine;
 use pg_symex::literal::literal;
 use pg_type::Kind;
 use pg_vec::compare::same;

@@ -6,7 +6,7 @@ use Rattle.std.proofs.lemmas.Bool.{eqb-true}
 use Rattle.std.proofs.lemmas.Option.{slice_get-map, slice_get_within}
 use Rattle.std.proofs.lemmas.List.{length-set, length-map, length-replicate}
 use Rattle.pg_ast.specs.declared.tree.Desc.{Desc}
-use Rattle.pg_valid.specs.Valid.{IsValid}
+use Rattle.pg_lang_valid.specs.Valid.{IsValid}
 use Rattle.pg_asm.specs.declared.fault.AsmFault.{AsmFault}
 use Rattle.pg_asm.specs.declared.fault.AsmFault.TheVariants.{Long, Token, Grammar, Name, Field, Label as LabelFault, Range, Place, Overlap, Memory}
 use Rattle.pg_asm.specs.declared.mark.Mark.{Mark}

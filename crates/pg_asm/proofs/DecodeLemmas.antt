@@ -4,9 +4,9 @@ use Rattle.std.specs.Option.{option_map}
 use Rattle.std.proofs.lemmas.Option.{slice_get-get_or}
 use Rattle.pg_ast.specs.declared.tree.Instr.{Instr}
 use Rattle.pg_ast.specs.declared.tree.Desc.{Desc}
-use Rattle.pg_meaning.specs.Patterns.{matches, matching_number}
-use Rattle.pg_valid.specs.Valid.{IsValid}
-use Rattle.pg_valid.proofs.PatternFacts.{valid-length, valid-apart, valid-short}
+use Rattle.pg_lang_meaning.specs.Patterns.{matches, matching_number}
+use Rattle.pg_lang_valid.specs.Valid.{IsValid}
+use Rattle.pg_lang_valid.proofs.PatternFacts.{valid-length, valid-apart, valid-short}
 use Rattle.pg_asm.specs.Words.{fields_of, fit, kept_bits, IsWordOf, word_by, pattern_of, values_in, decoded}
 use Rattle.pg_asm.proofs.WordLemmas.{values-again, word-is, values-fit}
 

@@ -9,8 +9,8 @@ use Rattle.std.proofs.lemmas.List.{append_assoc, append-nil, get_or-drop, drop-d
 use Rattle.std.proofs.lemmas.List.Elements.{All-nil, All-cons}
 use Rattle.std.proofs.lemmas.Nat.{div_below, le-div, shr_le, pow_pos, mod_below, mul-add-lt, pow-add}
 use Rattle.pg_asm.specs.declared.fields.LetterField.{LetterField}
-use Rattle.pg_meaning.specs.Patterns.{bit_of_word, run_length}
-use Rattle.pg_meaning.specs.Opcodes.{wanted_bit}
+use Rattle.pg_lang_meaning.specs.Patterns.{bit_of_word, run_length}
+use Rattle.pg_lang_meaning.specs.Opcodes.{wanted_bit}
 use Rattle.pg_asm.specs.Words.{begins_field, field_here, fields_behind, fields_of, value_in, fit, counts, kept_bits, word_behind, word_by}
 use Rattle.pg_asm.proofs.WordLemmas.{FitsFirst, fits_first, word-fits}
 

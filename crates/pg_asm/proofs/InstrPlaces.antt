@@ -6,8 +6,8 @@ use Rattle.std.proofs.lemmas.Bool.{and_parts, and_from, eqb-true, eq-eqb}
 use Rattle.std.proofs.lemmas.Slice.Eq.{bytes_eq-Decides}
 use Rattle.pg_ast.specs.declared.tree.Instr.{Instr as Instruction}
 use Rattle.pg_ast.specs.declared.tree.Desc.{Desc}
-use Rattle.pg_valid.specs.Twice.{instr_names}
-use Rattle.pg_valid.specs.Valid.{IsValid}
+use Rattle.pg_lang_valid.specs.Twice.{instr_names}
+use Rattle.pg_lang_valid.specs.Valid.{IsValid}
 use Rattle.pg_asm.specs.declared.fault.AsmFault.{AsmFault}
 use Rattle.pg_asm.specs.declared.fault.AsmFault.TheVariants.{Name, Field, Label as LabelFault, Range}
 use Rattle.pg_asm.specs.declared.mark.Mark.{Mark}

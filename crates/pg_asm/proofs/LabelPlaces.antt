@@ -6,7 +6,7 @@ use Rattle.std.specs.Option.{option_map}
 use Rattle.std.proofs.lemmas.Bool.{le-ltb, lt-ltb, ltb-true, ltb-false}
 use Rattle.std.proofs.lemmas.List.{length_push}
 use Rattle.std.proofs.lemmas.Slice.Eq.{bytes_eq-Decides}
-use Rattle.pg_valid.specs.Twice.{is_among}
+use Rattle.pg_lang_valid.specs.Twice.{is_among}
 use Rattle.pg_asm.specs.declared.mark.Mark.{Mark}
 use Rattle.pg_asm.specs.Said.{Said, Blank, At, Label, Word, Instr}
 use Rattle.pg_asm.specs.Sources.{place_behind, Labels, no_labels, given, labels_behind, labels_from, mark_of, first_place, labels_of}

@@ -10,7 +10,7 @@ use Rattle.std.proofs.lemmas.Bool.Decides.{nat_tests}
 use Rattle.std.proofs.lemmas.Int.Digits.{digits_value-lt}
 use Rattle.std.proofs.lemmas.Str.{IsUtf8-from_ascii}
 use Rattle.std.proofs.lemmas.Str.Ascii.{IsAscii-nil, IsAscii-cons}
-use Rattle.pg_token.specs.Words.{is_digit, is_word_byte, is_letter, is_word, is_name, is_reserved, most_name_bytes}
+use Rattle.pg_lang_token.specs.Words.{is_digit, is_word_byte, is_letter, is_word, is_name, is_reserved, most_name_bytes}
 use Rattle.pg_text.specs.Cutting.{limited, dec_number}
 use Rattle.pg_text.proofs.Digits.{dec_digits}
 use Rattle.pg_asm.specs.Said.{Value, Operand, value_said, begins_operand, operand_said, in_front, operands_said}

@@ -4,10 +4,10 @@ use Rattle.std.specs.Prelude.{nat_le, slice_index}
 use Rattle.std.specs.Option.{option_map}
 use Rattle.std.proofs.lemmas.Bool.{and_parts, leb-true, eq-eqb, ne_eqb}
 use Rattle.std.proofs.lemmas.List.{append_assoc, append-nil, drop_more, drop_all, length-drop}
-use Rattle.pg_token.specs.Words.{is_name}
+use Rattle.pg_lang_token.specs.Words.{is_name}
 use Rattle.pg_text.specs.Cutting.{dec_number}
 use Rattle.pg_image.specs.Images.{parts_of}
-use Rattle.pg_valid.specs.Overlaps.{is_field_letter}
+use Rattle.pg_lang_valid.specs.Overlaps.{is_field_letter}
 use Rattle.pg_asm.specs.declared.mark.Mark.{Mark}
 use Rattle.pg_asm.specs.declared.fields.LetterField.{LetterField}
 use Rattle.pg_asm.specs.Said.{Value, Number, Named, Operand, value_said, begins_operand, operand_said, in_front, operands_said}

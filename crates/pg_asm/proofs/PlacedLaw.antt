@@ -8,7 +8,7 @@ use Rattle.std.proofs.lemmas.Option.{slice_get-map, slice_get_within, slice_get-
 use Rattle.std.proofs.lemmas.List.{length-take, same_lists}
 use Rattle.pg_ast.specs.declared.tree.Desc.{Desc}
 use Rattle.pg_image.specs.Images.{lines_of, content, parts_of}
-use Rattle.pg_valid.specs.Valid.{IsValid}
+use Rattle.pg_lang_valid.specs.Valid.{IsValid}
 use Rattle.pg_asm.specs.declared.fault.AsmFault.{AsmFault}
 use Rattle.pg_asm.specs.declared.fault.AsmFault.TheVariants.{Long, Token, Grammar, Name, Field, Label as LabelFault, Range, Place, Overlap, Memory}
 use Rattle.pg_asm.specs.Said.{Said, At, said_of}

@@ -4,13 +4,13 @@ use Rattle.std.specs.Prelude.{slice_index, codes}
 use Rattle.pg_ast.specs.declared.tree.Instr.{Instr as Instruction}
 use Rattle.pg_ast.specs.declared.tree.Desc.{Desc}
 use Rattle.pg_image.specs.Images.{lines_of, content, parts_of}
-use Rattle.pg_meaning.specs.Patterns.{matches, run_length}
-use Rattle.pg_valid.specs.Limits.{all_of, limit_broken}
-use Rattle.pg_valid.specs.Twice.{first_twice, let_twice, let_twice_among}
-use Rattle.pg_valid.specs.Overlaps.{pattern_broken, has_split_letter, overlap, overlap_with}
-use Rattle.pg_valid.specs.Scopes.{seen_in_order, name_unknown}
-use Rattle.pg_valid.specs.Widths.{fares_in_order, width_broken}
-use Rattle.pg_valid.specs.Valid.{IsValid}
+use Rattle.pg_lang_meaning.specs.Patterns.{matches, run_length}
+use Rattle.pg_lang_valid.specs.Limits.{all_of, limit_broken}
+use Rattle.pg_lang_valid.specs.Twice.{first_twice, let_twice, let_twice_among}
+use Rattle.pg_lang_valid.specs.Overlaps.{pattern_broken, has_split_letter, overlap, overlap_with}
+use Rattle.pg_lang_valid.specs.Scopes.{seen_in_order, name_unknown}
+use Rattle.pg_lang_valid.specs.Widths.{fares_in_order, width_broken}
+use Rattle.pg_lang_valid.specs.Valid.{IsValid}
 use Rattle.pg_asm.specs.Words.{fields_behind, fields_of, fit, kept_bits, word_behind, IsWordOf}
 use Rattle.pg_asm.specs.declared.fault.AsmFault.TheVariants.{Grammar, Name, Field, Overlap}
 use Rattle.pg_asm.specs.declared.fault.AsmFault.{AsmFault}

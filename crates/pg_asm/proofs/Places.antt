@@ -4,9 +4,9 @@ use Rattle.std.proofs.lemmas.Bool.{eqb-true}
 use Rattle.std.proofs.Math.Nat.{add-mul, mul_assoc, mul_comm}
 use Rattle.std.proofs.lemmas.Bool.Decides.{nat_tests}
 use Rattle.std.proofs.lemmas.Nat.{mod-pow-add, mod_below, same_from_place, pow_pos, pow-add, shr-shr}
-use Rattle.pg_meaning.specs.Patterns.{takes_bit, bit_of_word, run_length}
-use Rattle.pg_meaning.specs.Opcodes.{wanted_bit}
-use Rattle.pg_valid.specs.Overlaps.{is_field_letter}
+use Rattle.pg_lang_meaning.specs.Patterns.{takes_bit, bit_of_word, run_length}
+use Rattle.pg_lang_meaning.specs.Opcodes.{wanted_bit}
+use Rattle.pg_lang_valid.specs.Overlaps.{is_field_letter}
 use Rattle.pg_asm.specs.declared.fields.LetterField.{LetterField}
 use Rattle.pg_asm.specs.Words.{begins_field, field_here, fields_behind, word_behind, counts}
 

@@ -20,18 +20,18 @@ use Rattle.std.proofs.lemmas.List.Elements.{All-head, All-tail}
 use Rattle.std.proofs.lemmas.List.Splits.{slice_split_at, slice_split_none}
 use Rattle.pg_ast.specs.declared.tree.Instr.{Instr as Instruction}
 use Rattle.pg_ast.specs.declared.tree.Desc.{Desc}
-use Rattle.pg_token.specs.Words.{is_word_byte, is_letter, is_word, is_name, is_reserved, most_name_bytes}
+use Rattle.pg_lang_token.specs.Words.{is_word_byte, is_letter, is_word, is_name, is_reserved, most_name_bytes}
 use Rattle.pg_text.specs.Cutting.{limited, dec_number}
 use Rattle.pg_text.specs.Printing.{hex_text, hex_word_of}
 use Rattle.pg_text.proofs.Digits.{limited_is}
 use Rattle.pg_text.proofs.Hex.{length-hex_text, digits_value-hex_text, word_below}
 use Rattle.pg_image.specs.Images.{lines_of, content, is_gap, parts_of}
 use Rattle.pg_image.proofs.Cuts.{keep_some}
-use Rattle.pg_meaning.specs.Patterns.{matches, matching_number}
-use Rattle.pg_valid.specs.Overlaps.{is_field_letter}
-use Rattle.pg_valid.specs.Twice.{is_among, first_twice, instr_names, let_twice_among, first_of_two}
-use Rattle.pg_valid.specs.Valid.{as_twice, IsValid}
-use Rattle.pg_valid.proofs.ValidFacts.{IsShape-of_valid}
+use Rattle.pg_lang_meaning.specs.Patterns.{matches, matching_number}
+use Rattle.pg_lang_valid.specs.Overlaps.{is_field_letter}
+use Rattle.pg_lang_valid.specs.Twice.{is_among, first_twice, instr_names, let_twice_among, first_of_two}
+use Rattle.pg_lang_valid.specs.Valid.{as_twice, IsValid}
+use Rattle.pg_lang_valid.proofs.ValidFacts.{IsShape-of_valid}
 use Rattle.pg_asm.specs.declared.fault.AsmFault.TheVariants.{Long, Token, Name, Field, Range, Place, Overlap}
 use Rattle.pg_asm.specs.declared.fields.LetterField.{LetterField}
 use Rattle.pg_asm.specs.Words.{begins_field, field_here, fields_behind, fields_of, value_in, values_in, kept_bits, word_by, pattern_of}

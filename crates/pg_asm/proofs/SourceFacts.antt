@@ -8,14 +8,14 @@ use Rattle.std.proofs.lemmas.List.Elements.{All-set, All-map, All-replicate}
 use Rattle.std.proofs.lemmas.Nat.{pow_pos}
 use Rattle.pg_ast.specs.declared.tree.Instr.{Instr as Instruction}
 use Rattle.pg_ast.specs.declared.tree.Desc.{Desc}
-use Rattle.pg_token.specs.Words.{is_name}
+use Rattle.pg_lang_token.specs.Words.{is_name}
 use Rattle.pg_text.specs.Printing.{hex_word_of}
 use Rattle.pg_text.proofs.HexBytes.{word_fits}
 use Rattle.pg_image.specs.Images.{lines_of, content, parts_of, image_due}
-use Rattle.pg_valid.specs.Twice.{instr_names}
-use Rattle.pg_valid.specs.Valid.{IsValid}
-use Rattle.pg_valid.proofs.ValidFacts.{IsShape-of_valid}
-use Rattle.pg_valid.proofs.PatternFacts.{valid-length}
+use Rattle.pg_lang_valid.specs.Twice.{instr_names}
+use Rattle.pg_lang_valid.specs.Valid.{IsValid}
+use Rattle.pg_lang_valid.proofs.ValidFacts.{IsShape-of_valid}
+use Rattle.pg_lang_valid.proofs.PatternFacts.{valid-length}
 use Rattle.pg_asm.specs.declared.fault.AsmFault.{AsmFault}
 use Rattle.pg_asm.specs.declared.fault.AsmFault.TheVariants.{Long, Token, Name, Field, Label as LabelFault, Range, Place, Overlap}
 use Rattle.pg_asm.specs.declared.mark.Mark.{Mark}

@@ -4,8 +4,8 @@ use Rattle.std.specs.Prelude.{nat_lt}
 use Rattle.std.proofs.lemmas.Bool.{and_parts, ltb-true, lt-ltb}
 use Rattle.std.proofs.lemmas.Nat.{mod_below, mul-add-lt, pow_pos, pow-add}
 use Rattle.std.proofs.Math.Nat.{mod-eq_of_lt}
-use Rattle.pg_meaning.specs.Patterns.{takes_bit, bit_of_word, matches, run_length}
-use Rattle.pg_meaning.specs.Opcodes.{wanted_bit}
+use Rattle.pg_lang_meaning.specs.Patterns.{takes_bit, bit_of_word, matches, run_length}
+use Rattle.pg_lang_meaning.specs.Opcodes.{wanted_bit}
 use Rattle.pg_asm.specs.declared.fields.LetterField.{LetterField}
 use Rattle.pg_asm.specs.Words.{field_here, fields_behind, fields_of, value_in, values_in, fit, counts, kept_bits, IsWordOf, word_behind, word_by}
 use Rattle.pg_asm.proofs.Places.{Parts, parts, top, run, Begins, GoesOn, IsOther, Place, begins, goes_on, other, place, run_length-most, bit-wanted, wanted-taken, letter-taken, letter-counts, wanted-most}

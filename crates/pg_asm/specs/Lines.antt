@@ -1,6 +1,6 @@
 -- A line of a source as code has it: what it names is still text.
 use Rattle.std.specs.Prelude.{◌≡◌, ℕ, ◌<◌, ◌^◌, List, [], Option, None, Some, unwrap_or, IsTrue}
-use Rattle.pg_token.specs.Words.{is_name}
+use Rattle.pg_lang_token.specs.Words.{is_name}
 use Rattle.pg_image.specs.Images.{parts_of}
 use Rattle.pg_asm.specs.declared.line.InstrText.{InstrText}
 use Rattle.pg_asm.specs.declared.line.Line.{Line}

@@ -1,10 +1,10 @@
 -- What the lines of a source say, each by its parts.
 use Rattle.std.specs.Prelude.{ℕ, ◌-◌, Bool, ◌&&◌, ◌==◌, nat_le, if◌then◌else◌, List, [], ◌∷◌, length, take, drop, slice_index, codes, bytes_eq, Option, None, Some}
 use Rattle.std.specs.Option.{option_map}
-use Rattle.pg_token.specs.Words.{is_name}
+use Rattle.pg_lang_token.specs.Words.{is_name}
 use Rattle.pg_text.specs.Cutting.{dec_number}
 use Rattle.pg_text.specs.Printing.{hex_word_of}
-use Rattle.pg_valid.specs.Overlaps.{is_field_letter}
+use Rattle.pg_lang_valid.specs.Overlaps.{is_field_letter}
 
 -- a value: a number below 2^64, or the place of a label
 pub data Value : Type 0 where

@@ -2,9 +2,9 @@
 use Rattle.std.specs.Prelude.{◌≡◌, ℕ, ◌+◌, Bool, true, false, not, ◌&&◌, ◌||◌, ◌==◌, nat_lt, if◌then◌else◌, List, [], ◌∷◌, ◌++◌, length, map, set, replicate, position, bytes_eq, slice_index, slice_get, Option, None, Some, unwrap_or, Result, Ok, Err}
 use Rattle.std.specs.Option.{option_map}
 use Rattle.pg_ast.specs.declared.tree.Desc.{Desc}
-use Rattle.pg_token.specs.Words.{is_word_byte}
+use Rattle.pg_lang_token.specs.Words.{is_word_byte}
 use Rattle.pg_image.specs.Images.{lines_of, content, parts_of, is_gap}
-use Rattle.pg_valid.specs.Twice.{instr_names, is_among}
+use Rattle.pg_lang_valid.specs.Twice.{instr_names, is_among}
 use Rattle.pg_asm.specs.declared.fault.AsmFault.{AsmFault}
 use Rattle.pg_asm.specs.declared.fault.AsmFault.TheVariants.{Long, Token, Grammar, Name, Field, Label as LabelFault, Range, Place, Overlap, Memory}
 use Rattle.pg_asm.specs.declared.mark.Mark.{Mark}

@@ -3,7 +3,7 @@ use Rattle.std.specs.Prelude.{ℕ, ◌+◌, ◌/◌, ◌==◌, if◌then◌else�
 use Rattle.std.specs.Fmt.{decimal}
 use Rattle.pg_ast.specs.declared.tree.Desc.{Desc}
 use Rattle.pg_ast.specs.declared.tree.Instr.{Instr}
-use Rattle.pg_meaning.specs.Patterns.{matching_number}
+use Rattle.pg_lang_meaning.specs.Patterns.{matching_number}
 use Rattle.pg_text.specs.Printing.{hex_text}
 use Rattle.pg_image.specs.Lines.{cells_text}
 use Rattle.pg_asm.specs.declared.fields.LetterField.{LetterField}

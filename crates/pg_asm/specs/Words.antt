@@ -2,9 +2,9 @@
 use Rattle.std.specs.Prelude.{◌≡◌, ℕ, ◌+◌, ◌-◌, ◌*◌, ◌^◌, Bool, true, false, not, ◌&&◌, ◌||◌, ◌==◌, nat_lt, if◌then◌else◌, List, [], ◌∷◌, length, drop, map, slice_get, slice_index, Option, None, Some}
 use Rattle.std.specs.Option.{option_map}
 use Rattle.pg_ast.specs.declared.tree.Instr.{Instr}
-use Rattle.pg_meaning.specs.Patterns.{byte_0, byte_1, bit_of_word, matches, run_length, field_value, matching_number}
-use Rattle.pg_meaning.specs.Opcodes.{wanted_bit}
-use Rattle.pg_valid.specs.Overlaps.{is_field_letter}
+use Rattle.pg_lang_meaning.specs.Patterns.{byte_0, byte_1, bit_of_word, matches, run_length, field_value, matching_number}
+use Rattle.pg_lang_meaning.specs.Opcodes.{wanted_bit}
+use Rattle.pg_lang_valid.specs.Overlaps.{is_field_letter}
 use Rattle.pg_asm.specs.declared.fields.LetterField.{LetterField}
 
 -- ---- the fields of a pattern

@@ -13,7 +13,7 @@ use crate::gather::labels_of;
 use crate::place::place_all;
 use crate::scan::foreign_place;
 use pg_image::Image;
-use pg_machine::Machine;
+use pg_mach_ready::Machine;
 use sqlite_items::Items;
 use std::alloc::{AllocError, Global};
 

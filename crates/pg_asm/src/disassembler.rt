@@ -10,7 +10,7 @@ use crate::fields::{LetterField, fields_of, value_in};
 use crate::words::kept_bits;
 use pg_ast::Instr;
 use pg_image::Image;
-use pg_machine::Machine;
+use pg_mach_ready::Machine;
 use pg_text::{dec, hex_word};
 use std::alloc::{AllocError, Global};
 

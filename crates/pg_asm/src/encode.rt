@@ -6,9 +6,9 @@
 
 ghost use Rattle.std.specs.Prelude.{◌≡◌, ◌<◌, ◌≤◌, ◌^◌, length, position, bytes_eq, Some, IfOk, IfSome, IsTrue};
 ghost use Rattle.std.specs.Option.{option_map};
-ghost use Rattle.pg_token.specs.Words.{is_name};
+ghost use Rattle.pg_lang_token.specs.Words.{is_name};
 ghost use Rattle.pg_image.specs.Images.{parts_of};
-ghost use Rattle.pg_valid.specs.Twice.{instr_names};
+ghost use Rattle.pg_lang_valid.specs.Twice.{instr_names};
 ghost use Rattle.pg_asm.specs.Words.{pattern_of};
 ghost use Rattle.pg_asm.specs.Said.{Value, value_said};
 ghost use Rattle.pg_asm.specs.Lines.{operands_in, SaysOperands, IsInstrText};
@@ -21,7 +21,7 @@ use crate::line::InstrText;
 use crate::words::{pattern_of, word_of};
 use arrayvec::ArrayVec;
 use pg_image::split_part;
-use pg_machine::Machine;
+use pg_mach_ready::Machine;
 use pg_text::dec_number;
 
 /// The number that a value stands for; `None` where it is a label that no line gives.

@@ -7,7 +7,7 @@ ghost use Rattle.std.specs.Prelude.{◌≡◌, ◌^◌, ◌<◌, ◌≤◌, [], 
 ghost use Rattle.pg_asm.specs.Words.{begins_field, field_here, fields_of, fit, value_in};
 
 use arrayvec::ArrayVec;
-use pg_meaning::run_length;
+use pg_lang_meaning::run_length;
 
 /// A field of a pattern.
 #[derive(Clone, Copy, Debug, Default, PartialEq, Eq)]

@@ -7,7 +7,7 @@ ghost use Rattle.pg_word.specs.Shape.{IsShape};
 ghost use Rattle.pg_asm.specs.Texts.{cell_shown, asm_text};
 
 use pg_image::{Image, cell_line};
-use pg_machine::Machine;
+use pg_mach_ready::Machine;
 use pg_word::Shape;
 use std::alloc::{AllocError, Global};
 

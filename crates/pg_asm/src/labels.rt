@@ -7,7 +7,7 @@ ghost use Rattle.std.specs.Prelude.{◌≡◌, OnOk};
 ghost use Rattle.pg_asm.specs.Sources.{no_labels, given, mark_of};
 
 use crate::mark::Mark;
-use pg_valid::NameTable;
+use pg_lang_valid::NameTable;
 use std::alloc::{AllocError, Global};
 use std::marker::Model;
 

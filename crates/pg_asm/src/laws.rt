@@ -2,8 +2,8 @@
 
 ghost use Rattle.std.specs.Prelude.{◌≡◌, ℕ, ◌%◌, ◌^◌, ◌<◌, ◌≤◌, List, length, All, true, Some, Ok, slice_get};
 ghost use Rattle.pg_ast.specs.declared.tree.Instr.{Instr as Instrs};
-ghost use Rattle.pg_meaning.specs.Patterns.{matches};
-ghost use Rattle.pg_valid.specs.Valid.{IsValid};
+ghost use Rattle.pg_lang_meaning.specs.Patterns.{matches};
+ghost use Rattle.pg_lang_valid.specs.Valid.{IsValid};
 ghost use Rattle.pg_image.specs.Images.{image_due};
 ghost use Rattle.pg_asm.specs.Words.{IsWordOf, kept_bits, word_by, fields_of, fit, pattern_of, decoded};
 ghost use Rattle.pg_asm.specs.Sources.{most_source_bytes, source_due};

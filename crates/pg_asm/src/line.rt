@@ -11,8 +11,8 @@ ghost use Rattle.pg_asm.specs.Said.{value_said, begins_operand, operand_said, op
 ghost use Rattle.pg_asm.specs.Lines.{IsLineOf};
 
 use pg_image::{content, split_part};
+use pg_lang_token::is_name;
 use pg_text::{dec_number, hex_word_of};
-use pg_token::is_name;
 
 /// An instruction, whose operands are still text.
 #[derive(Drop)]

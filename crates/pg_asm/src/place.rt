@@ -17,7 +17,7 @@ use crate::gather::{FIRST_PLACE, place_behind};
 use crate::labels::LabelTable;
 use crate::line::{Line, line_of};
 use pg_image::split_line;
-use pg_machine::Machine;
+use pg_mach_ready::Machine;
 
 /// What is wrong with a label on line `n`: an earlier line gave it.
 fn label_fault(labels: &LabelTable, n: usize, name: &[u8]) -> Option<AsmFault>

@@ -7,7 +7,7 @@ ghost use Rattle.pg_image.specs.Images.{content, lines_of};
 ghost use Rattle.pg_asm.specs.Sources.{most_source_bytes, may_stand, foreign_place};
 
 use pg_image::{content, is_gap, split_line};
-use pg_token::is_word_byte;
+use pg_lang_token::is_word_byte;
 
 /// What may stand in a line outside its comment.
 fn may_stand(byte: u8) -> bool

@@ -1,13 +1,13 @@
 //! Words of instructions: made of values for the fields, and decoded.
 
 ghost use Rattle.std.specs.Prelude.{◌≡◌, ◌<◌, ◌^◌, ◌*◌, ◌≤◌, length, true, if◌then◌else◌, IfOk};
-ghost use Rattle.pg_meaning.specs.Patterns.{bit_of_word};
-ghost use Rattle.pg_meaning.specs.Opcodes.{wanted_bit};
+ghost use Rattle.pg_lang_meaning.specs.Patterns.{bit_of_word};
+ghost use Rattle.pg_lang_meaning.specs.Opcodes.{wanted_bit};
 ghost use Rattle.pg_asm.specs.Words.{IsWordOf, word_by, counts, kept_bits, fields_of, fit, values_in, pattern_of, decoded};
 
 use crate::fields::{begins_field, fields_of, first_place, value_in};
-use pg_machine::Machine;
-use pg_meaning::run_length;
+use pg_lang_meaning::run_length;
+use pg_mach_ready::Machine;
 use sqlite_items::Items;
 use std::alloc::{AllocError, Global};
 

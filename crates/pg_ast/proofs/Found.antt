@@ -1,7 +1,7 @@
 -- What a constructor's test finds at run time is what the definitions find.
 use Rattle.std.proofs.Common.{◌≡◌, ℕ, Bool, true, false, List, Option, None, Some, IsSome, IfSome, IsTrue, ◌↔◌, sym, refl}
 use Rattle.std.specs.List.{list_all}
-use Rattle.pg_token.specs.Words.{is_name, is_pattern_byte}
+use Rattle.pg_lang_token.specs.Words.{is_name, is_pattern_byte}
 use Rattle.pg_ast.specs.declared.name.Name.{Name as Names}
 use Rattle.pg_ast.specs.declared.name.PatternText.{PatternText}
 use Rattle.pg_ast.specs.Reading.{name_when, name_of, pattern_when, pattern_of}

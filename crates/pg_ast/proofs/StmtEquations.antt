@@ -1,9 +1,9 @@
 -- The equations of the folds over a statement, one for each of its forms.
 use Rattle.std.proofs.Common.{◌≡◌, ℕ, ◌+◌, max, map, List, [], ◌∷◌, ◌++◌, Option, None, Some, codes, ap, sym, ◌∙◌}
 use Rattle.std.specs.Option.{option_map}
-use Rattle.pg_token.specs.declared.tok.Tok.{Tok}
-use Rattle.pg_token.specs.declared.tok.Tok.TheVariants.{Word, Sign}
-use Rattle.pg_token.specs.declared.tok.Sign.TheVariants.{OpenBracket, CloseBracket, Semicolon, Equals}
+use Rattle.pg_lang_token.specs.declared.tok.Tok.{Tok}
+use Rattle.pg_lang_token.specs.declared.tok.Tok.TheVariants.{Word, Sign}
+use Rattle.pg_lang_token.specs.declared.tok.Sign.TheVariants.{OpenBracket, CloseBracket, Semicolon, Equals}
 use Rattle.pg_ast.specs.declared.name.Name.{Name as Names}
 use Rattle.pg_ast.specs.declared.tree.Expr.{Expr}
 use Rattle.pg_ast.specs.declared.tree.Stmt.{Stmt}

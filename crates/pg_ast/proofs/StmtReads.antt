@@ -1,9 +1,9 @@
 -- Reading the tokens of statements gives the statements back.
 use Rattle.std.proofs.Common.{◌≡◌, ℕ, zero, suc, ◌+◌, ◌≤◌, List, [], ◌∷◌, ◌++◌, length, map, Option, None, Some, sym, subst, refl, arith}
 use Rattle.std.proofs.lemmas.List.{append_assoc, length-append}
-use Rattle.pg_token.specs.declared.tok.Tok.{Tok}
-use Rattle.pg_token.specs.declared.tok.Tok.TheVariants.{Sign}
-use Rattle.pg_token.specs.declared.tok.Sign.TheVariants.{CloseBrace}
+use Rattle.pg_lang_token.specs.declared.tok.Tok.{Tok}
+use Rattle.pg_lang_token.specs.declared.tok.Tok.TheVariants.{Sign}
+use Rattle.pg_lang_token.specs.declared.tok.Sign.TheVariants.{CloseBrace}
 use Rattle.pg_ast.specs.declared.name.Name.{Name as Names}
 use Rattle.pg_ast.specs.declared.tree.Expr.{Expr}
 use Rattle.pg_ast.specs.declared.tree.Stmt.{Stmt}

@@ -1,9 +1,9 @@
 -- The tokens of an expression.
 use Rattle.std.specs.Prelude.{List, [], ◌∷◌, ◌++◌, codes}
-use Rattle.pg_token.specs.declared.tok.Tok.{Tok}
-use Rattle.pg_token.specs.declared.tok.Tok.TheVariants.{Word, Number, Sign}
-use Rattle.pg_token.specs.declared.tok.Sign.TheVariants.{OpenParen, CloseParen, OpenBracket, CloseBracket, Comma, Colon, DoubleEquals, Tilde, Plus, Minus, Star, Ampersand, Bar, Caret, LessThan, DoubleLess, DoubleGreater}
-use Rattle.pg_token.specs.declared.tok.Sign.{Sign as Signs}
+use Rattle.pg_lang_token.specs.declared.tok.Tok.{Tok}
+use Rattle.pg_lang_token.specs.declared.tok.Tok.TheVariants.{Word, Number, Sign}
+use Rattle.pg_lang_token.specs.declared.tok.Sign.TheVariants.{OpenParen, CloseParen, OpenBracket, CloseBracket, Comma, Colon, DoubleEquals, Tilde, Plus, Minus, Star, Ampersand, Bar, Caret, LessThan, DoubleLess, DoubleGreater}
+use Rattle.pg_lang_token.specs.declared.tok.Sign.{Sign as Signs}
 use Rattle.pg_ast.specs.declared.tree.Op.{Op}
 use Rattle.pg_ast.specs.declared.tree.Op.TheVariants.{Add, Sub, Mul, And, Or, Xor, Eq, Lt, Shl, Shr}
 use Rattle.pg_ast.specs.declared.tree.Expr.{Expr}

@@ -5,11 +5,11 @@ use Rattle.std.specs.Prelude.{◌≡◌, ℕ, zero, suc, ◌+◌, Bool, true, fa
 use Rattle.std.specs.List.{list_all}
 use Rattle.std.proofs.Common.{refl}
 use Rattle.std.proofs.lemmas.Bool.{leb-true}
-use Rattle.pg_token.specs.Words.{is_name, is_pattern_byte}
-use Rattle.pg_token.specs.declared.tok.Tok.{Tok}
-use Rattle.pg_token.specs.declared.tok.Tok.TheVariants.{Word, Number, Pattern, Sign}
-use Rattle.pg_token.specs.declared.tok.Sign.{Sign as Signs}
-use Rattle.pg_token.specs.declared.tok.Sign.TheVariants.{OpenBrace, CloseBrace, OpenParen, CloseParen, OpenBracket, CloseBracket, Semicolon, Comma, Colon, Equals, DoubleEquals, Tilde, Plus, Minus, Star, Ampersand, Bar, Caret, LessThan, DoubleLess, DoubleGreater}
+use Rattle.pg_lang_token.specs.Words.{is_name, is_pattern_byte}
+use Rattle.pg_lang_token.specs.declared.tok.Tok.{Tok}
+use Rattle.pg_lang_token.specs.declared.tok.Tok.TheVariants.{Word, Number, Pattern, Sign}
+use Rattle.pg_lang_token.specs.declared.tok.Sign.{Sign as Signs}
+use Rattle.pg_lang_token.specs.declared.tok.Sign.TheVariants.{OpenBrace, CloseBrace, OpenParen, CloseParen, OpenBracket, CloseBracket, Semicolon, Comma, Colon, Equals, DoubleEquals, Tilde, Plus, Minus, Star, Ampersand, Bar, Caret, LessThan, DoubleLess, DoubleGreater}
 use Rattle.pg_ast.specs.declared.name.Name.{Name as Names}
 use Rattle.pg_ast.specs.declared.name.PatternText.{PatternText}
 use Rattle.pg_ast.specs.declared.tree.Op.{Op}

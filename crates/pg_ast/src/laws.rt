@@ -7,7 +7,7 @@
 //! and which tokens were read in `proofs/ExprExact`, `StmtExact` and `DescExact`.
 
 ghost use Rattle.std.specs.Prelude.{◌≡◌, ◌↔◌, List, Some};
-ghost use Rattle.pg_token.specs.declared.tok.Tok.{Tok};
+ghost use Rattle.pg_lang_token.specs.declared.tok.Tok.{Tok};
 ghost use Rattle.pg_ast.specs.declared.tree.Desc.{Desc};
 ghost use Rattle.pg_ast.specs.Tokens.{tokens_of};
 ghost use Rattle.pg_ast.specs.Reading.{read_tokens};

@@ -5,9 +5,9 @@
 
 ghost use Rattle.std.specs.Prelude.{◌≡◌, ◌↔◌, IsTrue, IsSome, IfSome};
 ghost use Rattle.std.specs.List.{list_all};
-ghost use Rattle.pg_token.specs.Words.{is_name, is_pattern_byte};
+ghost use Rattle.pg_lang_token.specs.Words.{is_name, is_pattern_byte};
 
-use pg_token::{is_name, is_pattern};
+use pg_lang_token::{is_name, is_pattern};
 use sqlite_items::Items;
 
 /// A name: a letter, then letters, digits and `_`, at most `NAME_BYTES` bytes in all, and no word that

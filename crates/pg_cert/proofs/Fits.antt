@@ -8,7 +8,7 @@ use Rattle.pg_word.specs.Sparse.{address_at, IsCellList, storage_of}
 use Rattle.pg_word.proofs.SparseLemmas.{length-storage_of, listed_holds}
 use Rattle.pg_ast.specs.declared.tree.Desc.{Desc}
 use Rattle.pg_ast.specs.declared.tree.Instr.{Instr}
-use Rattle.pg_meaning.specs.States.{State}
+use Rattle.pg_lang_meaning.specs.States.{State}
 use Rattle.pg_type.specs.declared.kind.Kind.{Kind}
 use Rattle.pg_type.specs.declared.kind.Kind.TheVariants.{Privileged, Control, ModeDep, Location, Bound, UControl, ULocation, UBound}
 use Rattle.pg_type.specs.Kinds.{Shows}

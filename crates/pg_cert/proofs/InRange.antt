@@ -16,11 +16,11 @@ use Rattle.pg_word.specs.Shape.{IsShape}
 use Rattle.pg_word.specs.Psw.{IsPsw}
 use Rattle.pg_word.specs.Sparse.{storage_of}
 use Rattle.pg_word.proofs.SparseLemmas.{length-storage_of}
-use Rattle.pg_token.specs.Words.{is_word, is_reserved}
+use Rattle.pg_lang_token.specs.Words.{is_word, is_reserved}
 use Rattle.pg_ast.specs.declared.tree.Instr.{Instr}
 use Rattle.pg_ast.specs.declared.tree.Desc.{Desc}
-use Rattle.pg_meaning.specs.States.{IsState, shape_of}
-use Rattle.pg_valid.specs.Twice.{instr_names}
+use Rattle.pg_lang_meaning.specs.States.{IsState, shape_of}
+use Rattle.pg_lang_valid.specs.Twice.{instr_names}
 use Rattle.pg_image.specs.Lines.{line_cells, line_words, line_count}
 use Rattle.pg_proof.specs.declared.step.ProofFault.{ProofFault}
 use Rattle.pg_proof.specs.declared.step.ProofFault.TheVariants.{UnknownLit}

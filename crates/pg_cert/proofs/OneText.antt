@@ -15,7 +15,7 @@ use Rattle.pg_word.specs.declared.psw.Psw.{Psw as Psws}
 use Rattle.pg_word.specs.declared.psw.Mode.{Mode}
 use Rattle.pg_word.specs.declared.psw.Mode.TheVariants.{S, U}
 use Rattle.pg_word.specs.Shape.{IsShape}
-use Rattle.pg_token.specs.Words.{is_word, is_letter, is_word_byte, is_digit, most_name_bytes}
+use Rattle.pg_lang_token.specs.Words.{is_word, is_letter, is_word_byte, is_digit, most_name_bytes}
 use Rattle.pg_text.specs.Printing.{hex_text}
 use Rattle.pg_image.specs.Lines.{mode_text, line_cells}
 use Rattle.pg_type.specs.declared.kind.Kind.{Kind}

@@ -8,7 +8,7 @@ use Rattle.std.specs.Str.Parse.{digits_value}
 use Rattle.std.proofs.lemmas.Bool.{and_from, and_parts, leb-true, ltb-true, le-leb, eq-eqb}
 use Rattle.std.proofs.lemmas.Bool.Decides.{nat_tests}
 use Rattle.std.proofs.lemmas.Fmt.{decimal_digit, decimal_by_steps, decimal_nonempty, decimal_is_IsNumeral}
-use Rattle.pg_token.specs.Words.{is_digit}
+use Rattle.pg_lang_token.specs.Words.{is_digit}
 use Rattle.pg_text.specs.Cutting.{dec_number}
 use Rattle.pg_text.specs.Printing.{hex_text, hex_word_of}
 use Rattle.pg_text.proofs.Digits.{limited_is}

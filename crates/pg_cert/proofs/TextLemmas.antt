@@ -8,8 +8,8 @@ use Rattle.pg_word.specs.declared.shape.Shape.{Shape}
 use Rattle.pg_word.specs.declared.sparse.Sparse.{Sparse}
 use Rattle.pg_word.specs.Sparse.{address_at, IsCellList}
 use Rattle.pg_ast.specs.declared.tree.Desc.{Desc}
-use Rattle.pg_meaning.specs.States.{shape_of}
-use Rattle.pg_valid.specs.Twice.{instr_names}
+use Rattle.pg_lang_meaning.specs.States.{shape_of}
+use Rattle.pg_lang_valid.specs.Twice.{instr_names}
 use Rattle.pg_type.specs.declared.kind.Kind.{Kind}
 use Rattle.pg_cert.specs.declared.cert.Family.{Family}
 use Rattle.pg_cert.specs.declared.cert.Finding.{Finding}

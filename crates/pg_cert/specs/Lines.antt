@@ -4,7 +4,7 @@ use Rattle.std.specs.List.{All, list_any, list_all, join_with_byte}
 use Rattle.std.specs.Fmt.{decimal, signed_decimal}
 use Rattle.pg_word.specs.declared.shape.Shape.{Shape}
 use Rattle.pg_word.specs.declared.psw.Psw.{Psw as Psws}
-use Rattle.pg_token.specs.Words.{is_word}
+use Rattle.pg_lang_token.specs.Words.{is_word}
 use Rattle.pg_text.specs.Printing.{hex_text}
 use Rattle.pg_image.specs.Lines.{mode_text, line_cells}
 use Rattle.pg_type.specs.declared.kind.Kind.{Kind}

@@ -3,7 +3,7 @@
 use Rattle.std.specs.Prelude.{◌≡◌, ℕ, Bool, false, not, ◌&&◌, ◌||◌, ◌==◌, nat_le, if◌then◌else◌, ⊤, List, [], ◌∷◌, length, codes, bytes_eq, Option, None, Some, Result, Ok, Err}
 use Rattle.std.specs.List.{list_any, list_all, slice_split}
 use Rattle.pg_word.specs.declared.shape.Shape.{Shape}
-use Rattle.pg_token.specs.Words.{is_digit}
+use Rattle.pg_lang_token.specs.Words.{is_digit}
 use Rattle.pg_cert.specs.declared.cert.Family.{Family}
 use Rattle.pg_cert.specs.declared.cert.Family.TheVariants.{Plain, Hybrid}
 use Rattle.pg_cert.specs.declared.line.Line.{Line}

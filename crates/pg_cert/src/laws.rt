@@ -8,7 +8,7 @@ ghost use Rattle.pg_word.specs.declared.sparse.Sparse.{Sparse};
 ghost use Rattle.pg_word.specs.Sparse.{IsCellList, storage_of};
 ghost use Rattle.pg_ast.specs.declared.tree.Desc.{Desc};
 ghost use Rattle.pg_ast.specs.declared.tree.Instr.{Instr};
-ghost use Rattle.pg_meaning.specs.States.{shape_of};
+ghost use Rattle.pg_lang_meaning.specs.States.{shape_of};
 ghost use Rattle.pg_type.specs.declared.kind.Kind.{Kind};
 ghost use Rattle.pg_type.specs.Kinds.{Shows};
 ghost use Rattle.pg_type.specs.Listed.{state_of};

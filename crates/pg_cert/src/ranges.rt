@@ -8,7 +8,7 @@ ghost use Rattle.pg_cert.specs.Lines.{is_found, ascend, most_variable, most_numb
 
 use crate::line::{Found, Line};
 use pg_image::LINE_CELLS;
-use pg_token::is_word;
+use pg_lang_token::is_word;
 use pg_word::{Psw, Shape};
 
 /// The most steps of an open question.

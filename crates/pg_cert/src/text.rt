@@ -8,7 +8,7 @@ ghost use Rattle.std.specs.List.{All};
 ghost use Rattle.pg_word.specs.Shape.{IsShape};
 ghost use Rattle.pg_word.specs.Sparse.{IsCellList, AreWithin};
 ghost use Rattle.pg_word.specs.declared.shape.Shape.{Shape};
-ghost use Rattle.pg_meaning.specs.States.{shape_of};
+ghost use Rattle.pg_lang_meaning.specs.States.{shape_of};
 ghost use Rattle.pg_cert.specs.declared.line.Line.TheVariants as lines;
 ghost use Rattle.pg_cert.specs.Lines.{line_text};
 ghost use Rattle.pg_cert.specs.Verdicts.{kind_count};

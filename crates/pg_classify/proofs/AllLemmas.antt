@@ -4,8 +4,8 @@ use Rattle.std.specs.Prelude.{slice_get}
 use Rattle.std.proofs.lemmas.Option.{same_Some, slice_get-get_or, slice_get_cases}
 use Rattle.pg_ast.specs.declared.tree.Instr.{Instr}
 use Rattle.pg_ast.specs.declared.tree.Desc.{Desc}
-use Rattle.pg_valid.specs.Valid.{IsValid}
-use Rattle.pg_valid.proofs.ValidFacts.{IsShape-of_valid}
+use Rattle.pg_lang_valid.specs.Valid.{IsValid}
+use Rattle.pg_lang_valid.proofs.ValidFacts.{IsShape-of_valid}
 use Rattle.pg_ask.specs.Question.{question}
 use Rattle.pg_cert.specs.declared.cert.Family.{Family}
 use Rattle.pg_cert.specs.declared.cert.Family.TheVariants.{Plain, Hybrid}

@@ -5,10 +5,10 @@ use Rattle.std.proofs.lemmas.Bool.{cases_Bool, eqb-false}
 use Rattle.std.proofs.lemmas.Nat.{mul-add-lt}
 use Rattle.pg_ast.specs.declared.tree.Instr.{Instr}
 use Rattle.pg_ast.specs.declared.tree.Desc.{Desc}
-use Rattle.pg_valid.specs.declared.fault.Limit.{Limit}
-use Rattle.pg_valid.specs.declared.fault.Limit.TheVariants.{Instructions}
-use Rattle.pg_valid.specs.Limits.{most_instructions, limit_at, at_number, limit_broken, tally_limit, instr_tally}
-use Rattle.pg_valid.specs.Valid.{IsValid, as_limit}
+use Rattle.pg_lang_valid.specs.declared.fault.Limit.{Limit}
+use Rattle.pg_lang_valid.specs.declared.fault.Limit.TheVariants.{Instructions}
+use Rattle.pg_lang_valid.specs.Limits.{most_instructions, limit_at, at_number, limit_broken, tally_limit, instr_tally}
+use Rattle.pg_lang_valid.specs.Valid.{IsValid, as_limit}
 use Rattle.pg_cert.specs.declared.cert.Family.{Family}
 use Rattle.pg_cert.specs.declared.cert.Family.TheVariants.{Plain, Hybrid}
 use Rattle.pg_cert.specs.Verdicts.{kind_count}

@@ -10,7 +10,7 @@ use crate::answers::found;
 use crate::watcher::Watcher;
 use pg_ask::ask;
 use pg_cert::{Cert, Family, Finding, FindingList, instr_of, kind_of};
-use pg_machine::Machine;
+use pg_mach_ready::Machine;
 use pg_sat::{SearchWatcher, Silent};
 use pg_type::Kind;
 use std::alloc::{AllocError, Global};

@@ -1,7 +1,7 @@
 //! The words of the command line, and what is said where one is no text.
 
 use crate::program::Program;
-use pg_host::streams::write_whole;
+use pg_io_host::streams::write_whole;
 use std::alloc::{AllocError, Global};
 use std::io::{ErrorKind, Write};
 use std::rt::Env;

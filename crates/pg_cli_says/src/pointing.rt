@@ -1,7 +1,7 @@
 //! Where a refused file is at fault.
 
 use crate::held::LastRead;
-use pg_pointing::{Held, point_out, three_lines};
+use pg_out_faults::{Held, point_out, three_lines};
 use pg_report::RefusalLine;
 use std::alloc::{AllocError, Global};
 

@@ -4,7 +4,7 @@
 //! text stands behind it. Nothing is said of what reaches the terminal; `Progress` says it of its writer.
 
 use arrayvec::ArrayVec;
-use pg_host::Progress;
+use pg_io_host::Progress;
 use std::cell::RefCell;
 use std::io;
 use std::io::{ErrorKind, Write};

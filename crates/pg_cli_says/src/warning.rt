@@ -5,9 +5,9 @@
 
 use crate::named::Named;
 use crate::program::Program;
-use pg_host::streams::read_within;
-use pg_host::telling::{tell, tell_refused};
-use pg_host::{Cause, Deed, Refused};
+use pg_io_host::streams::read_within;
+use pg_io_host::telling::{tell, tell_refused};
+use pg_io_host::{Cause, Deed, Refused};
 use std::alloc::Global;
 use std::fs::{Metadata, OpenOptions};
 use std::io::{ErrorKind, Write};

@@ -1,9 +1,9 @@
 //! Why the program ends so, on standard error.
 
 use crate::program::Program;
-use pg_host::telling::{tell, tell_refused};
-use pg_host::{Cause, Deed, Refused};
-use pg_steps::Status;
+use pg_cmd_base::Status;
+use pg_io_host::telling::{tell, tell_refused};
+use pg_io_host::{Cause, Deed, Refused};
 use std::io::{ErrorKind, Write};
 
 /// Writes why the program ends so, where it is because of a file, of memory, or of standard output, whose last error is given if

@@ -11,10 +11,10 @@ use Rattle.pg_word.specs.declared.cause.Cause.TheVariants.{Memory, NoPattern}
 use Rattle.pg_word.specs.Psw.{cause_number, packed_trap, unpacked}
 use Rattle.pg_ast.specs.declared.tree.Instr.{Instr}
 use Rattle.pg_ast.specs.declared.tree.Desc.{Desc}
-use Rattle.pg_meaning.specs.Patterns.{matching}
-use Rattle.pg_meaning.specs.States.{State, shape_of, window, window_length}
-use Rattle.pg_meaning.specs.Steps.{Ending, ByMemTrap, ByNoPattern, ending, left_by, trapped, step, ends_in_trap}
-use Rattle.pg_valid.proofs.StepSound.{window-length}
+use Rattle.pg_lang_meaning.specs.Patterns.{matching}
+use Rattle.pg_lang_meaning.specs.States.{State, shape_of, window, window_length}
+use Rattle.pg_lang_meaning.specs.Steps.{Ending, ByMemTrap, ByNoPattern, ending, left_by, trapped, step, ends_in_trap}
+use Rattle.pg_lang_valid.proofs.StepSound.{window-length}
 use Rattle.pg_hw.specs.Bursts.{traps}
 use Rattle.pg_hw.specs.Idling.{cause_where}
 

@@ -3,10 +3,10 @@ use Rattle.std.proofs.Common.{◌≡◌, ℕ, ◌-◌, ◌<◌, ◌≤◌, ◌^�
 use Rattle.pg_word.specs.declared.psw.Psw.{Psw}
 use Rattle.pg_word.specs.Psw.{IsPsw, power_on_psw}
 use Rattle.pg_ast.specs.declared.tree.Desc.{Desc}
-use Rattle.pg_meaning.specs.States.{State, IsState}
-use Rattle.pg_meaning.specs.Steps.{power_on}
-use Rattle.pg_valid.specs.Valid.{IsValid}
-use Rattle.pg_valid.proofs.StepSound.{power_on-state}
+use Rattle.pg_lang_meaning.specs.States.{State, IsState}
+use Rattle.pg_lang_meaning.specs.Steps.{power_on}
+use Rattle.pg_lang_valid.specs.Valid.{IsValid}
+use Rattle.pg_lang_valid.proofs.StepSound.{power_on-state}
 use Rattle.pg_hw.specs.Serving.{IsServed, IsServedWord, IsServedPsw, blank}
 
 pub IsServedWord-of : (serves : Desc → Type 0) (d : Desc) (word : ℕ) → IsServed serves d → word < 2 ^ d.word → IsServedWord serves word

@@ -10,7 +10,7 @@
 //! refused.
 
 use super::counts::Counts;
-use pg_machine::Machine;
+use pg_mach_ready::Machine;
 use pg_word::Psw;
 use std::alloc::AllocError;
 
@@ -21,8 +21,8 @@ use std::alloc::AllocError;
 pub trait Hardware {
     ghost use Rattle.std.specs.Prelude.{◌≡◌, ℕ, ◌≤◌, ◌<◌, length, slice_get, OnOk, OnErr};
     ghost use Rattle.pg_ast.specs.declared.tree.Desc.{Desc};
-    ghost use Rattle.pg_meaning.specs.States.{IsState};
-    ghost use Rattle.pg_meaning.specs.Steps.{step as stepped, steps as stepped_often};
+    ghost use Rattle.pg_lang_meaning.specs.States.{IsState};
+    ghost use Rattle.pg_lang_meaning.specs.Steps.{step as stepped, steps as stepped_often};
     ghost use Rattle.pg_hw.specs.Tallies.{after_steps};
     ghost use Rattle.pg_hw.specs.Machinery.{Machinery, poked_at, loaded_with};
     ghost use Rattle.pg_hw.specs.Bursts.{untrapped_at, untrapped_among, burst_length, BottomRises};

@@ -8,7 +8,7 @@ ghost use Rattle.pg_hw.specs.Idling.{cause_where};
 
 use super::memory::{BurstEnd, Memory, Works};
 use super::parts::trap;
-use pg_machine::Machine;
+use pg_mach_ready::Machine;
 use pg_word::{Cause, Psw, window_len};
 
 /// The steps of machines without instructions.

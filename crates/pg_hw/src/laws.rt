@@ -2,8 +2,8 @@
 
 ghost use Rattle.std.specs.Prelude.{◌≡◌, ℕ, suc, ◌+◌, ◌-◌, ◌^◌, ◌<◌, ◌≤◌, true, false};
 ghost use Rattle.pg_ast.specs.declared.tree.Desc.{Desc};
-ghost use Rattle.pg_meaning.specs.States.{State};
-ghost use Rattle.pg_meaning.specs.Steps.{steps};
+ghost use Rattle.pg_lang_meaning.specs.States.{State};
+ghost use Rattle.pg_lang_meaning.specs.Steps.{steps};
 ghost use Rattle.pg_hw.specs.Tallies.{raised_by};
 ghost use Rattle.pg_hw.specs.Bursts.{traps, burst_length, untrapped_among};
 

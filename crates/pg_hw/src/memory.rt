@@ -12,8 +12,8 @@
 
 ghost use Rattle.std.specs.Prelude.{◌≡◌, ◌^◌, ◌<◌, [], vec_len};
 ghost use Rattle.pg_word.specs.Psw.{power_on_psw};
-ghost use Rattle.pg_meaning.specs.States.{IsState};
-ghost use Rattle.pg_meaning.specs.Steps.{steps};
+ghost use Rattle.pg_lang_meaning.specs.States.{IsState};
+ghost use Rattle.pg_lang_meaning.specs.Steps.{steps};
 ghost use Rattle.pg_hw.specs.Tallies.{no_counts};
 ghost use Rattle.pg_hw.specs.Machinery.{at_psw};
 ghost use Rattle.pg_hw.specs.Bursts.{burst_length};
@@ -25,7 +25,7 @@ use super::counts::Counts;
 use super::hardware::Hardware;
 use super::parts::raised;
 use super::settling::{Settled, Settling};
-use pg_machine::Machine;
+use pg_mach_ready::Machine;
 use pg_word::Psw;
 use std::alloc::{AllocError, Global};
 
@@ -47,8 +47,8 @@ pub struct BurstEnd {
 pub trait Works {
     ghost use Rattle.std.specs.Prelude.{◌≡◌};
     ghost use Rattle.pg_ast.specs.declared.tree.Desc.{Desc};
-    ghost use Rattle.pg_meaning.specs.States.{IsState};
-    ghost use Rattle.pg_meaning.specs.Steps.{steps as stepped_often};
+    ghost use Rattle.pg_lang_meaning.specs.States.{IsState};
+    ghost use Rattle.pg_lang_meaning.specs.Steps.{steps as stepped_often};
     ghost use Rattle.pg_hw.specs.Bursts.{burst_length, untrapped_among};
     ghost use Rattle.pg_hw.specs.Machinery.{at_psw};
     ghost use Rattle.pg_hw.specs.Serving.{IsServed};

@@ -5,14 +5,14 @@
 
 ghost use Rattle.std.specs.Prelude.{◌≡◌, length, All};
 ghost use Rattle.pg_word.specs.Psw.{power_on_psw};
-ghost use Rattle.pg_meaning.specs.States.{IsState};
-ghost use Rattle.pg_meaning.specs.Steps.{power_on};
+ghost use Rattle.pg_lang_meaning.specs.States.{IsState};
+ghost use Rattle.pg_lang_meaning.specs.Steps.{power_on};
 ghost use Rattle.pg_hw.specs.Tallies.{after_load};
 ghost use Rattle.pg_hw.specs.Serving.{IsServed, IsServedWord, IsServedPsw};
 ghost use Rattle.pg_hw.specs.Running.{after_pokes, Ran, Poked};
 
 use crate::hardware::Hardware;
-use pg_machine::Machine;
+use pg_mach_ready::Machine;
 use pg_word::Psw;
 
 /// Switches a hardware on with an image of its size: every cell is poked, and the program status word is loaded.

@@ -5,7 +5,7 @@
 //! hardware need not do them, and whoever runs on it may want to know.
 
 use super::hardware::Hardware;
-use pg_machine::Machine;
+use pg_mach_ready::Machine;
 
 /// What a burst was.
 #[derive(Clone, Copy, Debug, PartialEq, Eq)]
@@ -19,8 +19,8 @@ pub struct Settled {
 /// A hardware that tells of a burst whether its state came to stay.
 pub trait Settling: Hardware {
     ghost use Rattle.std.specs.Prelude.{◌≡◌};
-    ghost use Rattle.pg_meaning.specs.States.{IsState};
-    ghost use Rattle.pg_meaning.specs.Steps.{steps as stepped_often};
+    ghost use Rattle.pg_lang_meaning.specs.States.{IsState};
+    ghost use Rattle.pg_lang_meaning.specs.Steps.{steps as stepped_often};
     ghost use Rattle.pg_hw.specs.Tallies.{after_steps};
     ghost use Rattle.pg_hw.specs.Bursts.{untrapped_among, burst_length, BottomRises};
     ghost use Rattle.pg_hw.specs.Serving.{IsServed};

@@ -7,19 +7,19 @@ use Rattle.pg_word.specs.declared.psw.Mode.{Mode}
 use Rattle.pg_word.specs.declared.psw.Mode.TheVariants.{S, U}
 use Rattle.pg_word.specs.Psw.{power_on_psw}
 use Rattle.pg_ast.specs.declared.tree.Desc.{Desc}
-use Rattle.pg_meaning.specs.States.{State}
-use Rattle.pg_meaning.specs.Steps.{step, steps}
-use Rattle.pg_meaning.proofs.StepLaws.{steps-add}
+use Rattle.pg_lang_meaning.specs.States.{State}
+use Rattle.pg_lang_meaning.specs.Steps.{step, steps}
+use Rattle.pg_lang_meaning.proofs.StepLaws.{steps-add}
 use Rattle.pg_hw.specs.Bursts.{is_user}
 use Rattle.pg_hw.specs.Tallies.{raised_by}
 use Rattle.pg_hw.proofs.TallyLaws.{raised_by-zero, raised_by-add}
 use Rattle.pg_routine.specs.Composing.{composed}
-use Rattle.pg_control.specs.declared.guest.Guest.{Guest}
-use Rattle.pg_control.specs.Guests.{grants_of}
-use Rattle.pg_control.specs.Current.{is_current, change_to}
-use Rattle.pg_control.specs.Direct.{is_direct}
-use Rattle.pg_control.specs.Plans.{moved, after_plan}
-use Rattle.pg_control.specs.Traps.{trap_word}
+use Rattle.pg_mon_control.specs.declared.guest.Guest.{Guest}
+use Rattle.pg_mon_control.specs.Guests.{grants_of}
+use Rattle.pg_mon_control.specs.Current.{is_current, change_to}
+use Rattle.pg_mon_control.specs.Direct.{is_direct}
+use Rattle.pg_mon_control.specs.Plans.{moved, after_plan}
+use Rattle.pg_mon_control.specs.Traps.{trap_word}
 use Rattle.pg_hybrid.specs.Leaving.{without, Left, left_by, left_among, left_turns, left_behind}
 
 -- ---- one turn, by the mode in which it begins and by whether it is direct

@@ -3,18 +3,18 @@ use Rattle.std.proofs.Common.{◌≡◌, ℕ, suc, ◌+◌, ◌/◌, ◌%◌, �
 use Rattle.std.specs.Option.{option_map}
 use Rattle.std.proofs.lemmas.List.{length-map, take_more, take_all}
 use Rattle.pg_ast.specs.declared.tree.Desc.{Desc}
-use Rattle.pg_meaning.specs.States.{State}
-use Rattle.pg_meaning.specs.Steps.{steps}
+use Rattle.pg_lang_meaning.specs.States.{State}
+use Rattle.pg_lang_meaning.specs.Steps.{steps}
 use Rattle.pg_hw.specs.Machinery.{Machinery}
-use Rattle.pg_control.specs.declared.guest.Guest.{Guest}
-use Rattle.pg_control.specs.Guests.{virtual, virtuals, grants_of}
-use Rattle.pg_control.specs.Counting.{BottomTurns}
-use Rattle.pg_control.specs.Plans.{moved, after_plan, turns_of, turns_for, count_turns}
-use Rattle.pg_control.specs.Schedules.{round_of, rounds_of, schedule}
-use Rattle.pg_control.proofs.CountLemmas.{BottomTurns-none, BottomTurns-add}
-use Rattle.pg_control.proofs.GuestLemmas.{All-at, virtuals-at}
-use Rattle.pg_control.proofs.PlanLemmas.{after_plan-at, after_plan-append, turns_of-append, count_of-append, count_of-grants, count_of-most, grants-outside, outside_of}
-use Rattle.pg_control.proofs.ScheduleLemmas.{after_plan-schedule, round_of-more, rounds_of-more}
+use Rattle.pg_mon_control.specs.declared.guest.Guest.{Guest}
+use Rattle.pg_mon_control.specs.Guests.{virtual, virtuals, grants_of}
+use Rattle.pg_mon_control.specs.Counting.{BottomTurns}
+use Rattle.pg_mon_control.specs.Plans.{moved, after_plan, turns_of, turns_for, count_turns}
+use Rattle.pg_mon_control.specs.Schedules.{round_of, rounds_of, schedule}
+use Rattle.pg_mon_control.proofs.CountLemmas.{BottomTurns-none, BottomTurns-add}
+use Rattle.pg_mon_control.proofs.GuestLemmas.{All-at, virtuals-at}
+use Rattle.pg_mon_control.proofs.PlanLemmas.{after_plan-at, after_plan-append, turns_of-append, count_of-append, count_of-grants, count_of-most, grants-outside, outside_of}
+use Rattle.pg_mon_control.proofs.ScheduleLemmas.{after_plan-schedule, round_of-more, rounds_of-more}
 use Rattle.pg_hybrid.specs.UserTurns.{user_among, hybrid_among}
 use Rattle.pg_hybrid.specs.Leaving.{left_of, left_turns, left_behind}
 use Rattle.pg_hybrid.specs.Turns.{CountsHybrid, HybridTurned}

@@ -6,9 +6,9 @@ use Rattle.pg_word.specs.declared.psw.Mode.TheVariants.{U}
 use Rattle.pg_word.specs.declared.psw.Psw.{Psw}
 use Rattle.pg_word.specs.Psw.{power_on_psw}
 use Rattle.pg_ast.specs.declared.tree.Desc.{Desc}
-use Rattle.pg_meaning.specs.States.{State}
-use Rattle.pg_meaning.specs.Steps.{step, steps}
-use Rattle.pg_valid.specs.Valid.{IsValid}
+use Rattle.pg_lang_meaning.specs.States.{State}
+use Rattle.pg_lang_meaning.specs.Steps.{step, steps}
+use Rattle.pg_lang_valid.specs.Valid.{IsValid}
 use Rattle.pg_type.specs.Accepting.{IsHybridAccepted}
 use Rattle.pg_hw.specs.declared.counts.Counts.{Counts}
 use Rattle.pg_hw.specs.Tallies.{Bottom, raised_by}
@@ -17,17 +17,17 @@ use Rattle.pg_hw.specs.Bursts.{untrapped_among, supervisor_among}
 use Rattle.pg_hw.specs.Running.{Ran}
 use Rattle.pg_routine.specs.Composing.{composed}
 use Rattle.pg_routine.specs.Granting.{GrantPoked, with_grant}
-use Rattle.pg_control.specs.declared.guest.Guest.{Guest}
-use Rattle.pg_control.specs.Guests.{virtual}
-use Rattle.pg_control.specs.Direct.{is_direct, direct_among}
-use Rattle.pg_control.specs.Current.{Holds, Runs, with_psw}
-use Rattle.pg_control.specs.Traps.{trap_word}
-use Rattle.pg_control.specs.Advancing.{Advanced}
-use Rattle.pg_control.proofs.AdvanceLemmas.{Advanced-then, Advanced-direct, Advanced-halted, Advanced-interpreted}
-use Rattle.pg_control.proofs.BurstLemmas.{Halted, Stopped, StopCounts, StopCounts-of}
-use Rattle.pg_control.proofs.CellLemmas.{with_grant-before}
-use Rattle.pg_control.proofs.DirectLemmas.{Holds-within, IsAlikeIn, TrapStep-of, user-alike}
-use Rattle.pg_control.proofs.RunLemmas.{Directly}
+use Rattle.pg_mon_control.specs.declared.guest.Guest.{Guest}
+use Rattle.pg_mon_control.specs.Guests.{virtual}
+use Rattle.pg_mon_control.specs.Direct.{is_direct, direct_among}
+use Rattle.pg_mon_control.specs.Current.{Holds, Runs, with_psw}
+use Rattle.pg_mon_control.specs.Traps.{trap_word}
+use Rattle.pg_mon_control.specs.Advancing.{Advanced}
+use Rattle.pg_mon_control.proofs.AdvanceLemmas.{Advanced-then, Advanced-direct, Advanced-halted, Advanced-interpreted}
+use Rattle.pg_mon_control.proofs.BurstLemmas.{Halted, Stopped, StopCounts, StopCounts-of}
+use Rattle.pg_mon_control.proofs.CellLemmas.{with_grant-before}
+use Rattle.pg_mon_control.proofs.DirectLemmas.{Holds-within, IsAlikeIn, TrapStep-of, user-alike}
+use Rattle.pg_mon_control.proofs.RunLemmas.{Directly}
 use Rattle.pg_hybrid.specs.UserTurns.{user_among, hybrid_among}
 use Rattle.pg_hybrid.specs.Leaving.{left_of, left_by, left_among}
 use Rattle.pg_hybrid.specs.Current.{Interpreted, Stepped}

@@ -3,20 +3,20 @@ use Rattle.std.proofs.Common.{◌≡◌, ℕ, suc, ◌+◌, ◌&&◌, Bool, true
 use Rattle.std.specs.Bool.{then_some}
 use Rattle.pg_word.specs.declared.psw.Mode.TheVariants.{S, U}
 use Rattle.pg_word.specs.Psw.{power_on_psw}
-use Rattle.pg_meaning.specs.Patterns.{matches, matching, run_length, field_of_letter}
-use Rattle.pg_meaning.specs.Values.{let_value}
-use Rattle.pg_meaning.specs.Bodies.{body, in_order}
-use Rattle.pg_meaning.specs.States.{State}
-use Rattle.pg_meaning.specs.Steps.{step, steps, ending}
-use Rattle.pg_meaning.proofs.ValueEquations.{value_rules}
-use Rattle.pg_meaning.proofs.DeedEquations.{deed_rules}
+use Rattle.pg_lang_meaning.specs.Patterns.{matches, matching, run_length, field_of_letter}
+use Rattle.pg_lang_meaning.specs.Values.{let_value}
+use Rattle.pg_lang_meaning.specs.Bodies.{body, in_order}
+use Rattle.pg_lang_meaning.specs.States.{State}
+use Rattle.pg_lang_meaning.specs.Steps.{step, steps, ending}
+use Rattle.pg_lang_meaning.proofs.ValueEquations.{value_rules}
+use Rattle.pg_lang_meaning.proofs.DeedEquations.{deed_rules}
 use Rattle.pg_hw.specs.Bursts.{is_user, one_if}
 use Rattle.pg_hw.specs.Tallies.{raised_by}
 use Rattle.pg_routine.specs.Composing.{composed}
-use Rattle.pg_control.specs.Current.{change_to}
-use Rattle.pg_control.specs.Direct.{is_direct, direct_among}
-use Rattle.pg_control.specs.Traps.{trap_word}
-use Rattle.pg_control.proofs.BurstLemmas.{steps-once}
+use Rattle.pg_mon_control.specs.Current.{change_to}
+use Rattle.pg_mon_control.specs.Direct.{is_direct, direct_among}
+use Rattle.pg_mon_control.specs.Traps.{trap_word}
+use Rattle.pg_mon_control.proofs.BurstLemmas.{steps-once}
 use Rattle.pg_hybrid.specs.UserTurns.{user_among, hybrid_among}
 use Rattle.pg_hybrid.specs.Leaving.{Left, loads_at, current_behind, left_by, left_among}
 use Rattle.pg_hybrid.proofs.LeavingLemmas.{of_four, by_mode, left-trapped, left_among-none, left_among-next}

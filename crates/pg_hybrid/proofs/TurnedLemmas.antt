@@ -8,29 +8,29 @@ use Rattle.std.proofs.lemmas.Option.{slice_get-map, slice_get-get_or, slice_get_
 use Rattle.pg_word.specs.declared.psw.Mode.{Mode}
 use Rattle.pg_word.specs.declared.psw.Mode.TheVariants.{S, U}
 use Rattle.pg_ast.specs.declared.tree.Desc.{Desc}
-use Rattle.pg_meaning.specs.States.{State}
-use Rattle.pg_meaning.specs.Steps.{step, steps}
-use Rattle.pg_meaning.proofs.StepLaws.{steps-add}
-use Rattle.pg_valid.specs.Valid.{IsValid}
+use Rattle.pg_lang_meaning.specs.States.{State}
+use Rattle.pg_lang_meaning.specs.Steps.{step, steps}
+use Rattle.pg_lang_meaning.proofs.StepLaws.{steps-add}
+use Rattle.pg_lang_valid.specs.Valid.{IsValid}
 use Rattle.pg_hw.specs.declared.counts.Counts.{Counts}
 use Rattle.pg_hw.specs.Bursts.{is_user}
 use Rattle.pg_hw.specs.Tallies.{Bottom, raised_by}
 use Rattle.pg_hw.specs.Machinery.{Machinery}
 use Rattle.pg_hw.proofs.TallyLaws.{raised_by-zero, RisesWithin-none}
 use Rattle.pg_routine.specs.Composing.{composed}
-use Rattle.pg_control.specs.declared.guest.Guest.{Guest}
-use Rattle.pg_control.specs.Guests.{virtual, virtuals, grants_of}
-use Rattle.pg_control.specs.Direct.{is_direct}
-use Rattle.pg_control.specs.Standing.{IsUnder, Stands}
-use Rattle.pg_control.specs.Plans.{moved}
-use Rattle.pg_control.specs.Counting.{BottomTurns}
-use Rattle.pg_control.specs.Current.{Runs, is_current, change_to, with_psw}
-use Rattle.pg_control.specs.Advancing.{Advanced}
-use Rattle.pg_control.proofs.AdvanceLemmas.{Advanced-from, Moved-of, Stands-advanced, under-own}
-use Rattle.pg_control.proofs.BurstLemmas.{steps-once}
-use Rattle.pg_control.proofs.CountLemmas.{BottomTurns-none, BottomTurns-add}
-use Rattle.pg_control.proofs.GuestLemmas.{moved-none, virtuals-at, slice_get-set}
-use Rattle.pg_control.proofs.PlanLemmas.{moved-own}
+use Rattle.pg_mon_control.specs.declared.guest.Guest.{Guest}
+use Rattle.pg_mon_control.specs.Guests.{virtual, virtuals, grants_of}
+use Rattle.pg_mon_control.specs.Direct.{is_direct}
+use Rattle.pg_mon_control.specs.Standing.{IsUnder, Stands}
+use Rattle.pg_mon_control.specs.Plans.{moved}
+use Rattle.pg_mon_control.specs.Counting.{BottomTurns}
+use Rattle.pg_mon_control.specs.Current.{Runs, is_current, change_to, with_psw}
+use Rattle.pg_mon_control.specs.Advancing.{Advanced}
+use Rattle.pg_mon_control.proofs.AdvanceLemmas.{Advanced-from, Moved-of, Stands-advanced, under-own}
+use Rattle.pg_mon_control.proofs.BurstLemmas.{steps-once}
+use Rattle.pg_mon_control.proofs.CountLemmas.{BottomTurns-none, BottomTurns-add}
+use Rattle.pg_mon_control.proofs.GuestLemmas.{moved-none, virtuals-at, slice_get-set}
+use Rattle.pg_mon_control.proofs.PlanLemmas.{moved-own}
 use Rattle.pg_hybrid.specs.UserTurns.{user_among, hybrid_among}
 use Rattle.pg_hybrid.specs.Leaving.{loads_at, without, current_behind, left_of, left_among}
 use Rattle.pg_hybrid.specs.Turns.{CountsHybrid, HybridTurned}

@@ -4,20 +4,20 @@ use Rattle.pg_word.specs.declared.psw.Psw.{Psw}
 use Rattle.pg_word.specs.declared.psw.Mode.{Mode}
 use Rattle.pg_word.specs.declared.psw.Mode.TheVariants.{S, U}
 use Rattle.pg_ast.specs.declared.tree.Desc.{Desc}
-use Rattle.pg_meaning.specs.States.{State}
-use Rattle.pg_meaning.specs.Steps.{step, steps}
-use Rattle.pg_meaning.proofs.StepLaws.{steps-add}
-use Rattle.pg_valid.specs.Valid.{IsValid}
+use Rattle.pg_lang_meaning.specs.States.{State}
+use Rattle.pg_lang_meaning.specs.Steps.{step, steps}
+use Rattle.pg_lang_meaning.proofs.StepLaws.{steps-add}
+use Rattle.pg_lang_valid.specs.Valid.{IsValid}
 use Rattle.pg_hw.specs.Bursts.{traps, is_user, one_if, untrapped_at, untrapped_among}
 use Rattle.pg_hw.proofs.BurstLaws.{one_if-most, untrapped_among-most}
 use Rattle.pg_routine.specs.Composing.{composed}
-use Rattle.pg_control.specs.declared.guest.Guest.{Guest}
-use Rattle.pg_control.specs.Guests.{virtual}
-use Rattle.pg_control.specs.Direct.{is_direct, direct_among}
-use Rattle.pg_control.specs.Current.{Runs, with_psw}
-use Rattle.pg_control.proofs.DirectLemmas.{IsAlikeIn, Runs-direct}
-use Rattle.pg_control.proofs.PlanLemmas.{AddsUp}
-use Rattle.pg_control.proofs.RunLemmas.{Directly, Directly-none, Directly-next}
+use Rattle.pg_mon_control.specs.declared.guest.Guest.{Guest}
+use Rattle.pg_mon_control.specs.Guests.{virtual}
+use Rattle.pg_mon_control.specs.Direct.{is_direct, direct_among}
+use Rattle.pg_mon_control.specs.Current.{Runs, with_psw}
+use Rattle.pg_mon_control.proofs.DirectLemmas.{IsAlikeIn, Runs-direct}
+use Rattle.pg_mon_control.proofs.PlanLemmas.{AddsUp}
+use Rattle.pg_mon_control.proofs.RunLemmas.{Directly, Directly-none, Directly-next}
 use Rattle.pg_hybrid.specs.UserTurns.{user_among, hybrid_among}
 use Rattle.pg_hybrid.specs.Leaving.{Left, left_by, left_among}
 use Rattle.pg_hybrid.proofs.LeavingLemmas.{of_four, left-direct, left_among-none, left_among-next}

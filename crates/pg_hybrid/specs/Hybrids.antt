@@ -1,9 +1,9 @@
 -- What contracts see of a hybrid monitor.
 use Rattle.std.specs.Prelude.{◌≡◌, ℕ, Option}
 use Rattle.pg_ast.specs.declared.tree.Desc.{Desc}
-use Rattle.pg_meaning.specs.States.{State}
+use Rattle.pg_lang_meaning.specs.States.{State}
 use Rattle.pg_hw.specs.Machinery.{Machinery}
-use Rattle.pg_control.specs.Admitting.{Kept, place_for, StateTaken}
+use Rattle.pg_mon_control.specs.Admitting.{Kept, place_for, StateTaken}
 use Rattle.pg_hybrid.specs.declared.hybrid.Hybrid.{Hybrid}
 
 -- the machine that its hardware is, and each of its guests believes to have

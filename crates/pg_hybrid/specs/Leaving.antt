@@ -5,17 +5,17 @@ use Rattle.std.specs.Bool.{then_some}
 use Rattle.pg_word.specs.declared.psw.Psw.{Psw}
 use Rattle.pg_word.specs.Psw.{old_psw_cell, power_on_psw}
 use Rattle.pg_ast.specs.declared.tree.Desc.{Desc}
-use Rattle.pg_meaning.specs.States.{State}
-use Rattle.pg_meaning.specs.Steps.{step, steps}
+use Rattle.pg_lang_meaning.specs.States.{State}
+use Rattle.pg_lang_meaning.specs.Steps.{step, steps}
 use Rattle.pg_hw.specs.Bursts.{is_user}
 use Rattle.pg_hw.specs.Tallies.{raised_by}
 use Rattle.pg_hw.specs.Machinery.{Machinery}
 use Rattle.pg_routine.specs.Composing.{composed}
-use Rattle.pg_control.specs.declared.guest.Guest.{Guest}
-use Rattle.pg_control.specs.Current.{is_current, change_to}
-use Rattle.pg_control.specs.Direct.{is_direct}
-use Rattle.pg_control.specs.Plans.{moved}
-use Rattle.pg_control.specs.Traps.{trap_word}
+use Rattle.pg_mon_control.specs.declared.guest.Guest.{Guest}
+use Rattle.pg_mon_control.specs.Current.{is_current, change_to}
+use Rattle.pg_mon_control.specs.Direct.{is_direct}
+use Rattle.pg_mon_control.specs.Plans.{moved}
+use Rattle.pg_mon_control.specs.Traps.{trap_word}
 
 -- ---- one turn of guest k, whose grant has this base, from a state
 

@@ -1,12 +1,12 @@
 -- What turns by a plan leave of a hybrid monitor's guests and its hardware.
 use Rattle.std.specs.Prelude.{◌≡◌, ℕ, ◌≤◌, List, Option, slice_get}
 use Rattle.pg_ast.specs.declared.tree.Desc.{Desc}
-use Rattle.pg_meaning.specs.States.{State}
+use Rattle.pg_lang_meaning.specs.States.{State}
 use Rattle.pg_hw.specs.Machinery.{Machinery}
-use Rattle.pg_control.specs.declared.guest.Guest.{Guest}
-use Rattle.pg_control.specs.Guests.{virtuals, grants_of}
-use Rattle.pg_control.specs.Counting.{BottomTurns}
-use Rattle.pg_control.specs.Plans.{after_plan, turns_of, Count, count_of, IsOutside}
+use Rattle.pg_mon_control.specs.declared.guest.Guest.{Guest}
+use Rattle.pg_mon_control.specs.Guests.{virtuals, grants_of}
+use Rattle.pg_mon_control.specs.Counting.{BottomTurns}
+use Rattle.pg_mon_control.specs.Plans.{after_plan, turns_of, Count, count_of, IsOutside}
 use Rattle.pg_hybrid.specs.UserTurns.{user_among, hybrid_among}
 use Rattle.pg_hybrid.specs.Turns.{CountsHybrid}
 use Rattle.pg_hybrid.specs.Leaving.{left_of, left_behind}

@@ -1,10 +1,10 @@
 -- Turns by the mode in which they begin: one from user mode is a step of the hardware, one from supervisor mode is interpreted.
 use Rattle.std.specs.Prelude.{ℕ, zero, suc, ◌+◌, ◌&&◌}
 use Rattle.pg_ast.specs.declared.tree.Desc.{Desc}
-use Rattle.pg_meaning.specs.States.{State}
-use Rattle.pg_meaning.specs.Steps.{steps}
+use Rattle.pg_lang_meaning.specs.States.{State}
+use Rattle.pg_lang_meaning.specs.Steps.{steps}
 use Rattle.pg_hw.specs.Bursts.{is_user, one_if}
-use Rattle.pg_control.specs.Direct.{is_direct}
+use Rattle.pg_mon_control.specs.Direct.{is_direct}
 
 -- how many of the first n steps from a state begin in user mode
 unfoldable pub user_among : Desc → ℕ → State → ℕ

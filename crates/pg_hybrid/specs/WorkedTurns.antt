@@ -4,12 +4,12 @@ use Rattle.pg_word.specs.declared.psw.Mode.{Mode}
 use Rattle.pg_word.specs.declared.psw.Mode.TheVariants.{S, U}
 use Rattle.pg_word.specs.Psw.{power_on_psw}
 use Rattle.pg_ast.specs.declared.tree.Desc.{Desc}
-use Rattle.pg_meaning.specs.States.{State}
-use Rattle.pg_meaning.specs.Steps.{steps}
+use Rattle.pg_lang_meaning.specs.States.{State}
+use Rattle.pg_lang_meaning.specs.Steps.{steps}
 use Rattle.pg_type.specs.Examples.{machine, state, add, jmp, svc, lr, rtu}
-use Rattle.pg_control.specs.declared.guest.Guest.{Guest}
-use Rattle.pg_control.specs.Guests.{guest_in}
-use Rattle.pg_control.specs.Direct.{direct_among}
+use Rattle.pg_mon_control.specs.declared.guest.Guest.{Guest}
+use Rattle.pg_mon_control.specs.Guests.{guest_in}
+use Rattle.pg_mon_control.specs.Direct.{direct_among}
 use Rattle.pg_hybrid.specs.UserTurns.{user_among, hybrid_among}
 use Rattle.pg_hybrid.specs.Leaving.{Left, loads_at, current_behind, left_among, left_behind}
 

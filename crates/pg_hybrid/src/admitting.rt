@@ -1,15 +1,15 @@
 //! How a hybrid monitor takes images as guests.
 
 ghost use Rattle.std.specs.Prelude.{◌≡◌, ◌<◌, ◌≤◌, ◌^◌, length, None, All, IsSome, OnOk, OnErr, IfOk, IfErr};
-ghost use Rattle.pg_meaning.specs.Steps.{power_on};
+ghost use Rattle.pg_lang_meaning.specs.Steps.{power_on};
 ghost use Rattle.pg_hw.specs.Serving.{IsServed};
-ghost use Rattle.pg_control.specs.Standing.{Stands};
+ghost use Rattle.pg_mon_control.specs.Standing.{Stands};
 ghost use Rattle.pg_hybrid.specs.Hybrids.{desc_of, base_for, Admits, SameHybrid};
 
 use crate::hybrid::Hybrid;
-use pg_control::{GuestFault, admit_image};
 use pg_hw::Hardware;
 use pg_image::Image;
+use pg_mon_control::{GuestFault, admit_image};
 
 impl<'m> Hybrid<'m> {
     /// Loads an image as a new guest, whose grant is as large, and which is switched on with it. The number of the guest:

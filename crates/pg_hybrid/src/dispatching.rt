@@ -6,17 +6,17 @@
 
 ghost use Rattle.std.specs.Prelude.{◌≡◌, ℕ, ◌<◌, ◌≤◌, length, All, Some, slice_get, true};
 ghost use Rattle.std.specs.Option.{option_map};
-ghost use Rattle.pg_meaning.specs.Steps.{steps};
+ghost use Rattle.pg_lang_meaning.specs.Steps.{steps};
 ghost use Rattle.std.specs.Bool.{then_some};
 ghost use Rattle.pg_word.specs.declared.psw.Mode.TheVariants.{S, U};
 ghost use Rattle.pg_hw.specs.Serving.{IsServed};
 ghost use Rattle.pg_hw.specs.Tallies.{raised_by};
-ghost use Rattle.pg_control.specs.declared.guest.Guest.{Guest as Guests};
-ghost use Rattle.pg_control.specs.Guests.{virtual, virtuals};
-ghost use Rattle.pg_control.specs.Plans.{turns_for};
-ghost use Rattle.pg_control.specs.Standing.{Stands};
-ghost use Rattle.pg_control.specs.Current.{change_to, is_current as is_current_guest};
-ghost use Rattle.pg_control.specs.Direct.{is_direct};
+ghost use Rattle.pg_mon_control.specs.declared.guest.Guest.{Guest as Guests};
+ghost use Rattle.pg_mon_control.specs.Guests.{virtual, virtuals};
+ghost use Rattle.pg_mon_control.specs.Plans.{turns_for};
+ghost use Rattle.pg_mon_control.specs.Standing.{Stands};
+ghost use Rattle.pg_mon_control.specs.Current.{change_to, is_current as is_current_guest};
+ghost use Rattle.pg_mon_control.specs.Direct.{is_direct};
 ghost use Rattle.pg_hybrid.specs.Current.{SteppedOnce};
 ghost use Rattle.pg_hybrid.specs.Hybrids.{desc_of};
 ghost use Rattle.pg_hybrid.specs.Leaving.{current_behind, loads_at, without as without_guest};
@@ -25,8 +25,8 @@ ghost use Rattle.pg_hybrid.specs.Plans.{HybridFollowed};
 
 use crate::hybrid::Hybrid;
 use crate::turning::{burst_on, interpret};
-use pg_control::{is_current, select};
 use pg_hw::Hardware;
+use pg_mon_control::{is_current, select};
 use pg_word::Mode;
 
 /// The current guest, but for guest `k`.

@@ -2,10 +2,10 @@
 
 ghost use Rattle.std.specs.Prelude.{◌≡◌, ℕ, ◌≤◌, List, length};
 ghost use Rattle.pg_ast.specs.declared.tree.Desc.{Desc};
-ghost use Rattle.pg_meaning.specs.States.{State};
-ghost use Rattle.pg_control.specs.declared.guest.Guest.{Guest};
-ghost use Rattle.pg_control.specs.Direct.{direct_among};
-ghost use Rattle.pg_control.specs.Schedules.{schedule, each_count};
+ghost use Rattle.pg_lang_meaning.specs.States.{State};
+ghost use Rattle.pg_mon_control.specs.declared.guest.Guest.{Guest};
+ghost use Rattle.pg_mon_control.specs.Direct.{direct_among};
+ghost use Rattle.pg_mon_control.specs.Schedules.{schedule, each_count};
 ghost use Rattle.pg_hybrid.specs.UserTurns.{user_among, hybrid_among};
 ghost use Rattle.pg_hybrid.specs.Plans.{user_count, user_of, hybrid_of};
 ghost use Rattle.pg_hybrid.specs.WorkedTurns.{SixSteps, FourFromUserMode, TwoOfThemDirect, RtuIsDirectBesides, NoLoadBesideAnother, NotItself, DirectTurnLoadsOnce, TrapLeavesNone, TwoLoadsInSix, EachTurnLoads, EachSliceLoads, OtherOrder};

@@ -15,7 +15,7 @@
 //! - `dispatching`: turns of guests, one, many and by a plan.
 //! - `slicing`: turns of every guest, by slices, round after round. `laws`: what follows from the definitions alone.
 //!
-//! Guests, grants and what the hardware stands for are those of every control program, and stand in `pg_control`.
+//! Guests, grants and what the hardware stands for are those of every control program, and stand in `pg_mon_control`.
 //! Nothing here names a hardware but by its trait, nor rests on more of it than the clauses say.
 #![tactic(auto)]
 
@@ -27,4 +27,4 @@ mod slicing;
 mod turning;
 
 pub use hybrid::Hybrid;
-pub use pg_control::{Guest, GuestFault, KEPT_CELLS};
+pub use pg_mon_control::{Guest, GuestFault, KEPT_CELLS};

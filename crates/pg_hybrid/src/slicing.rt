@@ -4,11 +4,11 @@
 //! anything.
 
 ghost use Rattle.std.specs.Prelude.{◌≡◌, ◌≤◌, length, map};
-ghost use Rattle.pg_meaning.specs.Steps.{steps};
+ghost use Rattle.pg_lang_meaning.specs.Steps.{steps};
 ghost use Rattle.pg_hw.specs.Serving.{IsServed};
-ghost use Rattle.pg_control.specs.Guests.{virtuals};
-ghost use Rattle.pg_control.specs.Standing.{Stands};
-ghost use Rattle.pg_control.specs.Schedules.{round_of, schedule};
+ghost use Rattle.pg_mon_control.specs.Guests.{virtuals};
+ghost use Rattle.pg_mon_control.specs.Standing.{Stands};
+ghost use Rattle.pg_mon_control.specs.Schedules.{round_of, schedule};
 ghost use Rattle.pg_hybrid.specs.Hybrids.{desc_of};
 ghost use Rattle.pg_hybrid.specs.Plans.{HybridFollowed};
 

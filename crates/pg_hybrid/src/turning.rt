@@ -11,13 +11,13 @@ ghost use Rattle.std.specs.Prelude.{◌≡◌, ◌<◌, ◌≤◌};
 ghost use Rattle.pg_word.specs.declared.psw.Mode.TheVariants.{U};
 ghost use Rattle.pg_type.specs.Accepting.{IsHybridAccepted};
 ghost use Rattle.pg_hw.specs.Serving.{IsServed};
-ghost use Rattle.pg_control.specs.Current.{Holds, Runs};
+ghost use Rattle.pg_mon_control.specs.Current.{Holds, Runs};
 ghost use Rattle.pg_hybrid.specs.Current.{Interpreted, Stepped};
 
-use pg_control::Guest;
 use pg_hw::Hardware;
 use pg_interp::Frame;
-use pg_machine::Machine;
+use pg_mach_ready::Machine;
+use pg_mon_control::Guest;
 use pg_routine::emulate_told;
 use pg_word::{Mode, OLD_PSW_CELL, unpack};
 

@@ -1,7 +1,7 @@
 //! Executes an instruction over the cells that it sees.
 //!
 //! An instruction sees a window of a storage, read by address (`cells`). It is fetched at P, found by its pattern, and its code
-//! is run (`stepper`, and `fetch` for a single step). Code is a list of operations, which `pg_code` makes once of each body; it
+//! is run (`stepper`, and `fetch` for a single step). Code is a list of operations, which `pg_mach_code` makes once of each body; it
 //! runs over a frame (`frame`): slots for numbers, the stores so far (`stores`), and the program status word that will be left.
 //! `operations` goes through them, one after another, and ends where the definitions of code end (`course` has how it may
 //! end); what it computes of single numbers stands in `numbers`, for others that execute, too.

@@ -7,10 +7,10 @@
 //! A contract sees the list of the stores that are kept.
 
 ghost use Rattle.std.specs.Prelude.{◌≡◌, ◌==◌, ◌<◌, [], ◌∷◌, ◌++◌, length};
-ghost use Rattle.pg_valid.specs.Limits.{most_accesses};
+ghost use Rattle.pg_lang_valid.specs.Limits.{most_accesses};
 
 use crate::effect::Write;
-use pg_valid::MOST_ACCESSES;
+use pg_lang_valid::MOST_ACCESSES;
 use std::marker::Model;
 
 /// Stores that are yet to be made, in the order in which they are to be made; at most `MOST_ACCESSES`.
@@ -22,7 +22,7 @@ pub struct Stores {
 
 impl Model for Stores {
     ghost use Rattle.std.specs.Prelude.{◌≡◌, ◌≤◌, List, take, length};
-    ghost use Rattle.pg_valid.specs.Limits.{most_accesses};
+    ghost use Rattle.pg_lang_valid.specs.Limits.{most_accesses};
     ghost use Rattle.pg_interp.specs.declared.effect.Write.{Write as Writes};
 
     ghost Value = { List Writes };

@@ -3,11 +3,11 @@ use Rattle.std.proofs.Common.{◌≡◌, ℕ, zero, suc, ◌+◌, ◌-◌, ◌<�
 use Rattle.std.proofs.lemmas.Bool.{cases_lt}
 use Rattle.pg_word.specs.declared.psw.Mode.TheVariants.{S, U}
 use Rattle.pg_ast.specs.declared.tree.Desc.{Desc}
-use Rattle.pg_meaning.specs.States.{State}
-use Rattle.pg_meaning.specs.Steps.{step, steps}
+use Rattle.pg_lang_meaning.specs.States.{State}
+use Rattle.pg_lang_meaning.specs.Steps.{step, steps}
 use Rattle.pg_hw.specs.Bursts.{traps, one_if, untrapped_at, untrapped_among, burst_length}
 use Rattle.pg_hw.proofs.BurstLaws.{burst_length-by, burst_length-trap, untrapped_at-trap}
-use Rattle.pg_control.proofs.RunLemmas.{untrapped_at-calm}
+use Rattle.pg_mon_control.proofs.RunLemmas.{untrapped_at-calm}
 use Rattle.pg_monitor.specs.declared.turning.BurstTold.{BurstTold}
 use Rattle.pg_monitor.specs.Bursts.{last_traps, TellsBurst}
 

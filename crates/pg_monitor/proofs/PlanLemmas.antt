@@ -4,28 +4,28 @@ use Rattle.std.specs.Option.{option_map}
 use Rattle.std.proofs.lemmas.List.{drop_more, drop_all, get_or-set_same}
 use Rattle.pg_word.specs.declared.psw.Psw.{Psw}
 use Rattle.pg_ast.specs.declared.tree.Desc.{Desc}
-use Rattle.pg_meaning.specs.States.{State}
-use Rattle.pg_meaning.specs.Steps.{steps}
-use Rattle.pg_valid.specs.Valid.{IsValid}
-use Rattle.pg_valid.proofs.StepSound.{steps-length}
+use Rattle.pg_lang_meaning.specs.States.{State}
+use Rattle.pg_lang_meaning.specs.Steps.{steps}
+use Rattle.pg_lang_valid.specs.Valid.{IsValid}
+use Rattle.pg_lang_valid.proofs.StepSound.{steps-length}
 use Rattle.pg_hw.specs.Machinery.{Machinery}
 use Rattle.pg_routine.specs.Composing.{composed}
 use Rattle.pg_routine.specs.Granting.{with_grant}
 use Rattle.pg_routine.proofs.StateLaws.{with_grant-length}
-use Rattle.pg_control.specs.declared.guest.Guest.{Guest}
-use Rattle.pg_control.specs.Guests.{virtual, virtuals, grants_of}
-use Rattle.pg_control.specs.Direct.{direct_among}
-use Rattle.pg_control.specs.Standing.{Stands}
-use Rattle.pg_control.specs.Plans.{moved, after_plan, turns_of, turns_for, count_turns}
-use Rattle.pg_control.specs.Traps.{trap_cell}
+use Rattle.pg_mon_control.specs.declared.guest.Guest.{Guest}
+use Rattle.pg_mon_control.specs.Guests.{virtual, virtuals, grants_of}
+use Rattle.pg_mon_control.specs.Direct.{direct_among}
+use Rattle.pg_mon_control.specs.Standing.{Stands}
+use Rattle.pg_mon_control.specs.Plans.{moved, after_plan, turns_of, turns_for, count_turns}
+use Rattle.pg_mon_control.specs.Traps.{trap_cell}
 use Rattle.pg_monitor.specs.Turns.{psw_after, changes_in, CountsTurns, Turned}
-use Rattle.pg_control.specs.Counting.{BottomTurns}
+use Rattle.pg_mon_control.specs.Counting.{BottomTurns}
 use Rattle.pg_monitor.specs.Plans.{direct_of, cell_turns, cell_behind, psw_turns, psw_behind, current_of, changes_of, Followed}
-use Rattle.pg_control.proofs.DirectLemmas.{Holds-within, Holds-length}
+use Rattle.pg_mon_control.proofs.DirectLemmas.{Holds-within, Holds-length}
 use Rattle.pg_monitor.proofs.WentLemmas.{CountsTurns-none, CountsTurns-add}
-use Rattle.pg_control.proofs.CountLemmas.{BottomTurns-none, BottomTurns-add, direct_among-most}
-use Rattle.pg_control.proofs.GuestLemmas.{All-at, virtuals-at, Holds-of}
-use Rattle.pg_control.proofs.PlanLemmas.{after_plan-at, count_of-grants, count_of-most, first_outside, granted-outside, grants-outside, outside_of}
+use Rattle.pg_mon_control.proofs.CountLemmas.{BottomTurns-none, BottomTurns-add, direct_among-most}
+use Rattle.pg_mon_control.proofs.GuestLemmas.{All-at, virtuals-at, Holds-of}
+use Rattle.pg_mon_control.proofs.PlanLemmas.{after_plan-at, count_of-grants, count_of-most, first_outside, granted-outside, grants-outside, outside_of}
 
 -- ---- cell 0
 

@@ -6,20 +6,20 @@ use Rattle.std.proofs.lemmas.Option.{slice_get-get_or, get_or_from_slice_get}
 use Rattle.pg_word.specs.declared.psw.Psw.{Psw}
 use Rattle.pg_word.specs.Psw.{IsPsw, packed, power_on_psw}
 use Rattle.pg_ast.specs.declared.tree.Desc.{Desc}
-use Rattle.pg_meaning.specs.States.{State, IsState}
-use Rattle.pg_valid.specs.Valid.{IsValid}
+use Rattle.pg_lang_meaning.specs.States.{State, IsState}
+use Rattle.pg_lang_valid.specs.Valid.{IsValid}
 use Rattle.pg_routine.specs.Composing.{composed}
 use Rattle.pg_routine.proofs.GrantLaws.{guest-length, guest-set, guest-changed}
-use Rattle.pg_control.specs.declared.guest.Guest.{Guest}
-use Rattle.pg_control.specs.Guests.{virtual, virtuals, IsGrant, AreApart, AreDisjoint}
-use Rattle.pg_control.specs.Current.{Holds, with_psw}
+use Rattle.pg_mon_control.specs.declared.guest.Guest.{Guest}
+use Rattle.pg_mon_control.specs.Guests.{virtual, virtuals, IsGrant, AreApart, AreDisjoint}
+use Rattle.pg_mon_control.specs.Current.{Holds, with_psw}
 use Rattle.pg_monitor.specs.Reaching.{with_cell, changed_at}
-use Rattle.pg_control.specs.Standing.{IsUnder, Stands}
-use Rattle.pg_control.proofs.AdmitLemmas.{grant-others}
-use Rattle.pg_control.proofs.CellLemmas.{cell_of}
-use Rattle.pg_control.proofs.DirectLemmas.{Holds-within}
-use Rattle.pg_control.proofs.GuestLemmas.{All-at, LeavesOthers, virtuals-apart, Holds-of}
-use Rattle.pg_control.proofs.StateLemmas.{Holds-addressable}
+use Rattle.pg_mon_control.specs.Standing.{IsUnder, Stands}
+use Rattle.pg_mon_control.proofs.AdmitLemmas.{grant-others}
+use Rattle.pg_mon_control.proofs.CellLemmas.{cell_of}
+use Rattle.pg_mon_control.proofs.DirectLemmas.{Holds-within}
+use Rattle.pg_mon_control.proofs.GuestLemmas.{All-at, LeavesOthers, virtuals-apart, Holds-of}
+use Rattle.pg_mon_control.proofs.StateLemmas.{Holds-addressable}
 
 -- ---- the k-th of a list
 

@@ -8,24 +8,24 @@ use Rattle.std.proofs.lemmas.Nat.{pow_pos}
 use Rattle.pg_word.specs.declared.psw.Psw.{Psw}
 use Rattle.pg_word.specs.Psw.{power_on_psw}
 use Rattle.pg_ast.specs.declared.tree.Desc.{Desc}
-use Rattle.pg_meaning.specs.States.{State, IsState}
-use Rattle.pg_meaning.specs.Steps.{power_on}
-use Rattle.pg_valid.specs.Valid.{IsValid}
-use Rattle.pg_machine.specs.declared.machine.Machine.{Machine}
-use Rattle.pg_valid.proofs.StepSound.{power_on-state}
+use Rattle.pg_lang_meaning.specs.States.{State, IsState}
+use Rattle.pg_lang_meaning.specs.Steps.{power_on}
+use Rattle.pg_lang_valid.specs.Valid.{IsValid}
+use Rattle.pg_mach_ready.specs.declared.machine.Machine.{Machine}
+use Rattle.pg_lang_valid.proofs.StepSound.{power_on-state}
 use Rattle.pg_hw.specs.Serving.{blank}
 use Rattle.pg_routine.specs.Granting.{with_grant}
 use Rattle.pg_routine.proofs.GrantLaws.{with_grant-same}
 use Rattle.pg_alloc.specs.Fit.{kept_cells, free_base}
 use Rattle.pg_alloc.specs.Grants.{Granted, and_grant}
 use Rattle.pg_alloc.proofs.FitLemmas.{free_base-first, free_base-free}
-use Rattle.pg_control.specs.declared.guest.Guest.{Guest}
+use Rattle.pg_mon_control.specs.declared.guest.Guest.{Guest}
 use Rattle.pg_monitor.specs.declared.monitor.Monitor.{Monitor}
-use Rattle.pg_control.specs.Standing.{Stands}
-use Rattle.pg_control.proofs.AdmitLemmas.{IsPut, IsFreeOf}
-use Rattle.pg_control.proofs.LoadLemmas.{power_on-whole}
+use Rattle.pg_mon_control.specs.Standing.{Stands}
+use Rattle.pg_mon_control.proofs.AdmitLemmas.{IsPut, IsFreeOf}
+use Rattle.pg_mon_control.proofs.LoadLemmas.{power_on-whole}
 use Rattle.pg_monitor.specs.Monitors.{desc_of, base_for, GrantsOne, IsReady}
-use Rattle.pg_control.specs.Guests.{guest_in}
+use Rattle.pg_mon_control.specs.Guests.{guest_in}
 
 -- the first base is the one behind the cells that are kept
 first-base : (q size base : ℕ) → free_base q [] size ≡ Some base → base ≡ kept_cells

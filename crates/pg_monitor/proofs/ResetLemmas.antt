@@ -5,18 +5,18 @@ use Rattle.std.proofs.lemmas.List.Elements.{All-set}
 use Rattle.pg_word.specs.declared.psw.Psw.{Psw}
 use Rattle.pg_word.specs.Psw.{IsPsw}
 use Rattle.pg_ast.specs.declared.tree.Desc.{Desc}
-use Rattle.pg_meaning.specs.States.{IsState}
-use Rattle.pg_valid.specs.Valid.{IsValid}
+use Rattle.pg_lang_meaning.specs.States.{IsState}
+use Rattle.pg_lang_valid.specs.Valid.{IsValid}
 use Rattle.pg_hw.specs.Machinery.{Machinery, loaded_with}
 use Rattle.pg_routine.specs.Composing.{composed}
-use Rattle.pg_control.specs.declared.guest.Guest.{Guest}
-use Rattle.pg_control.specs.Guests.{virtual, virtuals, IsGrant}
-use Rattle.pg_control.specs.Current.{Holds, is_current, with_psw}
+use Rattle.pg_mon_control.specs.declared.guest.Guest.{Guest}
+use Rattle.pg_mon_control.specs.Guests.{virtual, virtuals, IsGrant}
+use Rattle.pg_mon_control.specs.Current.{Holds, is_current, with_psw}
 use Rattle.pg_monitor.specs.Reaching.{under_psw, changed_at, entered_if_current}
-use Rattle.pg_control.specs.Standing.{IsUnder, Stands}
+use Rattle.pg_mon_control.specs.Standing.{IsUnder, Stands}
 use Rattle.pg_monitor.proofs.ReachLemmas.{virtuals-changed, changed-all}
-use Rattle.pg_control.proofs.GuestLemmas.{disjoint-set, Holds-of}
-use Rattle.pg_control.proofs.StateLemmas.{composed-fits}
+use Rattle.pg_mon_control.proofs.GuestLemmas.{disjoint-set, Holds-of}
+use Rattle.pg_mon_control.proofs.StateLemmas.{composed-fits}
 
 -- ---- a program status word
 

@@ -2,18 +2,18 @@
 use Rattle.std.proofs.Common.{◌≡◌, ℕ, suc, ◌+◌, ◌/◌, ◌%◌, List, [], ◌∷◌, ◌++◌, length, map, Option, sym, ◌∙◌, ap, subst, arith, append_assoc}
 use Rattle.std.proofs.lemmas.List.{append-nil, length-map}
 use Rattle.pg_ast.specs.declared.tree.Desc.{Desc}
-use Rattle.pg_meaning.specs.Steps.{steps}
-use Rattle.pg_valid.specs.Valid.{IsValid}
+use Rattle.pg_lang_meaning.specs.Steps.{steps}
+use Rattle.pg_lang_valid.specs.Valid.{IsValid}
 use Rattle.pg_hw.specs.Machinery.{Machinery}
-use Rattle.pg_control.specs.declared.guest.Guest.{Guest}
-use Rattle.pg_control.specs.Guests.{virtual, virtuals}
-use Rattle.pg_control.specs.Standing.{Stands}
-use Rattle.pg_control.specs.Plans.{after_plan}
+use Rattle.pg_mon_control.specs.declared.guest.Guest.{Guest}
+use Rattle.pg_mon_control.specs.Guests.{virtual, virtuals}
+use Rattle.pg_mon_control.specs.Standing.{Stands}
+use Rattle.pg_mon_control.specs.Plans.{after_plan}
 use Rattle.pg_monitor.specs.Turns.{Turned}
 use Rattle.pg_monitor.specs.Plans.{Followed}
-use Rattle.pg_control.specs.Schedules.{round_of, rounds_of, schedule}
+use Rattle.pg_mon_control.specs.Schedules.{round_of, rounds_of, schedule}
 use Rattle.pg_monitor.specs.Schedules.{Begun}
-use Rattle.pg_control.proofs.ScheduleLemmas.{after_plan-schedule, round_of-more, rounds_of-more}
+use Rattle.pg_mon_control.proofs.ScheduleLemmas.{after_plan-schedule, round_of-more, rounds_of-more}
 use Rattle.pg_monitor.proofs.PlanLemmas.{Followed-none, Followed-next}
 
 -- ---- turns that a plan was begun with

@@ -5,21 +5,21 @@ use Rattle.std.proofs.lemmas.Option.{same_Some}
 use Rattle.pg_word.specs.declared.psw.Psw.{Psw}
 use Rattle.pg_word.specs.declared.psw.Mode.TheVariants.{U}
 use Rattle.pg_ast.specs.declared.tree.Desc.{Desc}
-use Rattle.pg_meaning.specs.States.{State}
-use Rattle.pg_meaning.specs.Steps.{step, steps}
-use Rattle.pg_meaning.proofs.StepLaws.{steps-add, steps-stay}
-use Rattle.pg_valid.specs.Valid.{IsValid}
+use Rattle.pg_lang_meaning.specs.States.{State}
+use Rattle.pg_lang_meaning.specs.Steps.{step, steps}
+use Rattle.pg_lang_meaning.proofs.StepLaws.{steps-add, steps-stay}
+use Rattle.pg_lang_valid.specs.Valid.{IsValid}
 use Rattle.pg_hw.specs.Bursts.{traps, burst_length}
 use Rattle.pg_hw.specs.Stillness.{IsStill, Stays, TellsStill}
 use Rattle.pg_hw.proofs.BurstLaws.{burst_length-goes_on, burst_length-some}
 use Rattle.pg_routine.specs.Composing.{composed}
 use Rattle.pg_routine.specs.Granting.{with_grant}
-use Rattle.pg_control.specs.declared.guest.Guest.{Guest}
-use Rattle.pg_control.specs.Current.{Runs, with_psw}
-use Rattle.pg_control.specs.Guests.{virtual}
-use Rattle.pg_control.proofs.BurstLemmas.{Stopped, Halted, Runs-calm}
-use Rattle.pg_control.proofs.DirectLemmas.{IsAlikeIn}
-use Rattle.pg_control.proofs.RunLemmas.{Directly, Directly-next}
+use Rattle.pg_mon_control.specs.declared.guest.Guest.{Guest}
+use Rattle.pg_mon_control.specs.Current.{Runs, with_psw}
+use Rattle.pg_mon_control.specs.Guests.{virtual}
+use Rattle.pg_mon_control.proofs.BurstLemmas.{Stopped, Halted, Runs-calm}
+use Rattle.pg_mon_control.proofs.DirectLemmas.{IsAlikeIn}
+use Rattle.pg_mon_control.proofs.RunLemmas.{Directly, Directly-next}
 use Rattle.pg_monitor.specs.Settling.{NoneStill, StillFirst, TellsFirst, first_of}
 use Rattle.pg_monitor.proofs.ToldLemmas.{direct-before}
 

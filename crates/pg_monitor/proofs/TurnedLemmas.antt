@@ -2,9 +2,9 @@
 use Rattle.std.proofs.Common.{◌≡◌, ℕ, zero, suc, ◌<◌, inl, inr, true, List, length, Option, Some, slice_set, slice_index, slice_get, refl, sym, ◌∙◌, ap, subst, arith}
 use Rattle.std.proofs.lemmas.Option.{slice_get_cases}
 use Rattle.pg_ast.specs.declared.tree.Desc.{Desc}
-use Rattle.pg_meaning.specs.States.{State}
-use Rattle.pg_meaning.specs.Steps.{step, steps}
-use Rattle.pg_valid.specs.Valid.{IsValid}
+use Rattle.pg_lang_meaning.specs.States.{State}
+use Rattle.pg_lang_meaning.specs.Steps.{step, steps}
+use Rattle.pg_lang_valid.specs.Valid.{IsValid}
 use Rattle.pg_type.specs.Accepting.{IsAccepted}
 use Rattle.pg_hw.specs.declared.counts.Counts.{Counts}
 use Rattle.pg_hw.specs.Tallies.{Bottom, raised_by}
@@ -12,21 +12,21 @@ use Rattle.pg_hw.specs.Machinery.{Machinery}
 use Rattle.pg_routine.specs.Composing.{composed}
 use Rattle.pg_routine.specs.Granting.{with_grant}
 use Rattle.pg_routine.proofs.GrantLaws.{with_grant-same}
-use Rattle.pg_control.specs.declared.guest.Guest.{Guest}
-use Rattle.pg_control.specs.Guests.{virtual, virtuals}
-use Rattle.pg_control.specs.Direct.{is_direct, direct_among}
-use Rattle.pg_control.specs.Standing.{Stands}
-use Rattle.pg_control.specs.Plans.{moved}
-use Rattle.pg_control.specs.Traps.{trap_cell}
+use Rattle.pg_mon_control.specs.declared.guest.Guest.{Guest}
+use Rattle.pg_mon_control.specs.Guests.{virtual, virtuals}
+use Rattle.pg_mon_control.specs.Direct.{is_direct, direct_among}
+use Rattle.pg_mon_control.specs.Standing.{Stands}
+use Rattle.pg_mon_control.specs.Plans.{moved}
+use Rattle.pg_mon_control.specs.Traps.{trap_cell}
 use Rattle.pg_monitor.specs.Turns.{storage_after, Turned}
-use Rattle.pg_control.specs.Current.{change_to, with_psw}
-use Rattle.pg_control.specs.Advancing.{Advanced}
+use Rattle.pg_mon_control.specs.Current.{change_to, with_psw}
+use Rattle.pg_mon_control.specs.Advancing.{Advanced}
 use Rattle.pg_monitor.specs.Current.{Went}
-use Rattle.pg_control.proofs.AdvanceLemmas.{kept-outside, Moved, Moved-of, Stands-advanced, under-own}
-use Rattle.pg_control.proofs.CellLemmas.{set_same}
-use Rattle.pg_control.proofs.DirectLemmas.{Holds-within, Holds-length, accepted-alike}
-use Rattle.pg_control.proofs.GuestLemmas.{Holds-of, Runs-of, direct-kept, moved-none}
-use Rattle.pg_control.proofs.CountLemmas.{BottomTurns-none}
+use Rattle.pg_mon_control.proofs.AdvanceLemmas.{kept-outside, Moved, Moved-of, Stands-advanced, under-own}
+use Rattle.pg_mon_control.proofs.CellLemmas.{set_same}
+use Rattle.pg_mon_control.proofs.DirectLemmas.{Holds-within, Holds-length, accepted-alike}
+use Rattle.pg_mon_control.proofs.GuestLemmas.{Holds-of, Runs-of, direct-kept, moved-none}
+use Rattle.pg_mon_control.proofs.CountLemmas.{BottomTurns-none}
 use Rattle.pg_monitor.proofs.WentLemmas.{CountsTurns-none}
 
 -- ---- the guest that runs, and the others

@@ -3,11 +3,11 @@ use Rattle.std.proofs.Common.{◌≡◌, ℕ, ◌+◌, ◌<◌, ◌≤◌, List,
 use Rattle.std.proofs.lemmas.List.{set-set, get_or-set_same}
 use Rattle.pg_word.specs.Psw.{IsPsw}
 use Rattle.pg_ast.specs.declared.tree.Desc.{Desc}
-use Rattle.pg_meaning.specs.States.{State, IsState}
-use Rattle.pg_meaning.specs.Steps.{step, steps}
-use Rattle.pg_valid.specs.Valid.{IsValid}
-use Rattle.pg_meaning.proofs.StepLaws.{steps-add}
-use Rattle.pg_valid.proofs.StepSound.{step-state, step-length}
+use Rattle.pg_lang_meaning.specs.States.{State, IsState}
+use Rattle.pg_lang_meaning.specs.Steps.{step, steps}
+use Rattle.pg_lang_valid.specs.Valid.{IsValid}
+use Rattle.pg_lang_meaning.proofs.StepLaws.{steps-add}
+use Rattle.pg_lang_valid.proofs.StepSound.{step-state, step-length}
 use Rattle.pg_hw.specs.declared.counts.Counts.{Counts}
 use Rattle.pg_hw.specs.Tallies.{Bottom, raised_by, after_steps}
 use Rattle.pg_hw.specs.Machinery.{Machinery}
@@ -19,20 +19,20 @@ use Rattle.pg_routine.specs.Composing.{composed}
 use Rattle.pg_routine.specs.Granting.{with_grant}
 use Rattle.pg_routine.proofs.GrantLaws.{with_grant-same}
 use Rattle.pg_routine.proofs.StateLaws.{with_grant-length}
-use Rattle.pg_control.specs.declared.guest.Guest.{Guest}
-use Rattle.pg_control.specs.Guests.{virtual}
-use Rattle.pg_control.specs.Direct.{direct_among}
-use Rattle.pg_control.specs.Traps.{trap_cell, trap_word}
-use Rattle.pg_control.specs.Counting.{BottomTurns}
+use Rattle.pg_mon_control.specs.declared.guest.Guest.{Guest}
+use Rattle.pg_mon_control.specs.Guests.{virtual}
+use Rattle.pg_mon_control.specs.Direct.{direct_among}
+use Rattle.pg_mon_control.specs.Traps.{trap_cell, trap_word}
+use Rattle.pg_mon_control.specs.Counting.{BottomTurns}
 use Rattle.pg_monitor.specs.Turns.{CountsTurns}
-use Rattle.pg_control.specs.Current.{Holds, Runs, with_psw}
+use Rattle.pg_mon_control.specs.Current.{Holds, Runs, with_psw}
 use Rattle.pg_monitor.specs.Current.{Interpreted, Went}
-use Rattle.pg_control.proofs.CellLemmas.{with_grant-again, with_grant-before, set_first-grant, set_same}
-use Rattle.pg_control.proofs.DirectLemmas.{Holds-within, Holds-length}
-use Rattle.pg_control.proofs.RunLemmas.{Holds-next, virtual-own, Directly}
-use Rattle.pg_control.proofs.BurstLemmas.{Halted, Stopped, StopCounts, StopCounts-of, steps-once}
-use Rattle.pg_control.proofs.StateLemmas.{composed-fits, granted-state}
-use Rattle.pg_control.proofs.CountLemmas.{BottomTurns-none, BottomTurns-add, direct_among-add, direct_among-most, trap_cell-add}
+use Rattle.pg_mon_control.proofs.CellLemmas.{with_grant-again, with_grant-before, set_first-grant, set_same}
+use Rattle.pg_mon_control.proofs.DirectLemmas.{Holds-within, Holds-length}
+use Rattle.pg_mon_control.proofs.RunLemmas.{Holds-next, virtual-own, Directly}
+use Rattle.pg_mon_control.proofs.BurstLemmas.{Halted, Stopped, StopCounts, StopCounts-of, steps-once}
+use Rattle.pg_mon_control.proofs.StateLemmas.{composed-fits, granted-state}
+use Rattle.pg_mon_control.proofs.CountLemmas.{BottomTurns-none, BottomTurns-add, direct_among-add, direct_among-most, trap_cell-add}
 
 -- ---- turns that were direct
 

@@ -1,10 +1,10 @@
 -- Turns of a guest that one burst of the hardware makes.
 use Rattle.std.specs.Prelude.{◌≡◌, ℕ, zero, suc, ◌+◌, ◌<◌, ◌≤◌, Bool, false, if◌then◌else◌}
 use Rattle.pg_ast.specs.declared.tree.Desc.{Desc}
-use Rattle.pg_meaning.specs.States.{State}
-use Rattle.pg_meaning.specs.Steps.{step, steps}
+use Rattle.pg_lang_meaning.specs.States.{State}
+use Rattle.pg_lang_meaning.specs.Steps.{step, steps}
 use Rattle.pg_hw.specs.Bursts.{traps}
-use Rattle.pg_control.specs.Direct.{is_direct}
+use Rattle.pg_mon_control.specs.Direct.{is_direct}
 use Rattle.pg_monitor.specs.declared.turning.BurstTold.{BurstTold}
 
 -- how many turns a burst makes: until k were made, or one was not direct, which is then the last

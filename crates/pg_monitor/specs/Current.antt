@@ -1,16 +1,16 @@
 -- Turns of the current guest: the one that the hardware runs.
 use Rattle.std.specs.Prelude.{◌≡◌, ℕ}
 use Rattle.pg_ast.specs.declared.tree.Desc.{Desc}
-use Rattle.pg_meaning.specs.Steps.{step, steps}
+use Rattle.pg_lang_meaning.specs.Steps.{step, steps}
 use Rattle.pg_hw.specs.Tallies.{RisesWithin, raised_by}
 use Rattle.pg_hw.specs.Machinery.{Machinery}
 use Rattle.pg_routine.specs.Composing.{composed}
 use Rattle.pg_routine.specs.Granting.{with_grant}
-use Rattle.pg_control.specs.declared.guest.Guest.{Guest}
-use Rattle.pg_control.specs.Guests.{virtual}
-use Rattle.pg_control.specs.Direct.{direct_among}
-use Rattle.pg_control.specs.Current.{Runs, with_psw}
-use Rattle.pg_control.specs.Counting.{BottomTurns}
+use Rattle.pg_mon_control.specs.declared.guest.Guest.{Guest}
+use Rattle.pg_mon_control.specs.Guests.{virtual}
+use Rattle.pg_mon_control.specs.Direct.{direct_among}
+use Rattle.pg_mon_control.specs.Current.{Runs, with_psw}
+use Rattle.pg_mon_control.specs.Counting.{BottomTurns}
 use Rattle.pg_monitor.specs.Turns.{storage_after, CountsTurns}
 
 -- a step of a guest that was interpreted, and the guest entered again

@@ -2,11 +2,11 @@
 use Rattle.std.specs.Prelude.{◌≡◌, ℕ, ◌+◌, ◌≤◌, [], ◌∷◌, Option, None}
 use Rattle.pg_word.specs.Psw.{power_on_psw}
 use Rattle.pg_ast.specs.declared.tree.Desc.{Desc}
-use Rattle.pg_meaning.specs.States.{State}
+use Rattle.pg_lang_meaning.specs.States.{State}
 use Rattle.pg_hw.specs.Machinery.{Machinery}
 use Rattle.pg_alloc.specs.Fit.{kept_cells}
-use Rattle.pg_control.specs.Admitting.{Kept, place_for, GrantMade, StateTaken}
-use Rattle.pg_control.specs.Guests.{guest_in}
+use Rattle.pg_mon_control.specs.Admitting.{Kept, place_for, GrantMade, StateTaken}
+use Rattle.pg_mon_control.specs.Guests.{guest_in}
 use Rattle.pg_monitor.specs.declared.monitor.Monitor.{Monitor}
 
 -- the machine that a monitor's hardware is, and each of its guests believes to have

@@ -3,14 +3,14 @@ use Rattle.std.specs.Prelude.{◌≡◌, ℕ, ◌+◌, ◌≤◌, List, [], ◌�
 use Rattle.pg_word.specs.declared.psw.Psw.{Psw}
 use Rattle.pg_word.specs.Psw.{old_psw_cell}
 use Rattle.pg_ast.specs.declared.tree.Desc.{Desc}
-use Rattle.pg_meaning.specs.States.{State}
+use Rattle.pg_lang_meaning.specs.States.{State}
 use Rattle.pg_hw.specs.Machinery.{Machinery}
-use Rattle.pg_control.specs.declared.guest.Guest.{Guest}
-use Rattle.pg_control.specs.Guests.{virtuals, grants_of}
-use Rattle.pg_control.specs.Direct.{direct_among}
-use Rattle.pg_control.specs.Plans.{moved, after_plan, turns_of, count_of, IsOutside}
-use Rattle.pg_control.specs.Traps.{trap_cell}
-use Rattle.pg_control.specs.Counting.{BottomTurns}
+use Rattle.pg_mon_control.specs.declared.guest.Guest.{Guest}
+use Rattle.pg_mon_control.specs.Guests.{virtuals, grants_of}
+use Rattle.pg_mon_control.specs.Direct.{direct_among}
+use Rattle.pg_mon_control.specs.Plans.{moved, after_plan, turns_of, count_of, IsOutside}
+use Rattle.pg_mon_control.specs.Traps.{trap_cell}
+use Rattle.pg_mon_control.specs.Counting.{BottomTurns}
 use Rattle.pg_monitor.specs.Turns.{psw_after, current_after, changes_in, CountsTurns}
 
 -- the direct turns of a plan, of guests at these states

@@ -1,11 +1,11 @@
 -- What is done to a guest from outside: another word in a cell of its own, or another program status word.
 use Rattle.std.specs.Prelude.{ℕ, zero, suc, if◌then◌else◌, List, [], ◌∷◌, Option, slice_set}
 use Rattle.pg_word.specs.declared.psw.Psw.{Psw}
-use Rattle.pg_meaning.specs.States.{State}
+use Rattle.pg_lang_meaning.specs.States.{State}
 use Rattle.pg_hw.specs.Machinery.{Machinery, loaded_with}
 use Rattle.pg_routine.specs.Composing.{composed}
-use Rattle.pg_control.specs.declared.guest.Guest.{Guest}
-use Rattle.pg_control.specs.Current.{is_current}
+use Rattle.pg_mon_control.specs.declared.guest.Guest.{Guest}
+use Rattle.pg_mon_control.specs.Current.{is_current}
 
 -- a state with another word in a cell
 abbrev pub with_cell : ℕ → ℕ → State → State

@@ -2,7 +2,7 @@
 use Rattle.std.specs.Prelude.{ℕ, List, ◌++◌, Option}
 use Rattle.pg_ast.specs.declared.tree.Desc.{Desc}
 use Rattle.pg_hw.specs.Machinery.{Machinery}
-use Rattle.pg_control.specs.declared.guest.Guest.{Guest}
+use Rattle.pg_mon_control.specs.declared.guest.Guest.{Guest}
 use Rattle.pg_monitor.specs.Plans.{Followed}
 
 -- turns with which a plan was begun: whatever plan is followed behind them, they and it are followed from before them

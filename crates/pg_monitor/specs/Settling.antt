@@ -1,8 +1,8 @@
 -- Guests that are still: a step leaves the state as it is, and so does every later one.
 use Rattle.std.specs.Prelude.{◌≡◌, ℕ, ◌+◌, ◌<◌, ◌≤◌, Option, None, Some}
 use Rattle.pg_ast.specs.declared.tree.Desc.{Desc}
-use Rattle.pg_meaning.specs.States.{State}
-use Rattle.pg_meaning.specs.Steps.{steps}
+use Rattle.pg_lang_meaning.specs.States.{State}
+use Rattle.pg_lang_meaning.specs.Steps.{steps}
 use Rattle.pg_hw.specs.Stillness.{IsStill}
 use Rattle.pg_hw.specs.declared.settling.Settled.{Settled}
 

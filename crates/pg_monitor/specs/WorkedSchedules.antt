@@ -1,7 +1,7 @@
 -- Schedules, worked out by hand: each is a law of the crate.
 use Rattle.std.specs.Prelude.{◌≡◌, [], ◌∷◌, None}
 use Rattle.pg_monitor.specs.Plans.{changes_of}
-use Rattle.pg_control.specs.Schedules.{schedule}
+use Rattle.pg_mon_control.specs.Schedules.{schedule}
 
 -- two guests, slices of three and ten turns each: the last round is of one turn
 abbrev pub ShorterLast : Type 0

@@ -1,17 +1,17 @@
 //! How a monitor takes guests: images that are switched on, and states.
 
 ghost use Rattle.std.specs.Prelude.{◌≡◌, ◌<◌, ◌≤◌, ◌^◌, length, None, All, IsSome, OnOk, OnErr, IfOk, IfErr};
-ghost use Rattle.pg_meaning.specs.States.{IsState};
-ghost use Rattle.pg_meaning.specs.Steps.{power_on};
+ghost use Rattle.pg_lang_meaning.specs.States.{IsState};
+ghost use Rattle.pg_lang_meaning.specs.Steps.{power_on};
 ghost use Rattle.pg_hw.specs.Serving.{IsServed};
 ghost use Rattle.pg_type.specs.Listed.{state_of};
 ghost use Rattle.pg_monitor.specs.Monitors.{desc_of, base_for, Admits, SameMonitor};
-ghost use Rattle.pg_control.specs.Standing.{Stands};
+ghost use Rattle.pg_mon_control.specs.Standing.{Stands};
 
 use crate::monitor::Monitor;
-use pg_control::{GuestFault, admit_image, put_state};
 use pg_hw::Hardware;
 use pg_image::Image;
+use pg_mon_control::{GuestFault, admit_image, put_state};
 use pg_word::Sparse;
 
 impl<'m> Monitor<'m> {

@@ -5,25 +5,25 @@
 
 ghost use Rattle.std.specs.Prelude.{◌≡◌, ℕ, ◌<◌, length, All, Some, slice_get, true};
 ghost use Rattle.std.specs.Option.{option_map};
-ghost use Rattle.pg_meaning.specs.Steps.{step, steps};
+ghost use Rattle.pg_lang_meaning.specs.Steps.{step, steps};
 ghost use Rattle.pg_hw.specs.Bursts.{traps};
 ghost use Rattle.pg_hw.specs.Serving.{IsServed};
 ghost use Rattle.pg_hw.specs.Tallies.{raised_by};
-ghost use Rattle.pg_control.specs.declared.guest.Guest.{Guest as Guests};
-ghost use Rattle.pg_control.specs.Guests.{virtual, virtuals};
-ghost use Rattle.pg_control.specs.Direct.{is_direct};
+ghost use Rattle.pg_mon_control.specs.declared.guest.Guest.{Guest as Guests};
+ghost use Rattle.pg_mon_control.specs.Guests.{virtual, virtuals};
+ghost use Rattle.pg_mon_control.specs.Direct.{is_direct};
 ghost use Rattle.pg_monitor.specs.Bursts.{TellsBurst};
 ghost use Rattle.pg_monitor.specs.Monitors.{desc_of};
-ghost use Rattle.pg_control.specs.Standing.{Stands};
+ghost use Rattle.pg_mon_control.specs.Standing.{Stands};
 ghost use Rattle.pg_monitor.specs.Turns.{Turned};
-ghost use Rattle.pg_control.specs.Plans.{turns_for};
+ghost use Rattle.pg_mon_control.specs.Plans.{turns_for};
 ghost use Rattle.pg_monitor.specs.Plans.{Followed};
-ghost use Rattle.pg_control.specs.Current.{Runs, change_to};
+ghost use Rattle.pg_mon_control.specs.Current.{Runs, change_to};
 
 use crate::monitor::Monitor;
 use crate::turning::{BurstTold, turn_often, turn_on, turn_once};
-use pg_control::{Guest, select};
 use pg_hw::Hardware;
+use pg_mon_control::{Guest, select};
 
 impl<'m> Monitor<'m> {
     /// One turn of a guest: its state goes one step on.

@@ -2,10 +2,10 @@
 
 ghost use Rattle.std.specs.Prelude.{◌≡◌, ◌≤◌, [], ◌∷◌, ◌++◌, None, IsSome, OnErr, IfOk, IfErr};
 ghost use Rattle.pg_monitor.specs.Monitors.{base_for, GrantsOne, SameMonitor};
-ghost use Rattle.pg_control.specs.Guests.{guest_in};
+ghost use Rattle.pg_mon_control.specs.Guests.{guest_in};
 
 use crate::monitor::Monitor;
-use pg_control::{GuestFault, hold, place};
+use pg_mon_control::{GuestFault, hold, place};
 use pg_word::Psw;
 
 impl<'m> Monitor<'m> {

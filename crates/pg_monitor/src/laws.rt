@@ -3,15 +3,15 @@
 ghost use Rattle.std.specs.Prelude.{◌≡◌, ℕ, ◌+◌, ◌-◌, ◌*◌, ◌<◌, ◌≤◌, true, false, List, length};
 ghost use Rattle.pg_ast.specs.declared.tree.Desc.{Desc};
 ghost use Rattle.pg_word.specs.declared.psw.Mode.TheVariants.{S, U};
-ghost use Rattle.pg_meaning.specs.States.{State};
-ghost use Rattle.pg_meaning.specs.Steps.{steps};
+ghost use Rattle.pg_lang_meaning.specs.States.{State};
+ghost use Rattle.pg_lang_meaning.specs.Steps.{steps};
 ghost use Rattle.pg_hw.specs.Bursts.{burst_length, one_if, untrapped_among};
 ghost use Rattle.pg_monitor.specs.declared.turning.BurstTold.{BurstTold};
 ghost use Rattle.pg_monitor.specs.Bursts.{TellsBurst};
-ghost use Rattle.pg_control.specs.declared.guest.Guest.{Guest};
-ghost use Rattle.pg_control.specs.Plans.{turns_for, turns_of};
+ghost use Rattle.pg_mon_control.specs.declared.guest.Guest.{Guest};
+ghost use Rattle.pg_mon_control.specs.Plans.{turns_for, turns_of};
 ghost use Rattle.pg_monitor.specs.Plans.{direct_of};
-ghost use Rattle.pg_control.specs.Schedules.{schedule, each_direct};
+ghost use Rattle.pg_mon_control.specs.Schedules.{schedule, each_direct};
 ghost use Rattle.pg_monitor.specs.WorkedSchedules.{ShorterLast, ChangesAtEachSlice, OneSliceAlone, EmptyLast, NoChangesInEmptyLast};
 
 /// A schedule gives each guest its turns, whatever the slice is, and of these as many are direct as its own steps say,

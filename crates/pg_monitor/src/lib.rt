@@ -18,7 +18,7 @@
 //!   when a guest is still.
 //! - `slicing`: turns of every guest, by slices, round after round. `laws`: what follows from the definitions alone.
 //!
-//! Guests, grants and what the hardware stands for are those of every control program, and stand in `pg_control`.
+//! Guests, grants and what the hardware stands for are those of every control program, and stand in `pg_mon_control`.
 //! Nothing here names a hardware but by its trait, nor rests on more of it than the clauses say.
 #![tactic(auto)]
 
@@ -34,6 +34,6 @@ mod slicing;
 mod turning;
 
 pub use monitor::Monitor;
-pub use pg_control::{Guest, GuestFault, KEPT_CELLS};
+pub use pg_mon_control::{Guest, GuestFault, KEPT_CELLS};
 pub use prepared::Prepared;
 pub use turning::BurstTold;

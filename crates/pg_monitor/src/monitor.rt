@@ -2,19 +2,19 @@
 
 ghost use Rattle.std.specs.Prelude.{◌≡◌, ℕ, ◌+◌, ◌<◌, ◌≤◌, [], length, None, Some, OnOk, OnErr, IfOk, slice_get};
 ghost use Rattle.pg_word.specs.Psw.{new_psw_cell, packed, power_on_psw};
-ghost use Rattle.pg_meaning.specs.States.{State, IsState};
+ghost use Rattle.pg_lang_meaning.specs.States.{State, IsState};
 ghost use Rattle.pg_hw.specs.Machinery.{poked_at};
 ghost use Rattle.pg_hw.specs.Serving.{IsServed};
 ghost use Rattle.pg_alloc.specs.Fit.{kept_cells};
-ghost use Rattle.pg_control.specs.Guests.{AreOwned};
-ghost use Rattle.pg_control.specs.Direct.{is_direct};
-ghost use Rattle.pg_control.specs.Standing.{Stands};
+ghost use Rattle.pg_mon_control.specs.Guests.{AreOwned};
+ghost use Rattle.pg_mon_control.specs.Direct.{is_direct};
+ghost use Rattle.pg_mon_control.specs.Standing.{Stands};
 
 use pg_alloc::Grants;
-use pg_control::{Guest, take_storage};
 use pg_hw::Hardware;
 use pg_interp::Frame;
-use pg_machine::Machine;
+use pg_mach_ready::Machine;
+use pg_mon_control::{Guest, take_storage};
 use pg_type::Accepted;
 use sqlite_items::Items;
 use std::alloc::{AllocError, Global};

@@ -2,17 +2,17 @@
 
 ghost use Rattle.std.specs.Prelude.{◌≡◌, ◌+◌, ◌<◌, ◌≤◌, ◌∷◌, [], replicate, IfOk, IfErr};
 ghost use Rattle.pg_word.specs.Psw.{new_psw_cell, packed, power_on_psw};
-ghost use Rattle.pg_meaning.specs.Steps.{power_on};
+ghost use Rattle.pg_lang_meaning.specs.Steps.{power_on};
 ghost use Rattle.pg_hw.specs.Machinery.{poked_at};
 ghost use Rattle.pg_hw.specs.Serving.{IsServed, blank};
 ghost use Rattle.pg_alloc.specs.Fit.{kept_cells};
-ghost use Rattle.pg_control.specs.Guests.{virtuals};
+ghost use Rattle.pg_mon_control.specs.Guests.{virtuals};
 ghost use Rattle.pg_monitor.specs.Monitors.{desc_of, IsReady, SameMonitor};
-ghost use Rattle.pg_control.specs.Standing.{Stands};
+ghost use Rattle.pg_mon_control.specs.Standing.{Stands};
 
 use crate::monitor::Monitor;
-use pg_control::{GuestFault, KEPT_CELLS, take_storage};
 use pg_hw::Hardware;
+use pg_mon_control::{GuestFault, KEPT_CELLS, take_storage};
 use pg_type::Accepted;
 use pg_word::Psw;
 use std::alloc::Global;

@@ -8,16 +8,16 @@ ghost use Rattle.pg_word.specs.Psw.{IsPsw};
 ghost use Rattle.pg_hw.specs.Machinery.{poked_at};
 ghost use Rattle.pg_hw.specs.Serving.{IsServed, IsServedPsw};
 ghost use Rattle.pg_routine.specs.Composing.{composed};
-ghost use Rattle.pg_control.specs.declared.guest.Guest.{Guest as Guests};
-ghost use Rattle.pg_control.specs.Current.{with_psw};
-ghost use Rattle.pg_control.specs.Guests.{virtual, virtuals};
+ghost use Rattle.pg_mon_control.specs.declared.guest.Guest.{Guest as Guests};
+ghost use Rattle.pg_mon_control.specs.Current.{with_psw};
+ghost use Rattle.pg_mon_control.specs.Guests.{virtual, virtuals};
 ghost use Rattle.pg_monitor.specs.Monitors.{desc_of, SameMonitor};
 ghost use Rattle.pg_monitor.specs.Reaching.{with_cell, under_psw, changed_at, entered_if_current};
-ghost use Rattle.pg_control.specs.Standing.{Stands};
+ghost use Rattle.pg_mon_control.specs.Standing.{Stands};
 
 use crate::monitor::Monitor;
-use pg_control::{Guest, enter, is_current};
 use pg_hw::Hardware;
+use pg_mon_control::{Guest, enter, is_current};
 use pg_word::Psw;
 
 impl<'m> Monitor<'m> {

@@ -7,10 +7,10 @@
 ghost use Rattle.std.specs.Prelude.{◌≡◌, ◌+◌, ◌<◌, ◌≤◌, ◌^◌, IfSome, length, Some, slice_get};
 ghost use Rattle.pg_type.specs.Accepting.{IsAccepted};
 ghost use Rattle.pg_hw.specs.Serving.{IsServed};
-ghost use Rattle.pg_control.specs.declared.guest.Guest.{Guest as Guests};
-ghost use Rattle.pg_control.specs.Current.{Runs};
-ghost use Rattle.pg_control.specs.Guests.{virtual};
-ghost use Rattle.pg_control.specs.Standing.{Stands};
+ghost use Rattle.pg_mon_control.specs.declared.guest.Guest.{Guest as Guests};
+ghost use Rattle.pg_mon_control.specs.Current.{Runs};
+ghost use Rattle.pg_mon_control.specs.Guests.{virtual};
+ghost use Rattle.pg_mon_control.specs.Standing.{Stands};
 ghost use Rattle.pg_monitor.specs.Current.{Went};
 ghost use Rattle.pg_monitor.specs.Monitors.{desc_of};
 ghost use Rattle.pg_monitor.specs.Settling.{TellsFirst, TellsSettled, first_of};
@@ -18,10 +18,10 @@ ghost use Rattle.pg_monitor.specs.Turns.{Turned};
 
 use crate::monitor::Monitor;
 use crate::turning::interpret;
-use pg_control::Guest;
 use pg_hw::{Settled, Settling};
 use pg_interp::Frame;
-use pg_machine::Machine;
+use pg_mach_ready::Machine;
+use pg_mon_control::Guest;
 use pg_word::{Mode, OLD_PSW_CELL, unpack};
 
 /// Some turns, `most` at most and one at least, as `turn_on` makes them; behind how many of them the guest was first still.

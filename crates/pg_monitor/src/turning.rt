@@ -9,22 +9,22 @@
 
 ghost use Rattle.std.specs.Prelude.{◌≡◌, ◌+◌, ◌<◌, ◌≤◌, ◌^◌, true, false};
 ghost use Rattle.pg_type.specs.Accepting.{IsAccepted};
-ghost use Rattle.pg_meaning.specs.Steps.{step};
+ghost use Rattle.pg_lang_meaning.specs.Steps.{step};
 ghost use Rattle.pg_hw.specs.Bursts.{traps};
 ghost use Rattle.pg_hw.specs.Stillness.{IsStill};
 ghost use Rattle.pg_hw.specs.Serving.{IsServed, IsServedPsw};
 ghost use Rattle.pg_hw.specs.Machinery.{loaded_with};
 ghost use Rattle.pg_routine.specs.Composing.{composed};
-ghost use Rattle.pg_control.specs.Guests.{virtual};
+ghost use Rattle.pg_mon_control.specs.Guests.{virtual};
 ghost use Rattle.pg_monitor.specs.Bursts.{TellsBurst};
-ghost use Rattle.pg_control.specs.Direct.{is_direct};
-ghost use Rattle.pg_control.specs.Current.{Holds, Runs};
+ghost use Rattle.pg_mon_control.specs.Direct.{is_direct};
+ghost use Rattle.pg_mon_control.specs.Current.{Holds, Runs};
 ghost use Rattle.pg_monitor.specs.Current.{Interpreted, Went};
 
-use pg_control::{Guest, enter};
 use pg_hw::Hardware;
 use pg_interp::Frame;
-use pg_machine::Machine;
+use pg_mach_ready::Machine;
+use pg_mon_control::{Guest, enter};
 use pg_routine::{Emulated, emulate_seen};
 use pg_word::{Mode, OLD_PSW_CELL, unpack};
 

@@ -13,7 +13,7 @@ use Rattle.pg_word.specs.declared.psw.Psw.{Psw as Psws}
 use Rattle.pg_word.specs.Shape.{IsShape}
 use Rattle.pg_word.specs.Sparse.{storage_of}
 use Rattle.pg_word.proofs.SparseLemmas.{length-storage_of}
-use Rattle.pg_token.specs.Words.{is_digit}
+use Rattle.pg_lang_token.specs.Words.{is_digit}
 use Rattle.pg_image.specs.Lines.{line_words, line_count, state_text}
 use Rattle.pg_cert.specs.declared.cert.Family.{Family}
 use Rattle.pg_cert.specs.declared.cert.Family.TheVariants.{Plain, Hybrid}
@@ -29,9 +29,9 @@ use Rattle.pg_cert.proofs.OneText.{is_graphic, graphic, split_joined, but_last-p
 use Rattle.pg_cert.proofs.Said.{said-line, text_ends, ends_once}
 use Rattle.pg_cert.proofs.StateText.{lines_of_state}
 use Rattle.pg_cert.proofs.TextLemmas.{lines_text-append}
-use Rattle.pg_drawn.specs.Drawn.{Drawn, drawn, listed, state_of}
-use Rattle.pg_drawn.proofs.RowsBack.{cells_before, cells_again, zeros_passed, rows_drawn, row_drawn}
-use Rattle.pg_drawn.proofs.DrawnLines.{sparse_of, drawn_lines}
+use Rattle.pg_cert_drawn.specs.Drawn.{Drawn, drawn, listed, state_of}
+use Rattle.pg_cert_drawn.proofs.RowsBack.{cells_before, cells_again, zeros_passed, rows_drawn, row_drawn}
+use Rattle.pg_cert_drawn.proofs.DrawnLines.{sparse_of, drawn_lines}
 use Rattle.pg_move.specs.declared.fault.SavedFault.{SavedFault}
 use Rattle.pg_move.specs.declared.fault.SavedFault.TheVariants as fault
 use Rattle.pg_move.specs.Texts.{SavedGuest, IsSaved, most_steps, first_text, steps_text, end_text, saved_text}

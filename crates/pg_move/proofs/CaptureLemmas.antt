@@ -7,16 +7,16 @@ use Rattle.std.proofs.lemmas.Option.{get_or_from_slice_get}
 use Rattle.pg_word.specs.declared.psw.Psw.{Psw}
 use Rattle.pg_word.specs.declared.sparse.Sparse.{Sparse}
 use Rattle.pg_word.specs.Sparse.{IsPastLast, storage_of}
-use Rattle.pg_meaning.specs.States.{State, shape_of}
+use Rattle.pg_lang_meaning.specs.States.{State, shape_of}
 use Rattle.pg_type.specs.Listed.{state_of}
 use Rattle.pg_ast.specs.declared.tree.Desc.{Desc}
-use Rattle.pg_control.specs.declared.guest.Guest.{Guest}
-use Rattle.pg_control.specs.Guests.{virtual}
-use Rattle.pg_control.specs.Standing.{Stands}
-use Rattle.pg_control.proofs.GuestLemmas.{Holds-of}
+use Rattle.pg_mon_control.specs.declared.guest.Guest.{Guest}
+use Rattle.pg_mon_control.specs.Guests.{virtual}
+use Rattle.pg_mon_control.specs.Standing.{Stands}
+use Rattle.pg_mon_control.proofs.GuestLemmas.{Holds-of}
 use Rattle.pg_move.specs.Texts.{most_steps, IsSaved}
-use Rattle.pg_drawn.specs.Drawn.{listed}
-use Rattle.pg_drawn.proofs.RowLemmas.{listed_until}
+use Rattle.pg_cert_drawn.specs.Drawn.{listed}
+use Rattle.pg_cert_drawn.proofs.RowLemmas.{listed_until}
 use Rattle.pg_move.proofs.StorageLemmas.{listed_again}
 
 listed_push : (at : ℕ) (words : List ℕ) (w : ℕ) → listed at (words ++ w ∷ []) ≡ listed at words ++ listed (at + length words) (w ∷ [])

@@ -7,7 +7,7 @@ use Rattle.pg_word.specs.Sparse.{IsCellList, address_at, storage_of}
 use Rattle.pg_word.proofs.SparseLemmas.{length-storage_of, listed_holds}
 use Rattle.pg_type.specs.Listed.{state_of}
 use Rattle.pg_word.specs.declared.psw.Psw.{Psw}
-use Rattle.pg_meaning.specs.States.{State}
+use Rattle.pg_lang_meaning.specs.States.{State}
 use Rattle.pg_image.specs.Lines.{size_text, psw_text, lines_before, line_count, state_text}
 use Rattle.pg_report.proofs.Texts.{pushed-three}
 use Rattle.pg_cert.specs.Texts.{state_lines, lines_text}

@@ -22,8 +22,8 @@ use Rattle.pg_cert.proofs.Said.{said_spelled}
 use Rattle.pg_cert.proofs.LineLemmas.{words_fit}
 use Rattle.pg_cert.proofs.TextLemmas.{lines_text-append}
 use Rattle.pg_cert.proofs.StateText.{lines_of_state}
-use Rattle.pg_drawn.specs.Drawn.{Drawn, drawn, listed, row_fits, with_row, state_of}
-use Rattle.pg_drawn.proofs.DrawnLines.{sparse_of, drawn_lines, IsDrawn, drawn_new, drawn_new-lines, row_is, row_on}
+use Rattle.pg_cert_drawn.specs.Drawn.{Drawn, drawn, listed, row_fits, with_row, state_of}
+use Rattle.pg_cert_drawn.proofs.DrawnLines.{sparse_of, drawn_lines, IsDrawn, drawn_new, drawn_new-lines, row_is, row_on}
 use Rattle.pg_move.specs.declared.fault.SavedFault.{SavedFault}
 use Rattle.pg_move.specs.declared.fault.SavedFault.TheVariants as fault
 use Rattle.pg_move.specs.Texts.{SavedGuest, IsSaved, most_steps, most_bytes, first_text, steps_text, end_text, saved_text}

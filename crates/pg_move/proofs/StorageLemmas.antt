@@ -5,8 +5,8 @@ use Rattle.std.proofs.lemmas.Grind.{same_number_lists}
 use Rattle.std.proofs.lemmas.List.Elements.{All-nil, All-cons, All-head, All-tail, All-set, All-replicate}
 use Rattle.pg_word.specs.Sparse.{IsCellList, AreWithin, storage_of}
 use Rattle.pg_word.proofs.SparseLemmas.{length-storage_of}
-use Rattle.pg_drawn.specs.Drawn.{listed}
-use Rattle.pg_drawn.proofs.RowLemmas.{listed_more, within_more, row_holds}
+use Rattle.pg_cert_drawn.specs.Drawn.{listed}
+use Rattle.pg_cert_drawn.proofs.RowLemmas.{listed_more, within_more, row_holds}
 
 -- the words of a storage whose listed words fit
 pub storage_fits : (w size : ℕ) (cells : List (ℕ × ℕ)) → All (λ cell. cell.1 < 2 ^ w) cells → 0 < 2 ^ w →

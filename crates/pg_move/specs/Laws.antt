@@ -3,12 +3,12 @@ use Rattle.std.specs.Prelude.{◌≡◌, ℕ, ◌≤◌, List, length, Some, sli
 use Rattle.pg_word.specs.Shape.{IsShape}
 use Rattle.pg_word.specs.declared.shape.Shape.{Shape}
 use Rattle.pg_ast.specs.declared.tree.Desc.{Desc}
-use Rattle.pg_meaning.specs.States.{State, IsState, shape_of}
+use Rattle.pg_lang_meaning.specs.States.{State, IsState, shape_of}
 use Rattle.pg_type.specs.Agreeing.{Agree}
 use Rattle.pg_hw.specs.Machinery.{Machinery}
-use Rattle.pg_control.specs.declared.guest.Guest.{Guest}
-use Rattle.pg_control.specs.Guests.{virtuals}
-use Rattle.pg_control.specs.Admitting.{Kept, StateTaken}
+use Rattle.pg_mon_control.specs.declared.guest.Guest.{Guest}
+use Rattle.pg_mon_control.specs.Guests.{virtuals}
+use Rattle.pg_mon_control.specs.Admitting.{Kept, StateTaken}
 use Rattle.pg_move.specs.Texts.{SavedGuest, IsSaved, saved_text, room_of}
 use Rattle.pg_move.specs.Reading.{saved_due}
 

@@ -6,7 +6,7 @@ use Rattle.pg_cert.specs.declared.line.Line.{Line}
 use Rattle.pg_cert.specs.declared.line.Line.TheVariants as line
 use Rattle.pg_cert.specs.Reading.{read_number, but_last, last_byte, part_at}
 use Rattle.pg_cert.specs.Parsing.{Said, Says, NoToken, NoForm, OtherVersion, parts_of, is_decimal, said}
-use Rattle.pg_drawn.specs.Drawn.{Drawn, drawn, with_row, state_of}
+use Rattle.pg_cert_drawn.specs.Drawn.{Drawn, drawn, with_row, state_of}
 use Rattle.pg_move.specs.declared.fault.SavedFault.{SavedFault}
 use Rattle.pg_move.specs.declared.fault.SavedFault.TheVariants as fault
 use Rattle.pg_move.specs.Texts.{SavedGuest, most_steps, most_bytes, first_text, steps_text}

@@ -1,7 +1,7 @@
 -- The values of the code as the definitions have them.
 use Rattle.std.specs.Prelude.{◌≡◌, ◌≢◌, Result, Ok, Err}
 use Rattle.pg_type.specs.Listed.{state_of}
-use Rattle.pg_drawn.specs.Drawn.{drawn_of}
+use Rattle.pg_cert_drawn.specs.Drawn.{drawn_of}
 use Rattle.pg_move.specs.declared.fault.SavedFault.{SavedFault}
 use Rattle.pg_move.specs.declared.fault.SavedFault.TheVariants.{Memory}
 use Rattle.pg_move.specs.declared.saved.Saved.{Saved}

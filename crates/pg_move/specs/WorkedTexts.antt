@@ -2,7 +2,7 @@
 use Rattle.std.specs.Prelude.{◌≡◌, ℕ, false, List, [], ◌∷◌, ◌++◌, replicate, codes, Err}
 use Rattle.pg_word.specs.declared.shape.Shape.{Shape}
 use Rattle.pg_word.specs.declared.psw.Mode.TheVariants.{S}
-use Rattle.pg_meaning.specs.States.{State}
+use Rattle.pg_lang_meaning.specs.States.{State}
 use Rattle.pg_move.specs.declared.fault.SavedFault.TheVariants.{Token, Grammar, Version}
 use Rattle.pg_move.specs.Texts.{saved_text}
 use Rattle.pg_move.specs.Reading.{saved_due}

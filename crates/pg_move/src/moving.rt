@@ -1,19 +1,19 @@
 //! Guests that are captured, and adopted.
 
 ghost use Rattle.std.specs.Prelude.{◌≡◌, ◌+◌, ◌<◌, ◌≤◌, length, None, Some, IsSome, OnOk, OnErr, IfOk, IfErr, slice_get};
-ghost use Rattle.pg_meaning.specs.States.{IsState, shape_of};
+ghost use Rattle.pg_lang_meaning.specs.States.{IsState, shape_of};
 ghost use Rattle.pg_hw.specs.Serving.{IsServed};
 ghost use Rattle.pg_type.specs.Listed.{state_of};
-ghost use Rattle.pg_control.specs.Guests.{virtual, virtuals};
-ghost use Rattle.pg_control.specs.Standing.{Stands};
+ghost use Rattle.pg_mon_control.specs.Guests.{virtual, virtuals};
+ghost use Rattle.pg_mon_control.specs.Standing.{Stands};
 ghost use Rattle.pg_monitor.specs.Monitors.{desc_of, base_for, Admits, SameMonitor};
 ghost use Rattle.pg_move.specs.Texts.{IsSaved, most_steps};
 ghost use Rattle.pg_move.specs.Seen.{guest_of};
 
 use crate::saved::Saved;
-use pg_control::{Guest, GuestFault};
-use pg_drawn::drawn;
+use pg_cert_drawn::drawn;
 use pg_hw::Hardware;
+use pg_mon_control::{Guest, GuestFault};
 use pg_monitor::Monitor;
 use pg_word::Sparse;
 use std::alloc::{AllocError, Global};

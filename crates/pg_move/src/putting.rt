@@ -4,20 +4,20 @@
 
 ghost use Rattle.std.specs.Prelude.{◌≡◌, ◌+◌, ◌*◌, ◌^◌, ◌<◌, ◌≤◌, ◌++◌, length, All, IsSomeAnd, slice_get, vec_len, vec_capacity};
 ghost use Rattle.pg_word.specs.Shape.{IsShape};
-ghost use Rattle.pg_meaning.specs.States.{shape_of};
+ghost use Rattle.pg_lang_meaning.specs.States.{shape_of};
 ghost use Rattle.pg_image.specs.Lines.{line_cells, line_count, line_words, lines_before, cells_shown, state_text};
 ghost use Rattle.pg_report.specs.Spans.{span};
-ghost use Rattle.pg_control.specs.Current.{Holds};
-ghost use Rattle.pg_control.specs.Guests.{virtual, virtuals};
-ghost use Rattle.pg_control.specs.Standing.{Stands};
+ghost use Rattle.pg_mon_control.specs.Current.{Holds};
+ghost use Rattle.pg_mon_control.specs.Guests.{virtual, virtuals};
+ghost use Rattle.pg_mon_control.specs.Standing.{Stands};
 ghost use Rattle.pg_monitor.specs.Monitors.{desc_of};
 ghost use Rattle.pg_move.specs.Texts.{end_text, most_steps, row_room, room_of, saved_text};
 
 use crate::lines::{first_line, steps_line};
-use pg_control::Guest;
 use pg_hw::Hardware;
 use pg_image::{LINE_CELLS, psw_line, size_line};
-use pg_machine::Machine;
+use pg_mach_ready::Machine;
+use pg_mon_control::Guest;
 use pg_monitor::Monitor;
 use pg_report::row_line;
 use pg_word::Shape;

@@ -13,7 +13,7 @@ use crate::lines::{are_steps, first_line, is_version, number_of_steps};
 use crate::saved::Saved;
 use pg_cert::reading::is_same;
 use pg_cert::{Line, LineFault, parse_line};
-use pg_drawn::{drawn, with_row};
+use pg_cert_drawn::{drawn, with_row};
 use pg_word::{Psw, Shape, Sparse};
 use std::alloc::Global;
 

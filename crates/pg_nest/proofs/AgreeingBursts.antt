@@ -5,8 +5,8 @@ use Rattle.std.proofs.Math.Logic.{∥∥₁_elim, ∥∥₁_map}
 use Rattle.pg_word.specs.declared.psw.Psw.{Psw}
 use Rattle.pg_word.specs.Psw.{IsPsw}
 use Rattle.pg_ast.specs.declared.tree.Desc.{Desc}
-use Rattle.pg_meaning.specs.States.{State, window}
-use Rattle.pg_meaning.specs.Steps.{step, steps, ends_in_trap}
+use Rattle.pg_lang_meaning.specs.States.{State, window}
+use Rattle.pg_lang_meaning.specs.Steps.{step, steps, ends_in_trap}
 use Rattle.pg_type.specs.Agreeing.{Agree}
 use Rattle.pg_type.proofs.AgreeLemmas.{agree-ending, agree-step, agree-steps}
 use Rattle.pg_hw.specs.declared.counts.Counts.{Counts}

@@ -6,10 +6,10 @@ use Rattle.pg_word.specs.declared.psw.Psw.{Psw}
 use Rattle.pg_word.specs.declared.psw.Mode.{Mode}
 use Rattle.pg_word.specs.declared.psw.Mode.TheVariants.{S, U}
 use Rattle.pg_ast.specs.declared.tree.Desc.{Desc}
-use Rattle.pg_meaning.specs.States.{State, IsState, window}
-use Rattle.pg_meaning.specs.Steps.{step, steps, ending, ends_in_trap}
-use Rattle.pg_valid.specs.Valid.{IsValid}
-use Rattle.pg_valid.proofs.StepSound.{steps-state, steps-length}
+use Rattle.pg_lang_meaning.specs.States.{State, IsState, window}
+use Rattle.pg_lang_meaning.specs.Steps.{step, steps, ending, ends_in_trap}
+use Rattle.pg_lang_valid.specs.Valid.{IsValid}
+use Rattle.pg_lang_valid.proofs.StepSound.{steps-state, steps-length}
 use Rattle.pg_type.specs.Accepting.{IsAccepted, IsHybridAccepted}
 use Rattle.pg_type.proofs.AlikeSteps.{user_traps_alike}
 use Rattle.pg_type.proofs.KindLaws.{accepted-hybrid}
@@ -19,10 +19,10 @@ use Rattle.pg_hw.proofs.BurstLaws.{one_if-most}
 use Rattle.pg_routine.specs.Composing.{composed}
 use Rattle.pg_routine.specs.Granting.{guest_at}
 use Rattle.pg_routine.proofs.GrantLaws.{composed-window}
-use Rattle.pg_control.specs.Counting.{BottomTurns}
-use Rattle.pg_control.specs.Direct.{is_direct, direct_among}
-use Rattle.pg_control.proofs.BaseLemmas.{direct-anywhere}
-use Rattle.pg_control.proofs.StateLemmas.{composed-fits}
+use Rattle.pg_mon_control.specs.Counting.{BottomTurns}
+use Rattle.pg_mon_control.specs.Direct.{is_direct, direct_among}
+use Rattle.pg_mon_control.proofs.BaseLemmas.{direct-anywhere}
+use Rattle.pg_mon_control.proofs.StateLemmas.{composed-fits}
 
 -- a state under the PSW composed of its own for a grant of all of its cells
 abbrev clipped : State → State

@@ -4,9 +4,9 @@ use Rattle.std.proofs.Props.{props}
 use Rattle.std.proofs.Math.Logic.{∥∥₁_elim, ∥∥₁_map}
 use Rattle.pg_word.specs.declared.psw.Psw.{Psw}
 use Rattle.pg_ast.specs.declared.tree.Desc.{Desc}
-use Rattle.pg_machine.specs.declared.machine.Machine.{Machine}
-use Rattle.pg_meaning.specs.States.{State, IsState}
-use Rattle.pg_meaning.specs.Steps.{step, steps}
+use Rattle.pg_mach_ready.specs.declared.machine.Machine.{Machine}
+use Rattle.pg_lang_meaning.specs.States.{State, IsState}
+use Rattle.pg_lang_meaning.specs.Steps.{step, steps}
 use Rattle.pg_type.specs.Agreeing.{Agree}
 use Rattle.pg_alloc.specs.Fit.{kept_cells}
 use Rattle.pg_hw.specs.declared.counts.Counts.{Counts}
@@ -17,10 +17,10 @@ use Rattle.pg_hw.specs.Running.{after_run}
 use Rattle.pg_hw.specs.Serving.{IsServed, blank}
 use Rattle.pg_hw.proofs.BurstLaws.{steps-one, burst_length-one, untrapped_among-one}
 use Rattle.pg_routine.specs.Granting.{guest_at}
-use Rattle.pg_control.specs.declared.guest.Guest.{Guest}
-use Rattle.pg_control.specs.Current.{with_psw}
-use Rattle.pg_control.specs.Standing.{Stands}
-use Rattle.pg_control.proofs.DirectLemmas.{Holds-length}
+use Rattle.pg_mon_control.specs.declared.guest.Guest.{Guest}
+use Rattle.pg_mon_control.specs.Current.{with_psw}
+use Rattle.pg_mon_control.specs.Standing.{Stands}
+use Rattle.pg_mon_control.proofs.DirectLemmas.{Holds-length}
 use Rattle.pg_monitor.specs.declared.monitor.Monitor.{Monitor}
 use Rattle.pg_monitor.specs.Monitors.{desc_of}
 use Rattle.pg_nest.specs.Presenting.{first_guest, first_state, Presents, PresentsAny, IsMonitorOf}

@@ -5,9 +5,9 @@ use Rattle.std.proofs.lemmas.List.Elements.{All-nil, All-cons}
 use Rattle.pg_word.specs.declared.psw.Psw.{Psw}
 use Rattle.pg_word.specs.Psw.{power_on_psw}
 use Rattle.pg_ast.specs.declared.tree.Desc.{Desc}
-use Rattle.pg_meaning.specs.States.{State, IsState}
-use Rattle.pg_meaning.specs.Steps.{power_on, steps}
-use Rattle.pg_valid.specs.Valid.{IsValid}
+use Rattle.pg_lang_meaning.specs.States.{State, IsState}
+use Rattle.pg_lang_meaning.specs.Steps.{power_on, steps}
+use Rattle.pg_lang_valid.specs.Valid.{IsValid}
 use Rattle.pg_type.specs.Accepting.{IsAccepted}
 use Rattle.pg_alloc.specs.Fit.{kept_cells}
 use Rattle.pg_hw.specs.Bursts.{BottomRises}
@@ -15,15 +15,15 @@ use Rattle.pg_hw.specs.Machinery.{Machinery}
 use Rattle.pg_hw.specs.Serving.{blank}
 use Rattle.pg_hw.proofs.ServingLaws.{blank-power_on}
 use Rattle.pg_routine.proofs.GrantLaws.{guest-length}
-use Rattle.pg_control.specs.declared.guest.Guest.{Guest}
-use Rattle.pg_control.specs.Counting.{BottomTurns}
-use Rattle.pg_control.specs.Current.{Holds, with_psw}
-use Rattle.pg_control.specs.Direct.{direct_among}
-use Rattle.pg_control.specs.Guests.{virtual, virtuals, IsGrant, AreApart, AreDisjoint, grants_of, guest_in}
-use Rattle.pg_control.specs.Plans.{moved}
-use Rattle.pg_control.specs.Standing.{Stands}
-use Rattle.pg_control.proofs.DirectLemmas.{Holds-length, Holds-within}
-use Rattle.pg_control.proofs.GuestLemmas.{Holds-of}
+use Rattle.pg_mon_control.specs.declared.guest.Guest.{Guest}
+use Rattle.pg_mon_control.specs.Counting.{BottomTurns}
+use Rattle.pg_mon_control.specs.Current.{Holds, with_psw}
+use Rattle.pg_mon_control.specs.Direct.{direct_among}
+use Rattle.pg_mon_control.specs.Guests.{virtual, virtuals, IsGrant, AreApart, AreDisjoint, grants_of, guest_in}
+use Rattle.pg_mon_control.specs.Plans.{moved}
+use Rattle.pg_mon_control.specs.Standing.{Stands}
+use Rattle.pg_mon_control.proofs.DirectLemmas.{Holds-length, Holds-within}
+use Rattle.pg_mon_control.proofs.GuestLemmas.{Holds-of}
 use Rattle.pg_monitor.specs.Reaching.{with_cell, under_psw, changed_at}
 use Rattle.pg_monitor.specs.Turns.{Turned}
 use Rattle.pg_monitor.proofs.ReadyLemmas.{dark, dark-is}

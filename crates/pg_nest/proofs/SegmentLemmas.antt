@@ -3,9 +3,9 @@ use Rattle.std.proofs.Common.{◌≡◌, ℕ, zero, suc, ◌+◌, ◌-◌, ◌<�
 use Rattle.pg_word.specs.declared.psw.Mode.{Mode}
 use Rattle.pg_word.specs.declared.psw.Mode.TheVariants.{S, U}
 use Rattle.pg_ast.specs.declared.tree.Desc.{Desc}
-use Rattle.pg_meaning.specs.States.{State}
-use Rattle.pg_meaning.specs.Steps.{steps}
-use Rattle.pg_meaning.proofs.StepLaws.{steps-add}
+use Rattle.pg_lang_meaning.specs.States.{State}
+use Rattle.pg_lang_meaning.specs.Steps.{steps}
+use Rattle.pg_lang_meaning.proofs.StepLaws.{steps-add}
 use Rattle.pg_hw.specs.Bursts.{one_if, untrapped_among, burst_length}
 use Rattle.pg_hw.specs.Running.{InBurst}
 use Rattle.pg_hw.proofs.BurstLaws.{untrapped_among-add}

@@ -3,8 +3,8 @@ use Rattle.std.specs.Prelude.{◌≡◌, ℕ, ◌+◌, ◌-◌, ◌≤◌, true,
 use Rattle.pg_word.specs.declared.psw.Mode.{Mode}
 use Rattle.pg_word.specs.declared.psw.Mode.TheVariants.{S, U}
 use Rattle.pg_ast.specs.declared.tree.Desc.{Desc}
-use Rattle.pg_meaning.specs.States.{State}
-use Rattle.pg_meaning.specs.Steps.{steps}
+use Rattle.pg_lang_meaning.specs.States.{State}
+use Rattle.pg_lang_meaning.specs.Steps.{steps}
 use Rattle.pg_hw.specs.Bursts.{one_if, untrapped_among, burst_length}
 use Rattle.pg_hw.specs.Machinery.{Machinery}
 use Rattle.pg_hw.specs.Running.{Ran}

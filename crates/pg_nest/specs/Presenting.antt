@@ -4,12 +4,12 @@ use Rattle.std.proofs.Props.{props}
 use Rattle.pg_word.specs.declared.psw.Psw.{Psw}
 use Rattle.pg_word.specs.Psw.{power_on_psw}
 use Rattle.pg_ast.specs.declared.tree.Desc.{Desc}
-use Rattle.pg_meaning.specs.States.{State}
+use Rattle.pg_lang_meaning.specs.States.{State}
 use Rattle.pg_alloc.specs.Fit.{kept_cells}
-use Rattle.pg_control.specs.declared.guest.Guest.{Guest}
-use Rattle.pg_control.specs.Guests.{virtual, guest_in}
-use Rattle.pg_control.specs.Current.{Holds}
-use Rattle.pg_control.specs.Standing.{IsUnder}
+use Rattle.pg_mon_control.specs.declared.guest.Guest.{Guest}
+use Rattle.pg_mon_control.specs.Guests.{virtual, guest_in}
+use Rattle.pg_mon_control.specs.Current.{Holds}
+use Rattle.pg_mon_control.specs.Standing.{IsUnder}
 use Rattle.pg_monitor.specs.declared.monitor.Monitor.{Monitor}
 use Rattle.pg_monitor.specs.Monitors.{desc_of}
 

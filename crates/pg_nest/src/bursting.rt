@@ -6,7 +6,7 @@
 //! as many steps as were asked for are done.
 
 ghost use Rattle.std.specs.Prelude.{◌≡◌, ◌≤◌, length};
-ghost use Rattle.pg_meaning.specs.Steps.{steps};
+ghost use Rattle.pg_lang_meaning.specs.Steps.{steps};
 ghost use Rattle.pg_hw.specs.Bursts.{burst_length, untrapped_among, BottomRises};
 ghost use Rattle.pg_hw.specs.Serving.{IsServed};
 ghost use Rattle.pg_monitor.specs.Monitors.{desc_of};

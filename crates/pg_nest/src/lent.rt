@@ -6,7 +6,7 @@
 ghost use Rattle.std.specs.Prelude.{◌≡◌};
 
 use pg_hw::{Counts, Hardware};
-use pg_machine::Machine;
+use pg_mach_ready::Machine;
 use pg_word::Psw;
 use std::alloc::AllocError;
 

@@ -9,7 +9,7 @@
 
 ghost use Rattle.std.specs.Prelude.{◌≡◌, ℕ, ◌+◌, ◌-◌, ◌<◌, ◌≤◌, length, None, Some};
 ghost use Rattle.pg_word.specs.Psw.{power_on_psw};
-ghost use Rattle.pg_meaning.specs.States.{IsState};
+ghost use Rattle.pg_lang_meaning.specs.States.{IsState};
 ghost use Rattle.pg_hw.specs.Tallies.{no_counts};
 ghost use Rattle.pg_hw.specs.Serving.{IsServed};
 ghost use Rattle.pg_alloc.specs.Fit.{kept_cells};
@@ -20,7 +20,7 @@ ghost use Rattle.pg_type.specs.Agreeing.{Agree};
 
 use crate::bursting::burst;
 use pg_hw::{Counts, Hardware, raised};
-use pg_machine::Machine;
+use pg_mach_ready::Machine;
 use pg_monitor::{GuestFault, KEPT_CELLS, Monitor};
 use pg_type::Accepted;
 use pg_word::Psw;

@@ -2,7 +2,7 @@
 use Rattle.std.proofs.Common.{◌≡◌, ℕ, List, length, Result, Ok, Err, ◌∙◌, ap}
 use Rattle.std.specs.Prelude.{OnOk}
 use Rattle.pg_ast.specs.declared.tree.Desc.{Desc}
-use Rattle.pg_meaning.specs.Steps.{steps, power_on, bare}
+use Rattle.pg_lang_meaning.specs.Steps.{steps, power_on, bare}
 use Rattle.pg_hw.specs.Machinery.{Machinery}
 use Rattle.pg_hw.specs.Running.{Ran}
 

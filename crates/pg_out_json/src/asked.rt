@@ -2,15 +2,15 @@
 //!
 //! The guest's machine is the whole hardware that is looked at here. Under a monitor it lies behind the cells that the monitor
 //! keeps, and the hardware runs it in user mode, under a program status word that is composed of the guest's own. Over the same
-//! window the step ends in the same way wherever that lies, so the interpreter is asked at cell 0, as `pg_traced` asks it.
+//! window the step ends in the same way wherever that lies, so the interpreter is asked at cell 0, as `pg_out_steps` asks it.
 
 ghost use Rattle.std.specs.Prelude.{◌≡◌, length};
-ghost use Rattle.pg_meaning.specs.States.{IsState};
+ghost use Rattle.pg_lang_meaning.specs.States.{IsState};
 ghost use Rattle.pg_routine.specs.Composing.{composed};
 
 use pg_hw::Hardware;
 use pg_interp::{Cells, Ended, Frame, step_in};
-use pg_machine::Machine;
+use pg_mach_ready::Machine;
 use pg_routine::compose;
 use pg_word::{Cause, Psw, window_len};
 
@@ -26,7 +26,7 @@ impl<'h, H: Hardware> Drop for Window<'h, H> {
 }
 
 impl<'h, H: Hardware> Cells for Window<'h, H> {
-    ghost use Rattle.pg_meaning.specs.States.{window};
+    ghost use Rattle.pg_lang_meaning.specs.States.{window};
 
     ghost window = { λ w. window (H.machinery w.hw.now).state };
 

@@ -1,8 +1,8 @@
 //! Counts of steps. Each error is want of memory.
 
 use crate::value::{Text, push, push_number, push_string};
-use pg_machine::Machine;
-use pg_traced::{Monitor, Tally};
+use pg_mach_ready::Machine;
+use pg_out_steps::{Monitor, Tally};
 use std::alloc::AllocError;
 
 /// Pushes the counts of a run: of the instructions that were met, of steps that fetched none, of traps by cause, of all steps, and

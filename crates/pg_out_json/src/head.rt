@@ -1,7 +1,7 @@
 //! How a text begins. The error is want of memory.
 
 use crate::value::{Text, push, push_flag, push_number, push_string};
-use pg_machine::Machine;
+use pg_mach_ready::Machine;
 use std::alloc::AllocError;
 
 /// The number of the form. One that a reader of this form would read wrongly has another.

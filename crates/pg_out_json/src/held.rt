@@ -6,8 +6,8 @@ use crate::state::{push_begun, push_cell, push_ended};
 use crate::value::Text;
 use pg_edge::Sink;
 use pg_hw::Hardware;
-use pg_machine::Machine;
-use pg_traced::TraceFault;
+use pg_mach_ready::Machine;
+use pg_out_steps::TraceFault;
 use std::alloc::AllocError;
 
 /// How many bytes of a state are held before they are put.

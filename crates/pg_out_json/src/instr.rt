@@ -5,7 +5,7 @@ use crate::source::Source;
 use crate::touched::{Parts, touches_of};
 use crate::value::{Text, push, push_flag, push_number, push_string};
 use pg_asm::{LetterField, fields_of};
-use pg_machine::Machine;
+use pg_mach_ready::Machine;
 use std::alloc::{AllocError, Global};
 
 /// Pushes an instruction of a machine, up to its findings: `{"name":..,"findings":[`. Nothing is pushed of a number that it has

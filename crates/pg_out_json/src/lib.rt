@@ -11,7 +11,7 @@
 //! - `run`: a run from its image on. `turn`: a step. `turns`: many steps, in `pieces`. `asked`: what the hardware of a monitor does.
 //!   `counts`: counts of steps. `held`: the state that a hardware holds.
 //!
-//! The texts rest on no definition but the grammar of JSON: what is told is what `pg_explained` and `pg_traced` say, and rows of tests
+//! The texts rest on no definition but the grammar of JSON: what is told is what `pg_out_pair` and `pg_out_steps` say, and rows of tests
 //! hold it beside their texts. Proved is that nothing here fails but for want of memory, and that a run goes on as it would unwatched.
 #![tactic(auto)]
 

@@ -2,8 +2,8 @@
 
 ghost use Rattle.std.specs.Prelude.{◌≡◌, ◌^◌, ◌<◌, ◌≤◌, length, All, OnOk};
 ghost use Rattle.pg_ast.specs.declared.tree.Desc.{Desc};
-ghost use Rattle.pg_meaning.specs.Steps.{bare};
-ghost use Rattle.pg_valid.specs.Valid.{IsValid};
+ghost use Rattle.pg_lang_meaning.specs.Steps.{bare};
+ghost use Rattle.pg_lang_valid.specs.Valid.{IsValid};
 
 use crate::counts::push_tally;
 use crate::held::put_held;
@@ -11,8 +11,8 @@ use crate::turns::put_turns;
 use crate::value::{Text, push};
 use pg_edge::Sink;
 use pg_hw::{Hardware, power_on};
-use pg_machine::Machine;
-use pg_traced::{Monitor, Tally, TraceFault};
+use pg_mach_ready::Machine;
+use pg_out_steps::{Monitor, Tally, TraceFault};
 use std::alloc::Global;
 
 /// Switches a hardware on with an image, all of whose cells are a word of the machine, runs it for `n` steps, less than 2^32, and puts

@@ -1,7 +1,7 @@
 //! States. Each error is want of memory.
 
 use crate::value::{Text, push, push_number, push_word};
-use pg_machine::Machine;
+use pg_mach_ready::Machine;
 use pg_word::{Mode, Psw, Sparse};
 use std::alloc::AllocError;
 

@@ -1,7 +1,7 @@
 //! What a body reads and sets of the mode and of the window.
 
+use pg_lang_token::{Sign, Tok};
 use pg_text::{TextFault, tokens};
-use pg_token::{Sign, Tok};
 use std::alloc::{AllocError, Global};
 
 /// Some of the mode, the relocation and the bound.

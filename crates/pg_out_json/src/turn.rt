@@ -4,9 +4,9 @@ use crate::state::push_psw;
 use crate::value::{Text, push, push_number, push_string, push_word};
 use pg_asm::{decode, fields_of};
 use pg_interp::Write;
-use pg_machine::Machine;
+use pg_mach_ready::Machine;
+use pg_out_steps::{Handling, Stepped};
 use pg_routine::compose;
-use pg_traced::{Handling, Stepped};
 use pg_word::{Cause, Psw};
 use std::alloc::{AllocError, Global};
 

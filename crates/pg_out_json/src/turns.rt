@@ -1,10 +1,10 @@
 //! Many steps, those that are told in pieces.
 
 ghost use Rattle.std.specs.Prelude.{◌≡◌, ◌^◌, ◌<◌, IfOk, OnOk};
-ghost use Rattle.pg_meaning.specs.States.{IsState};
+ghost use Rattle.pg_lang_meaning.specs.States.{IsState};
 ghost use Rattle.pg_hw.specs.Serving.{IsServed};
 ghost use Rattle.pg_hw.specs.Running.{Ran};
-ghost use Rattle.pg_traced.specs.Counting.{IsTally};
+ghost use Rattle.pg_out_steps.specs.Counting.{IsTally};
 
 use crate::asked::asked_cause;
 use crate::held::put_held;
@@ -14,8 +14,8 @@ use crate::value::{Text, push, push_number};
 use pg_edge::Sink;
 use pg_hw::Hardware;
 use pg_interp::Frame;
-use pg_machine::Machine;
-use pg_traced::{Monitor, Tally, TraceFault, Tracer};
+use pg_mach_ready::Machine;
+use pg_out_steps::{Monitor, Tally, TraceFault, Tracer};
 use pg_word::{Cause, Mode};
 use std::alloc::Global;
 

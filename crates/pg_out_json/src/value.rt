@@ -1,6 +1,6 @@
 //! Values, pushed at the end of a text. Each error is want of memory.
 
-use pg_machine::Machine;
+use pg_mach_ready::Machine;
 use pg_text::{dec, hex_word};
 use std::alloc::AllocError;
 

@@ -6,7 +6,7 @@ use Rattle.std.proofs.lemmas.Slice.Eq.{bytes_eq-Decides}
 use Rattle.pg_ast.specs.declared.tree.Desc.{Desc}
 use Rattle.pg_ast.specs.Tokens.{tokens_of}
 use Rattle.pg_text.specs.Cutting.{tokens_in}
-use Rattle.pg_print.specs.Layout.{printed}
+use Rattle.pg_lang_print.specs.Layout.{printed}
 use Rattle.pg_read.specs.Answer.{IsAnswer}
 use Rattle.pg_read.specs.declared.fault.DescFault.{DescFault}
 use Rattle.pg_read.specs.declared.fault.DescFault.TheVariants.{Memory}

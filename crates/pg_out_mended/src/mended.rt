@@ -3,13 +3,13 @@
 ghost use Rattle.std.specs.Prelude.{◌≡◌, ◌≢◌, ◌↔◌, false, bytes_eq, Some, Ok, IsTrue, IfOk};
 ghost use Rattle.pg_ast.specs.Tokens.{tokens_of};
 ghost use Rattle.pg_text.specs.Cutting.{tokens_in};
-ghost use Rattle.pg_print.specs.Layout.{printed};
+ghost use Rattle.pg_lang_print.specs.Layout.{printed};
 ghost use Rattle.pg_read.specs.Answer.{IsAnswer};
 ghost use Rattle.pg_out_mended.specs.Texts.{text_with_guards, CannotKeep};
 
 use crate::putting::with_guards;
 use pg_ast::Desc;
-use pg_print::print;
+use pg_lang_print::print;
 use pg_read::{DescFault, read_desc};
 use std::alloc::{AllocError, Global};
 

@@ -3,8 +3,8 @@
 ghost use Rattle.std.specs.Prelude.{◌≡◌, ◌++◌, false, OnOk, IfOk};
 ghost use Rattle.pg_out_mended.specs.Places.{is_pattern, place_here, body_places, chosen};
 
+use pg_lang_token::Tok;
 use pg_text::Span;
-use pg_token::Tok;
 use std::alloc::{AllocError, Global};
 
 /// Whether a token is a pattern.

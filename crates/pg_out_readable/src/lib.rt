@@ -1,6 +1,6 @@
 //! Two states that show a kind, laid out for a reader.
 //!
-//! The pairs that are saved are as small as they go (`pg_small`): an instruction may be its own operand there, and the cell that it
+//! The pairs that are saved are as small as they go (`pg_cert_small`): an instruction may be its own operand there, and the cell that it
 //! changes the one that it stands in. `readable` looks for two others, of few cells, in which the word of the instruction, each
 //! operand, and the cells 0 and 1 of the storage, where a trap stores and loads status words, are different cells. They are tried by
 //! `pg_replay`, which is exact, so nothing rests on how they are found.

@@ -14,7 +14,7 @@ use crate::frame::{Frame, PLACES, Place, frame_of};
 use crate::touched::word_at;
 use crate::trying::{Aim, Plan, ReadablePair, pair_of, score};
 use crate::words::{CELLS, Values, Words, counted, values_of, word_of};
-use pg_machine::Machine;
+use pg_mach_ready::Machine;
 use pg_type::Kind;
 use pg_word::{Mode, Sparse};
 use std::alloc::{AllocError, Global};

@@ -4,11 +4,11 @@
 //! what is noted: it chooses among states that are judged without it.
 
 ghost use Rattle.std.specs.Prelude.{◌≡◌, ℕ, ◌+◌, ◌<◌, ◌^◌, slice_get};
-ghost use Rattle.pg_meaning.specs.States.{IsState, window, window_length};
+ghost use Rattle.pg_lang_meaning.specs.States.{IsState, window, window_length};
 ghost use Rattle.pg_type.specs.Listed.{state_of};
 
 use pg_interp::{Cells, Outcome, execute};
-use pg_machine::Machine;
+use pg_mach_ready::Machine;
 use pg_word::{NEW_PSW_CELL, OLD_PSW_CELL, Sparse, window_len};
 use std::cell::RefCell;
 
@@ -53,7 +53,7 @@ fn bit(a: u32) -> u64 {
 }
 
 impl Cells for Noting<'_> {
-    ghost use Rattle.pg_meaning.specs.States.{window};
+    ghost use Rattle.pg_lang_meaning.specs.States.{window};
     ghost use Rattle.pg_type.specs.Listed.{state_of};
 
     ghost window = { λ n. window (state_of n.state.now) };

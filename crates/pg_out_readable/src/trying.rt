@@ -2,15 +2,15 @@
 
 ghost use Rattle.std.specs.Prelude.{◌≡◌, ◌+◌, ◌<◌, ◌≤◌, IsTrue, IfOk, IfSome, length, slice_get, Some};
 ghost use Rattle.pg_ast.specs.declared.tree.Instr.{Instr};
-ghost use Rattle.pg_meaning.specs.States.{IsState};
+ghost use Rattle.pg_lang_meaning.specs.States.{IsState};
 ghost use Rattle.pg_type.specs.Listed.{state_of};
 ghost use Rattle.pg_out_readable.specs.Readable.{IsPlain, IsReadable};
 
 use crate::frame::{Extent, Frame};
 use crate::touched::touched;
 use crate::words::{CELLS, Words};
-use pg_machine::Machine;
-use pg_pairs::placed;
+use pg_mach_pairs::placed;
+use pg_mach_ready::Machine;
 use pg_replay::replay;
 use pg_type::Kind;
 use pg_word::{Psw, Sparse, window_len};

@@ -8,12 +8,12 @@ use Rattle.pg_edge.proofs.PutsLaws.{Adds-append}
 use Rattle.pg_hw.specs.Machinery.{Machinery}
 use Rattle.pg_hw.specs.Running.{Ran}
 use Rattle.pg_interp.specs.declared.effect.Write.{Write}
-use Rattle.pg_meaning.specs.States.{State}
-use Rattle.pg_meaning.specs.Steps.{bare, power_on, steps}
-use Rattle.pg_traced.specs.declared.handling.Monitor.{Monitor}
-use Rattle.pg_traced.specs.declared.stepped.Stepped.{Stepped}
-use Rattle.pg_traced.specs.Handling.{handling_under}
-use Rattle.pg_traced.specs.Tells.{Tells}
+use Rattle.pg_lang_meaning.specs.States.{State}
+use Rattle.pg_lang_meaning.specs.Steps.{bare, power_on, steps}
+use Rattle.pg_out_steps.specs.declared.handling.Monitor.{Monitor}
+use Rattle.pg_out_steps.specs.declared.stepped.Stepped.{Stepped}
+use Rattle.pg_out_steps.specs.Handling.{handling_under}
+use Rattle.pg_out_steps.specs.Tells.{Tells}
 use Rattle.pg_out_vcd.specs.declared.sample.Sample.{Sample}
 use Rattle.pg_out_vcd.specs.Dump.{dump_text, end_text, head_text, last_sample, sample_at_end, sample_of, steps_text}
 use Rattle.pg_out_vcd.specs.Values.{bits_text, sample_text, signals_of}

@@ -4,12 +4,12 @@ use Rattle.std.specs.Fmt.{decimal}
 use Rattle.pg_word.specs.declared.psw.Psw.{Psw}
 use Rattle.pg_ast.specs.declared.tree.Desc.{Desc}
 use Rattle.pg_interp.specs.Outcomes.{number_at}
-use Rattle.pg_meaning.specs.States.{State, window}
-use Rattle.pg_meaning.specs.Steps.{ending, steps}
-use Rattle.pg_traced.specs.declared.handling.Monitor.{Monitor}
-use Rattle.pg_traced.specs.Handling.{handling_under}
-use Rattle.pg_traced.specs.Lines.{name_at}
-use Rattle.pg_traced.specs.Tells.{cause_of}
+use Rattle.pg_lang_meaning.specs.States.{State, window}
+use Rattle.pg_lang_meaning.specs.Steps.{ending, steps}
+use Rattle.pg_out_steps.specs.declared.handling.Monitor.{Monitor}
+use Rattle.pg_out_steps.specs.Handling.{handling_under}
+use Rattle.pg_out_steps.specs.Lines.{name_at}
+use Rattle.pg_out_steps.specs.Tells.{cause_of}
 use Rattle.pg_out_vcd.specs.declared.sample.Sample.{Sample}
 use Rattle.pg_out_vcd.specs.declared.signal.Signal.{Signal}
 use Rattle.pg_out_vcd.specs.Values.{bits_of, letter_of, name_of, sample_text, signals_of}

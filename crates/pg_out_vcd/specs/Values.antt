@@ -5,9 +5,9 @@ use Rattle.pg_word.specs.declared.cause.Cause.{Cause}
 use Rattle.pg_word.specs.declared.cause.Cause.TheVariants as cause
 use Rattle.pg_word.specs.declared.psw.Mode.{Mode}
 use Rattle.pg_word.specs.declared.psw.Mode.TheVariants as mode
-use Rattle.pg_traced.specs.declared.handling.Handling.{Handling}
-use Rattle.pg_traced.specs.declared.handling.Handling.TheVariants as handling
-use Rattle.pg_traced.specs.declared.handling.Monitor.{Monitor}
+use Rattle.pg_out_steps.specs.declared.handling.Handling.{Handling}
+use Rattle.pg_out_steps.specs.declared.handling.Handling.TheVariants as handling
+use Rattle.pg_out_steps.specs.declared.handling.Monitor.{Monitor}
 use Rattle.pg_out_vcd.specs.declared.sample.Sample.{Sample}
 use Rattle.pg_out_vcd.specs.declared.signal.Signal.{Signal}
 use Rattle.pg_out_vcd.specs.declared.signal.Signal.TheVariants as signal

@@ -6,9 +6,9 @@ ghost use Rattle.pg_edge.specs.Sink.{Adds};
 ghost use Rattle.pg_edge.specs.Told.{BothTold};
 ghost use Rattle.pg_hw.specs.Running.{Ran};
 ghost use Rattle.pg_hw.specs.Serving.{IsServed};
-ghost use Rattle.pg_meaning.specs.States.{IsState};
-ghost use Rattle.pg_meaning.specs.Steps.{bare, power_on};
-ghost use Rattle.pg_valid.specs.Valid.{IsValid};
+ghost use Rattle.pg_lang_meaning.specs.States.{IsState};
+ghost use Rattle.pg_lang_meaning.specs.Steps.{bare, power_on};
+ghost use Rattle.pg_lang_valid.specs.Valid.{IsValid};
 ghost use Rattle.pg_out_vcd.specs.Dump.{dump_text, last_sample, sample_at_end, steps_text};
 ghost use Rattle.pg_out_vcd.specs.Values.{sample_text};
 
@@ -18,8 +18,8 @@ use crate::signal::{Signal, signals_of};
 use crate::times::push_sample;
 use pg_edge::Sink;
 use pg_hw::{Hardware, power_on};
-use pg_machine::Machine;
-use pg_traced::{Monitor, TraceFault, Tracer};
+use pg_mach_ready::Machine;
+use pg_out_steps::{Monitor, TraceFault, Tracer};
 use std::alloc::Global;
 
 /// Switches a hardware on with an image, all of whose cells are a word of the machine, runs it for `n` steps, less than 2^32, and puts

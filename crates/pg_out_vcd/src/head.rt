@@ -1,13 +1,13 @@
 //! What stands before the times. Each error is want of memory.
 
 ghost use Rattle.std.specs.Prelude.{◌≡◌, ◌<◌, ◌++◌, length, OnOk};
-ghost use Rattle.pg_traced.specs.Lines.{name_at};
+ghost use Rattle.pg_out_steps.specs.Lines.{name_at};
 ghost use Rattle.pg_out_vcd.specs.Dump.{declared_text, head_text, instr_line, instrs_text, named_text, signal_line, signals_text};
 
 use crate::signal::{Signal, signals_of};
-use pg_machine::Machine;
+use pg_mach_ready::Machine;
+use pg_out_steps::Monitor;
 use pg_text::dec;
-use pg_traced::Monitor;
 use std::alloc::AllocError;
 
 /// Pushes the head of the dump of a machine: its instructions with their numbers, and the signals.

@@ -5,7 +5,7 @@ ghost use Rattle.pg_out_vcd.specs.Dump.{sample_at_end};
 ghost use Rattle.pg_out_vcd.specs.Values.{cause_bits, direct_bit, has_stayed, mode_bit, same_value, value_of};
 
 use crate::signal::Signal;
-use pg_traced::{Handling, Stepped};
+use pg_out_steps::{Handling, Stepped};
 use pg_word::{Cause, Mode, Psw};
 
 /// The values of all signals.

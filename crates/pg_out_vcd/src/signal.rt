@@ -3,7 +3,7 @@
 ghost use Rattle.std.specs.Prelude.{◌≡◌, [], ◌∷◌};
 ghost use Rattle.pg_out_vcd.specs.Values.{bits_of, letter_of, name_of, signals_of};
 
-use pg_traced::Monitor;
+use pg_out_steps::Monitor;
 
 /// A signal.
 #[derive(Clone, Copy, Debug, PartialEq, Eq)]

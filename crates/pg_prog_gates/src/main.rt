@@ -20,8 +20,8 @@ mod strings;
 
 use crate::bodies::show_bodies;
 use crate::operations::{show_operations, show_products};
+use pg_lang_valid::TypeFault;
 use pg_read::DescFault;
-use pg_valid::TypeFault;
 use std::alloc::AllocError;
 use std::env;
 use std::io::ErrorKind;

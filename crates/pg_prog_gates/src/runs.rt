@@ -11,7 +11,7 @@ ghost use Rattle.pg_symex.specs.There.{AreBits, AreRegs};
 use crate::strings::{inputs, is_there};
 use pg_cells::Touched;
 use pg_circuit::Circuit;
-use pg_machine::Machine;
+use pg_mach_ready::Machine;
 use pg_symex::{Regs, run_symbolic};
 use pg_vec::Bits;
 use std::alloc::{AllocError, Global};

@@ -1,7 +1,7 @@
 -- Blocks, step by step.
 use Rattle.std.proofs.Common.{◌≡◌, ℕ, zero, suc, ◌+◌, ◌-◌, ◌≤◌, ◌<◌, List, [], ◌∷◌, ◌++◌, length, Option, None, Some, ap, sym, ◌∙◌, refl, arith}
 use Rattle.std.proofs.lemmas.List.{append_assoc, length-append, append-nil}
-use Rattle.pg_token.specs.declared.tok.Tok.{Tok}
+use Rattle.pg_lang_token.specs.declared.tok.Tok.{Tok}
 use Rattle.pg_ast.specs.Levels.{most_expr_levels}
 use Rattle.pg_ast.specs.Reading.{then_read, past_close, read_expr, read_stmt}
 use Rattle.pg_ast.specs.declared.tree.Stmt.{Stmt}

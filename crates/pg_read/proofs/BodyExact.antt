@@ -1,9 +1,9 @@
 -- What the readers of blocks of so many levels take for statements are the tokens of those statements.
 use Rattle.std.proofs.Common.{◌≡◌, ℕ, zero, suc, ◌<◌, List, ◌∷◌, length, map, Option, None, Some, IfSome, refl, arith}
 use Rattle.std.proofs.lemmas.List.{append_assoc, length-append}
-use Rattle.pg_token.specs.declared.tok.Tok.{Tok}
-use Rattle.pg_token.specs.declared.tok.Tok.TheVariants.{Sign}
-use Rattle.pg_token.specs.declared.tok.Sign.TheVariants.{CloseBrace}
+use Rattle.pg_lang_token.specs.declared.tok.Tok.{Tok}
+use Rattle.pg_lang_token.specs.declared.tok.Tok.TheVariants.{Sign}
+use Rattle.pg_lang_token.specs.declared.tok.Sign.TheVariants.{CloseBrace}
 use Rattle.pg_ast.specs.Levels.{most_expr_levels}
 use Rattle.pg_ast.specs.declared.tree.Stmt.{Stmt}
 use Rattle.pg_ast.specs.Tokens.{stmt_tokens, flat}

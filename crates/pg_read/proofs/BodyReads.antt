@@ -1,9 +1,9 @@
 -- Reading the tokens of statements within limits on their levels gives the statements back.
 use Rattle.std.proofs.Common.{◌≡◌, ℕ, zero, suc, ◌+◌, ◌≤◌, ◌<◌, List, [], ◌∷◌, ◌++◌, length, map, Option, Some, refl, arith}
 use Rattle.std.proofs.lemmas.List.{append_assoc, length-append}
-use Rattle.pg_token.specs.declared.tok.Tok.{Tok}
-use Rattle.pg_token.specs.declared.tok.Tok.TheVariants.{Sign}
-use Rattle.pg_token.specs.declared.tok.Sign.TheVariants.{CloseBrace}
+use Rattle.pg_lang_token.specs.declared.tok.Tok.{Tok}
+use Rattle.pg_lang_token.specs.declared.tok.Tok.TheVariants.{Sign}
+use Rattle.pg_lang_token.specs.declared.tok.Sign.TheVariants.{CloseBrace}
 use Rattle.pg_ast.specs.declared.tree.Stmt.{Stmt}
 use Rattle.pg_ast.specs.Tokens.{stmt_tokens, flat}
 use Rattle.pg_ast.specs.Levels.{most_expr_levels, greatest, expr_levels, block_levels}

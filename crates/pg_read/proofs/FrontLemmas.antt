@@ -2,7 +2,7 @@
 use Rattle.std.proofs.Common.{◌≡◌, ℕ, suc, Bool, true, false, map, List, [], ◌∷◌, ◌++◌, length, take, Option, None, Some, IfSome, ap, sym, ◌∙◌, refl}
 use Rattle.std.proofs.Math.Seq.{take-append_seam}
 use Rattle.std.proofs.lemmas.List.{append-nil}
-use Rattle.pg_token.specs.declared.tok.Tok.{Tok}
+use Rattle.pg_lang_token.specs.declared.tok.Tok.{Tok}
 use Rattle.pg_ast.specs.Tokens.{head_tokens, flat}
 use Rattle.pg_ast.proofs.Exact.{read_at}
 use Rattle.pg_read.specs.declared.goals.Goal.{Goal}

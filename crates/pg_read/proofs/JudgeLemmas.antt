@@ -2,7 +2,7 @@
 use Rattle.std.proofs.Common.{◌≡◌, ◌≢◌, ℕ, suc, ◌+◌, ◌<◌, ◌≤◌, Bool, true, false, cond, ◌||◌, map, List, [], ◌∷◌, ◌++◌, length, take, drop, get_or, Option, None, Some, ap, sym, ◌∙◌, subst, refl, arith, ◌⊎◌, inl, inr}
 use Rattle.std.proofs.Math.Seq.{take-append_seam, take-append-add, get_or-append_seam}
 use Rattle.std.proofs.lemmas.List.{drop_more, drop_all, append_assoc, append-nil, map-append, length-append, length-map}
-use Rattle.pg_token.specs.declared.tok.Tok.{Tok}
+use Rattle.pg_lang_token.specs.declared.tok.Tok.{Tok}
 use Rattle.pg_text.specs.declared.place.Span.{Span}
 use Rattle.pg_ast.specs.declared.tree.Desc.{Desc}
 use Rattle.pg_ast.specs.Tokens.{tokens_of}

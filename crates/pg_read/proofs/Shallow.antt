@@ -1,9 +1,9 @@
 -- What was read keeps the limits on levels.
 use Rattle.std.proofs.Common.{◌≡◌, ℕ, zero, suc, ◌+◌, ◌≤◌, ◌==◌, true, false, cond, List, [], ◌∷◌, length, map, Option, None, Some, IfSome, arith}
-use Rattle.pg_token.specs.declared.tok.Tok.{Tok}
-use Rattle.pg_token.specs.declared.tok.Tok.TheVariants.{Word, Number, Pattern, Sign}
-use Rattle.pg_token.specs.declared.tok.Sign.{Sign as Signs}
-use Rattle.pg_token.specs.declared.tok.Sign.TheVariants.{OpenBrace, OpenParen, CloseParen, OpenBracket, CloseBracket, Comma, Colon, Tilde, Semicolon, Equals}
+use Rattle.pg_lang_token.specs.declared.tok.Tok.{Tok}
+use Rattle.pg_lang_token.specs.declared.tok.Tok.TheVariants.{Word, Number, Pattern, Sign}
+use Rattle.pg_lang_token.specs.declared.tok.Sign.{Sign as Signs}
+use Rattle.pg_lang_token.specs.declared.tok.Sign.TheVariants.{OpenBrace, OpenParen, CloseParen, OpenBracket, CloseBracket, Comma, Colon, Tilde, Semicolon, Equals}
 use Rattle.pg_ast.specs.declared.name.Name.{Name as Names}
 use Rattle.pg_ast.specs.declared.tree.Expr.{Expr}
 use Rattle.pg_ast.specs.declared.tree.Stmt.{Stmt}

@@ -1,6 +1,6 @@
 -- Where a step stops, what it is a part of stops too.
 use Rattle.std.proofs.Common.{◌≡◌, List, Option, None, Err}
-use Rattle.pg_token.specs.declared.tok.Tok.{Tok}
+use Rattle.pg_lang_token.specs.declared.tok.Tok.{Tok}
 use Rattle.pg_read.specs.declared.fault.Stop.{Stop}
 use Rattle.pg_read.specs.declared.fault.Stop.TheVariants.{Unread, Memory}
 use Rattle.pg_read.specs.Steps.{IsStepDue}

@@ -1,9 +1,9 @@
 -- The same of statements, blocks, instructions and descriptions.
 use Rattle.std.proofs.Common.{◌≡◌, ℕ, suc, Bool, true, false, map, List, [], ◌∷◌, ◌++◌, Option, None, Some, ap, sym, ◌∙◌, subst, refl}
 use Rattle.std.proofs.lemmas.List.{append_assoc}
-use Rattle.pg_token.specs.declared.tok.Tok.{Tok}
-use Rattle.pg_token.specs.declared.tok.Tok.TheVariants.{Sign}
-use Rattle.pg_token.specs.declared.tok.Sign.TheVariants.{CloseBrace}
+use Rattle.pg_lang_token.specs.declared.tok.Tok.{Tok}
+use Rattle.pg_lang_token.specs.declared.tok.Tok.TheVariants.{Sign}
+use Rattle.pg_lang_token.specs.declared.tok.Sign.TheVariants.{CloseBrace}
 use Rattle.pg_ast.specs.declared.name.Name.{Name as Names}
 use Rattle.pg_ast.specs.declared.tree.Expr.{Expr}
 use Rattle.pg_ast.specs.declared.tree.Stmt.{Stmt}

@@ -1,10 +1,10 @@
 -- What meets goals begins a filling of them.
 use Rattle.std.proofs.Common.{◌≡◌, ℕ, suc, Bool, true, false, map, List, [], ◌∷◌, ◌++◌, Option, None, Some, IfSome, codes, ap, sym, refl}
 use Rattle.std.proofs.lemmas.List.{append_assoc, append-nil}
-use Rattle.pg_token.specs.declared.tok.Tok.{Tok}
-use Rattle.pg_token.specs.declared.tok.Tok.TheVariants.{Word, Number, Pattern, Sign}
-use Rattle.pg_token.specs.declared.tok.Sign.{Sign as Signs}
-use Rattle.pg_token.specs.declared.tok.Sign.TheVariants.{OpenBrace, CloseBrace, OpenParen, CloseParen, OpenBracket, CloseBracket, Semicolon, Comma, Colon, Equals, DoubleEquals, Tilde, Plus, Minus, Star, Ampersand, Bar, Caret, LessThan, DoubleLess, DoubleGreater}
+use Rattle.pg_lang_token.specs.declared.tok.Tok.{Tok}
+use Rattle.pg_lang_token.specs.declared.tok.Tok.TheVariants.{Word, Number, Pattern, Sign}
+use Rattle.pg_lang_token.specs.declared.tok.Sign.{Sign as Signs}
+use Rattle.pg_lang_token.specs.declared.tok.Sign.TheVariants.{OpenBrace, CloseBrace, OpenParen, CloseParen, OpenBracket, CloseBracket, Semicolon, Comma, Colon, Equals, DoubleEquals, Tilde, Plus, Minus, Star, Ampersand, Bar, Caret, LessThan, DoubleLess, DoubleGreater}
 use Rattle.pg_ast.specs.declared.name.Name.{Name as Names}
 use Rattle.pg_ast.specs.declared.name.PatternText.{PatternText}
 use Rattle.pg_ast.specs.declared.tree.Op.{Op}

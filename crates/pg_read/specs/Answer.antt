@@ -1,6 +1,6 @@
 -- What the answer to a text says.
 use Rattle.std.specs.Prelude.{◌≡◌, ℕ, ◌≤◌, ◌<◌, map, List, length, slice_index, Result, Ok, Err, Some, ◌⊎◌}
-use Rattle.pg_token.specs.declared.tok.Tok.{Tok}
+use Rattle.pg_lang_token.specs.declared.tok.Tok.{Tok}
 use Rattle.pg_text.specs.declared.place.Span.{Span}
 use Rattle.pg_text.specs.declared.place.TextFault.{TextFault}
 use Rattle.pg_text.specs.declared.place.TextFault.TheVariants.{BadByte, BadNumber, BadWord, BadPattern, Memory as NoMemory}

@@ -1,8 +1,8 @@
 -- The forms of expressions and statements behind their first token, step by step. The argument r reads an expression inside,
 -- and b the statements of a block inside up to its end.
 use Rattle.std.specs.Prelude.{ℕ, List, Option, None, Some}
-use Rattle.pg_token.specs.declared.tok.Tok.{Tok}
-use Rattle.pg_token.specs.declared.tok.Sign.TheVariants.{OpenBrace, OpenParen, CloseParen, OpenBracket, CloseBracket, Semicolon, Comma, Colon, Equals}
+use Rattle.pg_lang_token.specs.declared.tok.Tok.{Tok}
+use Rattle.pg_lang_token.specs.declared.tok.Sign.TheVariants.{OpenBrace, OpenParen, CloseParen, OpenBracket, CloseBracket, Semicolon, Comma, Colon, Equals}
 use Rattle.pg_ast.specs.declared.tree.Expr.{Expr}
 use Rattle.pg_ast.specs.declared.tree.Expr.TheVariants.{Lit, Pc, Mode, Rel, Bound, Load, Not, Bin, Cat, Cut, Ext, Sext, Sel}
 use Rattle.pg_ast.specs.declared.tree.Stmt.{Stmt}

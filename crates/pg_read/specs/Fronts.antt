@@ -1,8 +1,8 @@
 -- What the tokens of descriptions begin with, where the trees may go down any number of levels: which tokens are wrong,
 -- which are too deep, and which come to an end too early.
 use Rattle.std.specs.Prelude.{◌≡◌, ◌≢◌, ℕ, suc, ◌<◌, Bool, true, false, map, List, [], ◌∷◌, ◌++◌, length, take, codes}
-use Rattle.pg_token.specs.declared.tok.Tok.{Tok}
-use Rattle.pg_token.specs.declared.tok.Tok.TheVariants.{Word, Pattern}
+use Rattle.pg_lang_token.specs.declared.tok.Tok.{Tok}
+use Rattle.pg_lang_token.specs.declared.tok.Tok.TheVariants.{Word, Pattern}
 use Rattle.pg_ast.specs.declared.name.Name.{Name}
 use Rattle.pg_ast.specs.declared.name.PatternText.{PatternText}
 use Rattle.pg_ast.specs.declared.tree.Stmt.{Stmt}

@@ -12,8 +12,8 @@ ghost use Rattle.pg_read.specs.Steps.{IsStepDue, IsPassed, alone, number_at, nam
 use crate::fault::Stop;
 use crate::words::is_same;
 use pg_ast::{Name, Op, PatternText};
+use pg_lang_token::{Sign, Tok, is_name};
 use pg_text::Span;
-use pg_token::{Sign, Tok, is_name};
 use sqlite_items::Items;
 use std::alloc::{AllocError, Global};
 use std::marker::Model;
@@ -26,7 +26,7 @@ pub struct Cursor<'a> {
 
 impl<'a> Model for Cursor<'a> {
     ghost use Rattle.std.specs.Prelude.{List, map};
-    ghost use Rattle.pg_token.specs.declared.tok.Tok.{Tok};
+    ghost use Rattle.pg_lang_token.specs.declared.tok.Tok.{Tok};
 
     ghost Value = { List Tok };
 

@@ -14,7 +14,7 @@ use crate::cursor::{Cursor, name_of};
 use crate::fault::Stop;
 use crate::words::ExprWord;
 use pg_ast::Expr;
-use pg_token::{Sign, Tok};
+use pg_lang_token::{Sign, Tok};
 use sqlite_items::Boxed;
 use std::alloc::Global;
 

@@ -6,7 +6,7 @@
 //! where there is none for its goals, of which some may then be there.
 
 ghost use Rattle.std.specs.Prelude.{◌≡◌, ◌++◌, cond, Some, OnOk};
-ghost use Rattle.pg_token.specs.Words.{is_name};
+ghost use Rattle.pg_lang_token.specs.Words.{is_name};
 ghost use Rattle.pg_read.specs.declared.forms.ExprForm.TheVariants.{Name as Named, Word as Called};
 ghost use Rattle.pg_read.specs.declared.words.ExprWord.TheVariants.{Ext as ToExt};
 ghost use Rattle.pg_read.specs.Keywords.{expr_word};
@@ -15,7 +15,7 @@ ghost use Rattle.pg_read.specs.Goals.{is_sign, is_word, is_number, is_named, is_
 use crate::cursor::op_of;
 use crate::goals::{Goal, Goals};
 use crate::words::{ExprWord, HeadWord, StmtWord, is_same};
-use pg_token::{Sign, Tok, is_name, is_pattern};
+use pg_lang_token::{Sign, Tok, is_name, is_pattern};
 use std::alloc::AllocError;
 
 /// A form of expressions, by the first token.

@@ -8,7 +8,7 @@
 ghost use Rattle.std.specs.Prelude.{◌≡◌, ◌∷◌, [], ◌++◌, MatchOption, OnOk};
 
 use crate::words::HeadWord;
-use pg_token::Sign;
+use pg_lang_token::Sign;
 use std::alloc::{AllocError, Global};
 use std::marker::Model;
 

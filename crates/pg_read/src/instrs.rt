@@ -2,7 +2,7 @@
 //!
 //! `whole` calls `desc`, which goes over all of the tokens once: the head, then instructions up to the end. The answer is a
 //! tree or `Unread`; where the tokens go wrong is for `judge`. Nothing here tries what the numbers of the head are worth,
-//! whether a name is known or a pattern long enough: `check` of `pg_machine` does. The levels of a body are kept by how it is
+//! whether a name is known or a pattern long enough: `check` of `pg_mach_ready` does. The levels of a body are kept by how it is
 //! read, so that an `Instr`, which is known to keep them, is made of it without a test (`made`).
 
 ghost use Rattle.std.specs.Prelude.{◌≡◌, Some};
@@ -15,7 +15,7 @@ use crate::cursor::Cursor;
 use crate::fault::Stop;
 use crate::stmts::block;
 use pg_ast::{BLOCK_LEVELS, Desc, Instr, InstrList, Name, PatternText, StmtList};
-use pg_token::Sign;
+use pg_lang_token::Sign;
 use sqlite_items::Items;
 use std::alloc::Global;
 

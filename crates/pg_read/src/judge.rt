@@ -19,8 +19,8 @@ use crate::forms::{
 use crate::goals::{Goal, Goals};
 use crate::words::{HeadWord, StmtWord};
 use pg_ast::{BLOCK_LEVELS, EXPR_LEVELS};
+use pg_lang_token::{Sign, Tok};
 use pg_text::Span;
-use pg_token::{Sign, Tok};
 use std::alloc::{AllocError, Global};
 
 /// What became of a token.

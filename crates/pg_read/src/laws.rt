@@ -4,7 +4,7 @@
 //! leaves it no choice, so that its contract names one answer.
 
 ghost use Rattle.std.specs.Prelude.{◌≡◌, ◌≢◌, ℕ, List, Result, Err};
-ghost use Rattle.pg_token.specs.declared.tok.Tok.{Tok};
+ghost use Rattle.pg_lang_token.specs.declared.tok.Tok.{Tok};
 ghost use Rattle.pg_read.specs.Marks.{Mark};
 ghost use Rattle.pg_read.specs.Fronts.{IsMarkedFront};
 ghost use Rattle.pg_ast.specs.declared.tree.Desc.{Desc};

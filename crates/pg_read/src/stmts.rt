@@ -8,7 +8,7 @@
 ghost use Rattle.std.specs.Prelude.{suc, length};
 ghost use Rattle.pg_ast.specs.Levels.{most_expr_levels};
 ghost use Rattle.pg_ast.specs.Reading.{read_expr, read_stmt, read_stmt_word, past_sign, past_else};
-ghost use Rattle.pg_token.specs.declared.tok.Sign.TheVariants.{OpenBrace};
+ghost use Rattle.pg_lang_token.specs.declared.tok.Sign.TheVariants.{OpenBrace};
 ghost use Rattle.pg_read.specs.Steps.{IsStepDue};
 ghost use Rattle.pg_read.specs.Forms.{value_at, address_at, let_at, store_at, trap_at, else_found, if_at, stmt_word_at};
 ghost use Rattle.pg_read.specs.Blocks.{stmts_at, body_at};
@@ -18,7 +18,7 @@ use crate::exprs::{expr, expr_behind};
 use crate::fault::Stop;
 use crate::words::StmtWord;
 use pg_ast::{EXPR_LEVELS, Expr, Stmt, StmtList};
-use pg_token::{Sign, Tok};
+use pg_lang_token::{Sign, Tok};
 use sqlite_items::Items;
 use std::alloc::Global;
 

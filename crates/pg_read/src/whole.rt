@@ -14,8 +14,8 @@ use crate::fault::{DescFault, Stop};
 use crate::instrs::desc;
 use crate::judge::judge;
 use pg_ast::Desc;
+use pg_lang_token::Tok;
 use pg_text::{Span, TextFault, tokens};
-use pg_token::Tok;
 use std::alloc::Global;
 
 /// The greatest number of bytes of a text: one more, and the text is `Long`.

@@ -8,8 +8,8 @@ use Rattle.pg_word.proofs.SparseLemmas.{length-storage_of}
 use Rattle.pg_interp.specs.declared.effect.Write.{Write}
 use Rattle.pg_interp.specs.Writes.{written}
 use Rattle.pg_interp.proofs.WriteLemmas.{written-length, written-more, written-nothing}
-use Rattle.pg_meaning.specs.States.{State, window, window_length, put_back}
-use Rattle.pg_valid.proofs.StepSound.{window-length}
+use Rattle.pg_lang_meaning.specs.States.{State, window, window_length, put_back}
+use Rattle.pg_lang_valid.proofs.StepSound.{window-length}
 
 put_back-set : (s : State) (cells : List ℕ) (at c : ℕ) → length cells ≡ window_length s → at < length cells → put_back s (slice_set cells at c) ≡ slice_set (put_back s cells) (s.psw.l + at) c
 put_back-set s cells at c long inside =

@@ -3,12 +3,12 @@ use Rattle.std.proofs.Common.{◌≡◌, ℕ, zero, suc, ◌<◌, Bool, true, fa
 use Rattle.std.specs.Prelude.{IsSomeAnd, IsTrue}
 use Rattle.pg_ast.specs.declared.tree.Instr.{Instr}
 use Rattle.pg_ast.specs.declared.tree.Desc.{Desc}
-use Rattle.pg_meaning.specs.Patterns.{matches, matching}
-use Rattle.pg_meaning.specs.Bodies.{body}
-use Rattle.pg_meaning.specs.States.{State, window}
-use Rattle.pg_meaning.specs.Steps.{ending_of, executed, fetched, ending}
-use Rattle.pg_valid.specs.Valid.{IsValid}
-use Rattle.pg_valid.proofs.PatternFacts.{valid-apart}
+use Rattle.pg_lang_meaning.specs.Patterns.{matches, matching}
+use Rattle.pg_lang_meaning.specs.Bodies.{body}
+use Rattle.pg_lang_meaning.specs.States.{State, window}
+use Rattle.pg_lang_meaning.specs.Steps.{ending_of, executed, fetched, ending}
+use Rattle.pg_lang_valid.specs.Valid.{IsValid}
+use Rattle.pg_lang_valid.proofs.PatternFacts.{valid-apart}
 use Rattle.pg_type.specs.Kinds.{IsAt, fetched_word, course_at}
 use Rattle.pg_replay.specs.Running.{IsOf}
 

@@ -8,8 +8,8 @@ use Rattle.std.proofs.lemmas.Option.{slice_get-get_or, get_or_from_slice_get}
 use Rattle.pg_word.specs.Sparse.{address_at, IsCellList, AreWithin, storage_of}
 use Rattle.pg_word.proofs.SparseLemmas.{length-storage_of, listed_holds}
 use Rattle.pg_word.specs.declared.psw.Psw.{Psw}
-use Rattle.pg_meaning.specs.States.{State, window, window_length}
-use Rattle.pg_valid.proofs.StepSound.{window-length}
+use Rattle.pg_lang_meaning.specs.States.{State, window, window_length}
+use Rattle.pg_lang_valid.proofs.StepSound.{window-length}
 use Rattle.pg_replay.specs.Covers.{IsCovered, StandsIn}
 use Rattle.pg_replay.proofs.WindowLemmas.{window-in}
 

@@ -8,7 +8,7 @@ use Rattle.pg_word.proofs.SparseLemmas.{length-storage_of, listed_holds}
 use Rattle.pg_word.specs.Psw.{IsPsw}
 use Rattle.pg_word.specs.declared.psw.Psw.{Psw}
 use Rattle.pg_ast.specs.declared.tree.Desc.{Desc}
-use Rattle.pg_meaning.specs.States.{IsState}
+use Rattle.pg_lang_meaning.specs.States.{IsState}
 
 -- words that are listed, with zeros elsewhere
 pub words-stored : (w size : ℕ) (cells : List (ℕ × ℕ)) → All (λ cell. cell.1 < 2 ^ w) cells → 0 < 2 ^ w → All (λ c. c < 2 ^ w) (storage_of size cells)

@@ -4,8 +4,8 @@ use Rattle.std.specs.Prelude.{IfOk, Option}
 use Rattle.pg_word.specs.declared.cause.Cause.{Cause}
 use Rattle.pg_word.specs.declared.sparse.Sparse.{Sparse}
 use Rattle.pg_ast.specs.declared.tree.Desc.{Desc}
-use Rattle.pg_meaning.specs.States.{State, window}
-use Rattle.pg_meaning.specs.Steps.{Ending, ending, left_by, step}
+use Rattle.pg_lang_meaning.specs.States.{State, window}
+use Rattle.pg_lang_meaning.specs.Steps.{Ending, ending, left_by, step}
 use Rattle.pg_interp.specs.declared.effect.Outcome.{Outcome}
 use Rattle.pg_interp.specs.Outcomes.{ending_as, IsOutcome}
 use Rattle.pg_type.specs.Listed.{state_of}

@@ -2,8 +2,8 @@
 use Rattle.std.proofs.Common.{◌≡◌, ℕ, ◌+◌, ◌<◌, ◌≤◌, drop, slice_get, slice_index, None, Some, ap, ◌∙◌, arith}
 use Rattle.std.proofs.lemmas.List.{get_or-take, get_or-drop}
 use Rattle.std.proofs.lemmas.Option.{slice_get-get_or, slice_get_past}
-use Rattle.pg_meaning.specs.States.{State, window, window_length}
-use Rattle.pg_valid.proofs.StepSound.{window-length}
+use Rattle.pg_lang_meaning.specs.States.{State, window, window_length}
+use Rattle.pg_lang_valid.proofs.StepSound.{window-length}
 
 -- a usable address has the cell that is so many past the relocation
 pub window-in : (s : State) (a : ℕ) → a < window_length s → slice_get (window s) a ≡ Some (slice_index s.cells (s.psw.l + a))

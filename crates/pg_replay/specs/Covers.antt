@@ -1,6 +1,6 @@
 -- What is compared of two windows by the cells that are not zero.
 use Rattle.std.specs.Prelude.{◌≡◌, ◌≢◌, ℕ, ◌+◌, ◌-◌, ◌<◌, ◌≤◌, List, Some, slice_get, slice_index}
-use Rattle.pg_meaning.specs.States.{State, window_length}
+use Rattle.pg_lang_meaning.specs.States.{State, window_length}
 
 -- each cell of the first list that is not zero stands in the second at its address
 abbrev pub IsCovered : List ℕ → List ℕ → Type 0

@@ -3,8 +3,8 @@ use Rattle.std.specs.Prelude.{◌≡◌, ◌≢◌, ◌⊎◌, ℕ, List, slice_
 use Rattle.pg_word.specs.declared.psw.Psw.{Psw}
 use Rattle.pg_ast.specs.declared.tree.Instr.{Instr}
 use Rattle.pg_ast.specs.declared.tree.Desc.{Desc}
-use Rattle.pg_meaning.specs.States.{State, IsState, window}
-use Rattle.pg_meaning.specs.Steps.{ending_of}
+use Rattle.pg_lang_meaning.specs.States.{State, IsState, window}
+use Rattle.pg_lang_meaning.specs.Steps.{ending_of}
 use Rattle.pg_interp.specs.declared.effect.Effect.{Effect}
 use Rattle.pg_interp.specs.declared.effect.Outcome.{Outcome}
 use Rattle.pg_interp.specs.Writes.{written}

@@ -2,7 +2,7 @@
 use Rattle.std.specs.Prelude.{ℕ, Bool, ◌&&◌, nat_lt, nat_le, Option, None, Some}
 use Rattle.pg_word.specs.declared.cause.Cause.{Cause}
 use Rattle.pg_word.specs.declared.cause.Cause.TheVariants.{Memory, Trap, NoPattern}
-use Rattle.pg_meaning.specs.Steps.{Ending, ByMemTrap, ByTrap, ByNoPattern, Done}
+use Rattle.pg_lang_meaning.specs.Steps.{Ending, ByMemTrap, ByTrap, ByNoPattern, Done}
 
 -- an address from the first on, and below the second
 abbrev pub is_between : ℕ → ℕ → ℕ → Bool

@@ -2,7 +2,7 @@
 
 ghost use Rattle.std.specs.Prelude.{◌≡◌, ◌↔◌, ◌<◌, IsTrue, length, slice_get, Some};
 ghost use Rattle.pg_ast.specs.declared.tree.Instr.{Instr as Instrs};
-ghost use Rattle.pg_meaning.specs.States.{window};
+ghost use Rattle.pg_lang_meaning.specs.States.{window};
 ghost use Rattle.pg_type.specs.Kinds.{Shows, IsModePair, BreaksPrivilege, ShowsControl, ShowsMode, ShowsLocation, ShowsBound};
 ghost use Rattle.pg_type.specs.Listed.{state_of};
 ghost use Rattle.pg_replay.specs.Running.{IsOf, AreAlike, Differ};
@@ -12,7 +12,7 @@ use crate::observe::{
 };
 use crate::same::{is_in_user, is_same, same_mode, same_size, same_window};
 use pg_ast::Instr;
-use pg_machine::Machine;
+use pg_mach_ready::Machine;
 use pg_type::Kind;
 use pg_word::{Mode, Sparse};
 

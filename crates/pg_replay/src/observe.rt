@@ -3,7 +3,7 @@
 ghost use Rattle.std.specs.Prelude.{◌≡◌, ◌↔◌, IsTrue, List, All, slice_get, ℕ};
 ghost use Rattle.pg_ast.specs.declared.tree.Instr.{Instr as Instrs};
 ghost use Rattle.pg_ast.specs.declared.tree.Desc.{Desc as Descs};
-ghost use Rattle.pg_meaning.specs.States.{State, window};
+ghost use Rattle.pg_lang_meaning.specs.States.{State, window};
 ghost use Rattle.pg_interp.specs.Writes.{written};
 ghost use Rattle.pg_type.specs.Kinds.{IsAt, IsDone, IsTrap, IsNoMemTrap, ChangesControl, course_at, observation};
 ghost use Rattle.pg_type.specs.Listed.{state_of};
@@ -14,8 +14,8 @@ use crate::state::is_state;
 use crate::window::window_of;
 use pg_ast::Instr;
 use pg_interp::{Cells, Effect, Outcome, Overlay, Write, execute};
-use pg_machine::Machine;
-use pg_meaning::matches;
+use pg_lang_meaning::matches;
+use pg_mach_ready::Machine;
 use pg_word::{Psw, Sparse};
 
 /// Whether P is usable at a state, and the word there matches the instruction's pattern.

@@ -4,7 +4,7 @@
 //! cells that are listed are looked at.
 
 ghost use Rattle.std.specs.Prelude.{◌≡◌, ◌↔◌, IsTrue, All, length};
-ghost use Rattle.pg_meaning.specs.States.{window, in_user};
+ghost use Rattle.pg_lang_meaning.specs.States.{window, in_user};
 ghost use Rattle.pg_type.specs.Listed.{state_of};
 ghost use Rattle.pg_replay.specs.Covers.{IsCovered, StandsIn};
 

@@ -2,10 +2,10 @@
 
 ghost use Rattle.std.specs.Prelude.{◌≡◌, ◌↔◌, ◌^◌, ◌<◌, ◌≤◌, IsTrue, All};
 ghost use Rattle.pg_word.specs.Psw.{IsPsw};
-ghost use Rattle.pg_meaning.specs.States.{IsState};
+ghost use Rattle.pg_lang_meaning.specs.States.{IsState};
 ghost use Rattle.pg_type.specs.Listed.{state_of};
 
-use pg_machine::Machine;
+use pg_mach_ready::Machine;
 use pg_word::{Psw, Sparse};
 
 /// Whether a number has at most so many bits, 1 to 64.

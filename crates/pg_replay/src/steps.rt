@@ -2,8 +2,8 @@
 
 ghost use Rattle.std.specs.Prelude.{◌≡◌, ◌<◌, length, IfOk, All};
 ghost use Rattle.pg_word.specs.Psw.{cause_number};
-ghost use Rattle.pg_meaning.specs.States.{IsState, window, put_back};
-ghost use Rattle.pg_meaning.specs.Steps.{ending, step, trapped};
+ghost use Rattle.pg_lang_meaning.specs.States.{IsState, window, put_back};
+ghost use Rattle.pg_lang_meaning.specs.Steps.{ending, step, trapped};
 ghost use Rattle.pg_interp.specs.Writes.{written};
 ghost use Rattle.pg_type.specs.Listed.{state_of};
 ghost use Rattle.pg_replay.specs.Storing.{cause_of};
@@ -11,7 +11,7 @@ ghost use Rattle.pg_replay.specs.Storing.{cause_of};
 use crate::stored::{after_stores, stored};
 use crate::window::window_of;
 use pg_interp::{Effect, Outcome, execute};
-use pg_machine::Machine;
+use pg_mach_ready::Machine;
 use pg_word::{Cause, NEW_PSW_CELL, OLD_PSW_CELL, Sparse, pack_trap, unpack};
 use std::alloc::{AllocError, Global};
 

@@ -5,7 +5,7 @@
 
 ghost use Rattle.std.specs.Prelude.{◌≡◌, ◌≢◌, ◌+◌, ◌^◌, ◌<◌, ◌++◌, ◌∷◌, [], length, slice_set, filter, if◌then◌else◌, IsTrue, IfOk, OnOk, All};
 ghost use Rattle.pg_word.specs.Sparse.{IsCellList, IsPastLast, AreWithin};
-ghost use Rattle.pg_meaning.specs.States.{window, put_back};
+ghost use Rattle.pg_lang_meaning.specs.States.{window, put_back};
 ghost use Rattle.pg_interp.specs.Writes.{written};
 ghost use Rattle.pg_type.specs.Listed.{state_of};
 ghost use Rattle.pg_replay.specs.Storing.{is_between};

@@ -1,7 +1,7 @@
 //! The window of a state of which only the cells that are not zero are listed.
 
 ghost use Rattle.std.specs.Prelude.{◌≡◌, ℕ, ◌+◌, ◌<◌, ◌^◌};
-ghost use Rattle.pg_meaning.specs.States.{window_length};
+ghost use Rattle.pg_lang_meaning.specs.States.{window_length};
 ghost use Rattle.pg_type.specs.Listed.{state_of};
 
 use pg_interp::Cells;
@@ -30,7 +30,7 @@ pub fn length_of(state: &Sparse) -> u32
 }
 
 impl Cells for Window<'_> {
-    ghost use Rattle.pg_meaning.specs.States.{window};
+    ghost use Rattle.pg_lang_meaning.specs.States.{window};
     ghost use Rattle.pg_type.specs.Listed.{state_of};
 
     ghost window = { λ w. window (state_of w.state.now) };

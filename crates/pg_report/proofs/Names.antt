@@ -7,7 +7,7 @@ use Rattle.std.specs.List.{list_all}
 use Rattle.pg_type.specs.declared.kind.Kind.{Kind}
 use Rattle.pg_type.specs.declared.kind.Kind.TheVariants.{Privileged, Control, ModeDep, Location, Bound, UControl, ULocation, UBound}
 use Rattle.pg_cert.specs.Lines.{kind_text}
-use Rattle.pg_token.specs.Words.{most_name_bytes, is_name, is_word, is_letter, is_word_byte, is_reserved}
+use Rattle.pg_lang_token.specs.Words.{most_name_bytes, is_name, is_word, is_letter, is_word_byte, is_reserved}
 
 -- a word has at most 32 bytes
 length-word : (w : List ℕ) → is_word w ≡ true → length w ≤ most_name_bytes

@@ -8,7 +8,7 @@ use Rattle.pg_edge.specs.Sink.{Puts, AddsFront}
 use Rattle.pg_edge.proofs.CountLaws.{Rose-earlier}
 use Rattle.pg_edge.proofs.PutsLaws.{Adds-nil, Adds-append, AddsFront-append, Puts-stopped}
 use Rattle.pg_ast.specs.declared.tree.Desc.{Desc}
-use Rattle.pg_valid.specs.Twice.{instr_names}
+use Rattle.pg_lang_valid.specs.Twice.{instr_names}
 use Rattle.pg_type.specs.declared.kind.Kind.{Kind}
 use Rattle.pg_type.specs.declared.kind.Kind.TheVariants.{Privileged}
 use Rattle.pg_cert.specs.declared.cert.Family.{Family}

@@ -6,8 +6,8 @@ use Rattle.pg_edge.specs.Sink.{Adds, AddsFront}
 use Rattle.pg_word.specs.declared.cause.Cause.{Cause}
 use Rattle.pg_word.specs.declared.cause.Cause.TheVariants.{Memory, Trap, NoPattern}
 use Rattle.pg_ast.specs.declared.tree.Desc.{Desc}
-use Rattle.pg_meaning.specs.States.{State, IsState, window}
-use Rattle.pg_meaning.specs.Steps.{ending, step}
+use Rattle.pg_lang_meaning.specs.States.{State, IsState, window}
+use Rattle.pg_lang_meaning.specs.Steps.{ending, step}
 use Rattle.pg_image.specs.Lines.{state_text}
 use Rattle.pg_type.specs.declared.kind.Kind.{Kind}
 use Rattle.pg_type.specs.Listed.{state_of}

@@ -1,7 +1,7 @@
 -- What is told of guests that ran under a monitor. Every line ends with LF; numbers are decimal.
 use Rattle.std.specs.Prelude.{ℕ, suc, List, [], ◌∷◌, ◌++◌, codes}
 use Rattle.std.specs.Fmt.{decimal}
-use Rattle.pg_meaning.specs.States.{State}
+use Rattle.pg_lang_meaning.specs.States.{State}
 use Rattle.pg_image.specs.Lines.{state_text}
 
 -- the line before the state of a guest, by its number from 0

@@ -4,7 +4,7 @@ use Rattle.std.specs.Prelude.{ℕ, suc, ◌-◌, ◌/◌, ◌%◌, ◌^◌, List
 use Rattle.std.specs.Fmt.{decimal}
 use Rattle.pg_word.specs.declared.psw.Psw.{Psw}
 use Rattle.pg_text.specs.Printing.{hex_text}
-use Rattle.pg_meaning.specs.States.{State}
+use Rattle.pg_lang_meaning.specs.States.{State}
 use Rattle.pg_image.specs.Lines.{psw_text}
 use Rattle.pg_report.specs.Runs.{steps_line}
 

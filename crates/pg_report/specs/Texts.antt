@@ -1,9 +1,9 @@
 -- The texts of refusals: what is put where a command is refused. Every line ends with LF; numbers are decimal.
 use Rattle.std.specs.Prelude.{ℕ, List, [], ◌∷◌, ◌++◌, take, codes}
 use Rattle.std.specs.Fmt.{decimal}
-use Rattle.pg_token.specs.Words.{most_name_bytes}
-use Rattle.pg_valid.specs.declared.fault.Limit.{Limit as Limits}
-use Rattle.pg_valid.specs.declared.fault.Limit.TheVariants.{Instructions, Accesses, Lets, Statements, Expressions}
+use Rattle.pg_lang_token.specs.Words.{most_name_bytes}
+use Rattle.pg_lang_valid.specs.declared.fault.Limit.{Limit as Limits}
+use Rattle.pg_lang_valid.specs.declared.fault.Limit.TheVariants.{Instructions, Accesses, Lets, Statements, Expressions}
 use Rattle.pg_cert.specs.Lines.{kind_text}
 use Rattle.pg_report.specs.declared.line.RefusalLine.{RefusalLine}
 use Rattle.pg_report.specs.declared.line.RefusalLine.TheVariants.{Description, Image, Certificate, Room, Source, Saved}

@@ -4,8 +4,8 @@
 //! says; how it is written is in `refusal` and in `specs/Texts.antt`. Want of memory has no line, and is no variant here. A
 //! name is owned, since the description that it comes from is gone when the line is put: the one part that takes memory.
 
+use pg_lang_valid::{Limit, WidthClash};
 use pg_type::Kind;
-use pg_valid::{Limit, WidthClash};
 use sqlite_items::Items;
 
 /// A line that says why a command is refused.

@@ -6,15 +6,15 @@
 ghost use Rattle.std.specs.Prelude.{◌≡◌, ◌+◌, ◌≤◌, ◌++◌, length};
 ghost use Rattle.std.specs.Fmt.{decimal};
 ghost use Rattle.arrayvec.specs.ArrayVec.{array_vec_len};
-ghost use Rattle.pg_token.specs.Words.{most_name_bytes};
+ghost use Rattle.pg_lang_token.specs.Words.{most_name_bytes};
 ghost use Rattle.pg_image.specs.Lines.{most_line_bytes};
 ghost use Rattle.pg_cert.specs.Lines.{kind_text};
 ghost use Rattle.pg_report.specs.Texts.{name_text, two_numbers};
 
 use pg_cert::put::kind_name;
 use pg_image::{Line, push};
+use pg_lang_token::NAME_BYTES;
 use pg_text::dec;
-use pg_token::NAME_BYTES;
 use pg_type::Kind;
 
 /// Pushes a number, as decimal digits.

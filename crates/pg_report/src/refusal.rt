@@ -6,7 +6,7 @@
 
 ghost use Rattle.std.specs.Prelude.{◌≡◌, ◌+◌, ◌≤◌, ◌++◌};
 ghost use Rattle.arrayvec.specs.ArrayVec.{array_vec_len};
-ghost use Rattle.pg_asked.specs.Commands.{usage_text};
+ghost use Rattle.pg_cli_table.specs.Commands.{usage_text};
 ghost use Rattle.pg_edge.specs.Sink.{Puts};
 ghost use Rattle.pg_image.specs.Lines.{most_line_bytes};
 ghost use Rattle.pg_report.specs.Texts.{limit_number, description_text, image_text, certificate_text, source_line_text, saved_line_text, refusal_text};
@@ -15,10 +15,10 @@ use crate::line::{
     CertificateLine, DescriptionLine, ImageLine, RefusalLine, SavedLine, SourceLine,
 };
 use crate::push::{push_at, push_kind, push_name, push_pair};
-use pg_asked::commands;
+use pg_cli_table::commands;
 use pg_edge::{Failed, Sink};
 use pg_image::{Line, push};
-use pg_valid::Limit;
+use pg_lang_valid::Limit;
 
 /// Puts the line that says why a command is refused. The cost is that of one line.
 ///

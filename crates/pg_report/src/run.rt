@@ -1,7 +1,7 @@
 //! The lines around the states of guests.
 //!
 //! The text of a run has, for each guest in the order of their numbers, the line of `put_guest` and then its state, by
-//! `put_state`; and behind all of them the line of `put_steps`. `pg_guests` makes these calls, and `run_text` in
+//! `put_state`; and behind all of them the line of `put_steps`. `pg_run_guests` makes these calls, and `run_text` in
 //! `specs/Runs.antt` is what they put together. Each line is made whole before it is put.
 
 ghost use Rattle.std.specs.Prelude.{◌≡◌};

@@ -13,7 +13,7 @@ ghost use Rattle.std.specs.Option.{option_map};
 ghost use Rattle.pg_rig.specs.Spying.{extended};
 
 use pg_hw::{Counts, Hardware};
-use pg_machine::Machine;
+use pg_mach_ready::Machine;
 use pg_word::Psw;
 use std::alloc::AllocError;
 
@@ -90,8 +90,8 @@ fn with_poke(poked: Option<Extent>, at: u32) -> Option<Extent>
 
 impl<H: Hardware> Hardware for Spy<H> {
     ghost use Rattle.std.specs.Prelude.{◌≡◌, ◌≤◌, ◌<◌, length, OnOk, OnErr};
-    ghost use Rattle.pg_meaning.specs.States.{IsState};
-    ghost use Rattle.pg_meaning.specs.Steps.{step as stepped, steps as stepped_often};
+    ghost use Rattle.pg_lang_meaning.specs.States.{IsState};
+    ghost use Rattle.pg_lang_meaning.specs.Steps.{step as stepped, steps as stepped_often};
     ghost use Rattle.pg_hw.specs.Tallies.{after_steps};
     ghost use Rattle.pg_hw.specs.Machinery.{poked_at, loaded_with};
     ghost use Rattle.pg_hw.specs.Bursts.{untrapped_at, untrapped_among, burst_length, BottomRises};

@@ -6,8 +6,8 @@ use Rattle.std.proofs.lemmas.Option.{get_or_from_slice_get}
 use Rattle.std.proofs.Math.Seq.{take-add, take-set-lt}
 use Rattle.pg_word.specs.declared.psw.Psw.{Psw}
 use Rattle.pg_word.specs.Psw.{window_len_of}
-use Rattle.pg_meaning.specs.States.{State, window, put_back}
-use Rattle.pg_valid.proofs.StepSound.{put_back-length}
+use Rattle.pg_lang_meaning.specs.States.{State, window, put_back}
+use Rattle.pg_lang_valid.proofs.StepSound.{put_back-length}
 use Rattle.pg_routine.specs.Composing.{composed}
 use Rattle.pg_routine.specs.Granting.{guest_at, with_grant}
 

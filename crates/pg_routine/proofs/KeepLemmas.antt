@@ -9,8 +9,8 @@ use Rattle.std.specs.List.{list_any}
 use Rattle.pg_word.specs.declared.psw.Psw.{Psw}
 use Rattle.pg_word.specs.Psw.{packed_trap, unpacked, window_len_of}
 use Rattle.pg_ast.specs.declared.tree.Desc.{Desc}
-use Rattle.pg_meaning.specs.States.{State, shape_of, window, window_length, put_back}
-use Rattle.pg_meaning.specs.Steps.{Done, ending, step, trapped}
+use Rattle.pg_lang_meaning.specs.States.{State, shape_of, window, window_length, put_back}
+use Rattle.pg_lang_meaning.specs.Steps.{Done, ending, step, trapped}
 use Rattle.pg_interp.specs.declared.effect.Write.{Write}
 use Rattle.pg_interp.specs.declared.effect.Effect.{Effect}
 use Rattle.pg_interp.specs.declared.effect.Outcome.{Outcome}

@@ -5,10 +5,10 @@ use Rattle.std.proofs.lemmas.List.Elements.{All-append, All-take, All-drop}
 use Rattle.pg_word.specs.declared.psw.Psw.{Psw}
 use Rattle.pg_word.specs.Psw.{IsPsw}
 use Rattle.pg_ast.specs.declared.tree.Desc.{Desc}
-use Rattle.pg_meaning.specs.States.{State, IsState}
-use Rattle.pg_meaning.specs.Steps.{step}
-use Rattle.pg_valid.specs.Valid.{IsValid}
-use Rattle.pg_valid.proofs.StepSound.{step-length, step-state}
+use Rattle.pg_lang_meaning.specs.States.{State, IsState}
+use Rattle.pg_lang_meaning.specs.Steps.{step}
+use Rattle.pg_lang_valid.specs.Valid.{IsValid}
+use Rattle.pg_lang_valid.proofs.StepSound.{step-length, step-state}
 use Rattle.pg_routine.specs.Granting.{guest_at, with_grant}
 use Rattle.pg_routine.proofs.GrantLaws.{guest-length}
 

@@ -3,10 +3,10 @@ use Rattle.std.proofs.Common.{◌≡◌, ℕ, ◌+◌, ◌≤◌, List, length, 
 use Rattle.pg_word.specs.declared.psw.Psw.{Psw}
 use Rattle.pg_word.specs.Psw.{window_len_of}
 use Rattle.pg_ast.specs.declared.tree.Desc.{Desc}
-use Rattle.pg_meaning.specs.States.{IsState, window}
-use Rattle.pg_meaning.specs.Steps.{Ending, Done, ending, left_by, step, ends_in_trap}
-use Rattle.pg_valid.specs.Typed.{AreWords}
-use Rattle.pg_valid.proofs.StepSound.{window-words}
+use Rattle.pg_lang_meaning.specs.States.{IsState, window}
+use Rattle.pg_lang_meaning.specs.Steps.{Ending, Done, ending, left_by, step, ends_in_trap}
+use Rattle.pg_lang_valid.specs.Typed.{AreWords}
+use Rattle.pg_lang_valid.proofs.StepSound.{window-words}
 use Rattle.pg_hw.specs.Bursts.{traps}
 use Rattle.pg_interp.specs.declared.effect.Write.{Write}
 use Rattle.pg_interp.specs.declared.effect.Effect.{Effect}

@@ -1,7 +1,7 @@
 -- A guest in its grant: the cells of a storage that are its own, and what interpreting one of its steps counts.
 use Rattle.std.specs.Prelude.{◌≡◌, ℕ, ◌+◌, List, ◌++◌, length, take, drop}
 use Rattle.pg_word.specs.declared.psw.Psw.{Psw}
-use Rattle.pg_meaning.specs.States.{State}
+use Rattle.pg_lang_meaning.specs.States.{State}
 use Rattle.pg_hw.specs.declared.counts.Counts.{Counts}
 use Rattle.pg_hw.specs.Tallies.{RisesWithin}
 use Rattle.pg_hw.specs.Machinery.{Machinery}

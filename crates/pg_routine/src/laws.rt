@@ -4,9 +4,9 @@ ghost use Rattle.std.specs.Prelude.{◌≡◌, ℕ, ◌+◌, ◌<◌, ◌≤◌,
 ghost use Rattle.pg_word.specs.declared.psw.Psw.{Psw};
 ghost use Rattle.pg_word.specs.Psw.{IsPsw};
 ghost use Rattle.pg_ast.specs.declared.tree.Desc.{Desc};
-ghost use Rattle.pg_meaning.specs.States.{State, IsState, window};
-ghost use Rattle.pg_meaning.specs.Steps.{step};
-ghost use Rattle.pg_valid.specs.Valid.{IsValid};
+ghost use Rattle.pg_lang_meaning.specs.States.{State, IsState, window};
+ghost use Rattle.pg_lang_meaning.specs.Steps.{step};
+ghost use Rattle.pg_lang_valid.specs.Valid.{IsValid};
 ghost use Rattle.pg_routine.specs.Composing.{composed};
 ghost use Rattle.pg_routine.specs.Granting.{guest_at, with_grant};
 

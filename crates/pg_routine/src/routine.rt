@@ -2,8 +2,8 @@
 
 ghost use Rattle.std.specs.Prelude.{◌≡◌, ◌+◌, ◌<◌, ◌≤◌, ◌^◌, length, take, drop, All, true, false};
 ghost use Rattle.pg_word.specs.Psw.{cause_number};
-ghost use Rattle.pg_meaning.specs.States.{IsState};
-ghost use Rattle.pg_meaning.specs.Steps.{step, trapped};
+ghost use Rattle.pg_lang_meaning.specs.States.{IsState};
+ghost use Rattle.pg_lang_meaning.specs.Steps.{step, trapped};
 ghost use Rattle.pg_hw.specs.Bursts.{traps};
 ghost use Rattle.pg_hw.specs.Serving.{IsServed, IsServedWord};
 ghost use Rattle.pg_interp.specs.Writes.{written};
@@ -12,7 +12,7 @@ ghost use Rattle.pg_routine.specs.Granting.{guest_at, GrantPoked};
 use crate::window::{Span, Window, span_of};
 use pg_hw::Hardware;
 use pg_interp::{Ended, Frame, Write, overlaid, step_in};
-use pg_machine::Machine;
+use pg_mach_ready::Machine;
 use pg_word::{Cause, NEW_PSW_CELL, OLD_PSW_CELL, Psw, pack_trap, unpack};
 
 /// What is told of an interpreted step.

@@ -6,15 +6,15 @@ use Rattle.std.proofs.lemmas.List.{length-map, length-set, length-take-le, get_o
 use Rattle.std.proofs.lemmas.List.Elements.{All-nil, All-cons, All-tail, All-head}
 use Rattle.std.proofs.lemmas.Option.{same_Some, slice_get-map, slice_get-get_or, slice_get_within}
 use Rattle.pg_ast.specs.declared.tree.Desc.{Desc}
-use Rattle.pg_meaning.specs.States.{State}
-use Rattle.pg_meaning.specs.Steps.{steps}
-use Rattle.pg_valid.specs.Valid.{IsValid}
+use Rattle.pg_lang_meaning.specs.States.{State}
+use Rattle.pg_lang_meaning.specs.Steps.{steps}
+use Rattle.pg_lang_valid.specs.Valid.{IsValid}
 use Rattle.pg_hw.specs.Machinery.{Machinery}
-use Rattle.pg_control.specs.declared.guest.Guest.{Guest}
-use Rattle.pg_control.specs.Guests.{virtual, virtuals}
-use Rattle.pg_control.specs.Standing.{Stands}
-use Rattle.pg_control.specs.Plans.{turns_for}
-use Rattle.pg_control.proofs.GuestLemmas.{All-at, virtuals-at}
+use Rattle.pg_mon_control.specs.declared.guest.Guest.{Guest}
+use Rattle.pg_mon_control.specs.Guests.{virtual, virtuals}
+use Rattle.pg_mon_control.specs.Standing.{Stands}
+use Rattle.pg_mon_control.specs.Plans.{turns_for}
+use Rattle.pg_mon_control.proofs.GuestLemmas.{All-at, virtuals-at}
 use Rattle.pg_monitor.specs.Plans.{Followed}
 use Rattle.pg_monitor.specs.Schedules.{Begun}
 use Rattle.pg_monitor.specs.Turns.{Turned}

@@ -2,7 +2,7 @@
 use Rattle.std.proofs.Common.{◌≡◌, ℕ, zero, suc, ◌+◌, ◌-◌, ◌*◌, ◌/◌, ◌<◌, ◌≤◌, ◌⊎◌, inl, inr, ◌==◌, Bool, true, false, min, if◌then◌else◌, List, [], ◌∷◌, ◌++◌, length, map, Option, None, Some, slice_get, refl, sym, ◌∙◌, ap, subst, arith, append_assoc}
 use Rattle.std.proofs.lemmas.Bool.{eqb-true, eqb-false, le-leb}
 use Rattle.std.proofs.lemmas.Nat.{div-mul-add}
-use Rattle.pg_control.specs.Plans.{turns_for}
+use Rattle.pg_mon_control.specs.Plans.{turns_for}
 use Rattle.pg_monitor.specs.Settling.{first_of}
 use Rattle.pg_run_still.specs.declared.rounds.Rest.{Rest}
 use Rattle.pg_run_still.specs.Rounds.{goes_on, round_behind, rounds_until, turns_until}

@@ -3,29 +3,29 @@ use Rattle.std.proofs.Common.{◌≡◌, ℕ, zero, suc, ◌+◌, ◌-◌, ◌*�
 use Rattle.std.specs.Option.{option_map}
 use Rattle.std.proofs.lemmas.List.{length-map}
 use Rattle.pg_ast.specs.declared.tree.Desc.{Desc}
-use Rattle.pg_meaning.specs.States.{State}
-use Rattle.pg_meaning.specs.Steps.{steps}
-use Rattle.pg_meaning.proofs.StepLaws.{steps-add, steps-stay}
+use Rattle.pg_lang_meaning.specs.States.{State}
+use Rattle.pg_lang_meaning.specs.Steps.{steps}
+use Rattle.pg_lang_meaning.proofs.StepLaws.{steps-add, steps-stay}
 use Rattle.pg_hw.specs.Machinery.{Machinery}
-use Rattle.pg_control.specs.Counting.{BottomTurns}
-use Rattle.pg_control.specs.Direct.{direct_among}
-use Rattle.pg_control.specs.Guests.{grants_of, virtual, virtuals}
-use Rattle.pg_control.specs.Plans.{turns_of, turns_for}
-use Rattle.pg_control.specs.Standing.{Stands}
-use Rattle.pg_control.proofs.CountLemmas.{direct_among-most}
-use Rattle.pg_control.proofs.PlanLemmas.{count_of-most, grants-length, turns_of-append}
-use Rattle.pg_guests.proofs.RanLemmas.{changes-most}
+use Rattle.pg_mon_control.specs.Counting.{BottomTurns}
+use Rattle.pg_mon_control.specs.Direct.{direct_among}
+use Rattle.pg_mon_control.specs.Guests.{grants_of, virtual, virtuals}
+use Rattle.pg_mon_control.specs.Plans.{turns_of, turns_for}
+use Rattle.pg_mon_control.specs.Standing.{Stands}
+use Rattle.pg_mon_control.proofs.CountLemmas.{direct_among-most}
+use Rattle.pg_mon_control.proofs.PlanLemmas.{count_of-most, grants-length, turns_of-append}
+use Rattle.pg_run_guests.proofs.RanLemmas.{changes-most}
 use Rattle.pg_monitor.specs.declared.monitor.Monitor.{Monitor}
 use Rattle.pg_monitor.specs.Monitors.{desc_of, kept_by}
 use Rattle.pg_monitor.specs.Plans.{direct_of, cell_behind, psw_behind, changes_of}
 use Rattle.pg_monitor.specs.Settling.{TellsFirst}
 use Rattle.pg_monitor.specs.Turns.{CountsTurns}
 use Rattle.pg_monitor.proofs.PlanLemmas.{Followed-own}
-use Rattle.pg_shown.specs.Begun.{IsBegun}
-use Rattle.pg_shown.specs.Runs.{GuestRun, guests_of}
-use Rattle.pg_shown.specs.Setting.{CanRun}
-use Rattle.pg_shown.proofs.StartedLemmas.{IsLoaded, on-room, on-small, on-first, on-outside, on-psw, on-steps, on-untrapped, on-loads, on-pokes, on-bottom, begun-count, begun-states}
-use Rattle.pg_shown.proofs.SettingLemmas.{granted-same, guests-length}
+use Rattle.pg_run_base.specs.Begun.{IsBegun}
+use Rattle.pg_run_base.specs.Runs.{GuestRun, guests_of}
+use Rattle.pg_run_base.specs.Setting.{CanRun}
+use Rattle.pg_run_base.proofs.StartedLemmas.{IsLoaded, on-room, on-small, on-first, on-outside, on-psw, on-steps, on-untrapped, on-loads, on-pokes, on-bottom, begun-count, begun-states}
+use Rattle.pg_run_base.proofs.SettingLemmas.{granted-same, guests-length}
 use Rattle.pg_run_still.specs.declared.rounds.Rest.{Rest}
 use Rattle.pg_run_still.specs.declared.running.Rested.{Rested}
 use Rattle.pg_run_still.specs.Rounds.{goes_on, round_behind, rounds_until}

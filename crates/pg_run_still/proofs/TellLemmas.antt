@@ -2,7 +2,7 @@
 use Rattle.std.proofs.Common.{◌≡◌, ℕ, suc, ◌+◌, ◌≤◌, List, [], ◌∷◌, ◌++◌, length, take, drop, Some, slice_get, refl, sym, ◌∙◌, ap, arith, append_assoc}
 use Rattle.std.proofs.lemmas.List.{append-nil, take_more, take-append-drop, length-take-le}
 use Rattle.std.proofs.lemmas.Option.{get_or_from_slice_get, slice_get_within}
-use Rattle.pg_meaning.specs.States.{State}
+use Rattle.pg_lang_meaning.specs.States.{State}
 use Rattle.pg_report.specs.Runs.{steps_line}
 use Rattle.pg_run_still.specs.declared.rounds.Rest.{Rest}
 use Rattle.pg_run_still.specs.declared.view.View.{View}

@@ -1,12 +1,12 @@
 -- Guests behind their last turn, as the code has them.
 use Rattle.std.specs.Prelude.{◌≡◌, ℕ}
 use Rattle.pg_hw.specs.Machinery.{Machinery}
-use Rattle.pg_control.specs.Guests.{grants_of, virtuals}
-use Rattle.pg_control.specs.Plans.{turns_of}
-use Rattle.pg_control.specs.Standing.{Stands}
+use Rattle.pg_mon_control.specs.Guests.{grants_of, virtuals}
+use Rattle.pg_mon_control.specs.Plans.{turns_of}
+use Rattle.pg_mon_control.specs.Standing.{Stands}
 use Rattle.pg_monitor.specs.Monitors.{desc_of}
 use Rattle.pg_monitor.specs.Plans.{direct_of}
-use Rattle.pg_shown.specs.Runs.{GuestRun, guests_of}
+use Rattle.pg_run_base.specs.Runs.{GuestRun, guests_of}
 use Rattle.pg_run_still.specs.declared.running.Rested.{Rested}
 use Rattle.pg_run_still.specs.Running.{RanStill, plan_until, rested}
 

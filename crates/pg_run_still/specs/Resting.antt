@@ -1,11 +1,11 @@
 -- Guests that ran until they were still, or had all their turns.
 use Rattle.std.specs.Prelude.{◌≡◌, ℕ, ◌+◌, ◌*◌, ◌<◌, ◌≤◌, List, All, length, map, Option, None, Some, slice_get}
 use Rattle.pg_ast.specs.declared.tree.Desc.{Desc}
-use Rattle.pg_meaning.specs.States.{State}
+use Rattle.pg_lang_meaning.specs.States.{State}
 use Rattle.pg_hw.specs.Machinery.{Machinery}
-use Rattle.pg_control.specs.declared.guest.Guest.{Guest}
-use Rattle.pg_control.specs.Guests.{virtuals}
-use Rattle.pg_control.specs.Plans.{turns_for}
+use Rattle.pg_mon_control.specs.declared.guest.Guest.{Guest}
+use Rattle.pg_mon_control.specs.Guests.{virtuals}
+use Rattle.pg_mon_control.specs.Plans.{turns_for}
 use Rattle.pg_monitor.specs.Plans.{Followed}
 use Rattle.pg_monitor.specs.Schedules.{Begun}
 use Rattle.pg_monitor.specs.Settling.{TellsFirst, first_of}

@@ -3,16 +3,16 @@ use Rattle.std.specs.Prelude.{◌≡◌, ℕ, suc, ◌+◌, ◌-◌, ◌*◌, �
 use Rattle.std.specs.Fmt.{decimal}
 use Rattle.pg_ast.specs.declared.tree.Desc.{Desc}
 use Rattle.pg_word.specs.Psw.{new_psw_cell, old_psw_cell, packed, power_on_psw}
-use Rattle.pg_meaning.specs.States.{State}
-use Rattle.pg_meaning.specs.Steps.{steps}
+use Rattle.pg_lang_meaning.specs.States.{State}
+use Rattle.pg_lang_meaning.specs.Steps.{steps}
 use Rattle.pg_hw.specs.Machinery.{Machinery}
 use Rattle.pg_alloc.specs.Fit.{kept_cells}
-use Rattle.pg_control.specs.Counting.{BottomTurns}
-use Rattle.pg_control.specs.Plans.{turns_of, IsOutside}
+use Rattle.pg_mon_control.specs.Counting.{BottomTurns}
+use Rattle.pg_mon_control.specs.Plans.{turns_of, IsOutside}
 use Rattle.pg_monitor.specs.Plans.{cell_behind, changes_of, direct_of, psw_behind}
 use Rattle.pg_report.specs.Runs.{steps_line}
-use Rattle.pg_shown.specs.Runs.{GuestRun, cells_in, granted, guests_of}
-use Rattle.pg_shown.specs.Setting.{HaveRoom}
+use Rattle.pg_run_base.specs.Runs.{GuestRun, cells_in, granted, guests_of}
+use Rattle.pg_run_base.specs.Setting.{HaveRoom}
 use Rattle.pg_run_still.specs.declared.rounds.Rest.{Rest}
 use Rattle.pg_run_still.specs.declared.view.View.{View}
 use Rattle.pg_run_still.specs.Rounds.{rounds_until}

@@ -1,6 +1,6 @@
 -- What is told of a guest in place of its state: some of its cells, as words or as bytes.
 use Rattle.std.specs.Prelude.{ℕ, zero, suc, ◌+◌, ◌-◌, ◌*◌, ◌/◌, ◌%◌, ◌≤◌, List, [], ◌∷◌, ◌++◌, All}
-use Rattle.pg_meaning.specs.States.{State}
+use Rattle.pg_lang_meaning.specs.States.{State}
 use Rattle.pg_image.specs.Lines.{cells_text, line_cells, line_count, line_words, state_text}
 use Rattle.pg_report.specs.Spans.{span}
 use Rattle.pg_run_still.specs.declared.view.Span.{Span}

@@ -1,10 +1,10 @@
 //! Rounds of guests that run until they are still.
 
 ghost use Rattle.std.specs.Prelude.{◌≡◌, ℕ, ◌+◌, ◌<◌, ◌≤◌, ◌^◌, [], ◌∷◌, All, IfSome, false, length, None, Some, slice_get};
-ghost use Rattle.pg_meaning.specs.States.{State};
+ghost use Rattle.pg_lang_meaning.specs.States.{State};
 ghost use Rattle.pg_hw.specs.Serving.{IsServed};
-ghost use Rattle.pg_control.specs.Guests.{virtuals};
-ghost use Rattle.pg_control.specs.Standing.{Stands};
+ghost use Rattle.pg_mon_control.specs.Guests.{virtuals};
+ghost use Rattle.pg_mon_control.specs.Standing.{Stands};
 ghost use Rattle.pg_monitor.specs.Monitors.{desc_of};
 ghost use Rattle.pg_monitor.specs.Schedules.{Begun};
 ghost use Rattle.pg_monitor.specs.Settling.{first_of};

@@ -3,8 +3,8 @@
 ghost use Rattle.std.specs.Prelude.{◌≡◌, ◌+◌, ◌<◌, ◌≤◌, ◌^◌, [], ◌∷◌, ◌++◌, All, codes, length};
 ghost use Rattle.std.specs.Fmt.{decimal};
 ghost use Rattle.pg_edge.specs.Sink.{Puts};
-ghost use Rattle.pg_control.specs.Guests.{virtual, virtuals};
-ghost use Rattle.pg_shown.specs.Telling.{AreWithin};
+ghost use Rattle.pg_mon_control.specs.Guests.{virtual, virtuals};
+ghost use Rattle.pg_run_base.specs.Telling.{AreWithin};
 ghost use Rattle.pg_run_still.specs.Running.{head_text, rests_text, still_text};
 ghost use Rattle.pg_run_still.specs.Views.{AreViewsOf, guest_text};
 
@@ -12,11 +12,11 @@ use crate::rounds::Rest;
 use crate::running::Rested;
 use crate::view::View;
 use crate::viewing::put_views;
-use pg_control::Guest;
 use pg_edge::{Failed, Sink};
 use pg_hw::Hardware;
 use pg_image::{Line, push};
-use pg_machine::Machine;
+use pg_mach_ready::Machine;
+use pg_mon_control::Guest;
 use pg_report::{put_state, put_steps};
 use pg_text::dec;
 

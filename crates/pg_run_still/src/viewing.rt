@@ -8,15 +8,15 @@ ghost use Rattle.pg_edge.specs.Sink.{Puts};
 ghost use Rattle.pg_word.specs.Shape.{IsShape};
 ghost use Rattle.pg_image.specs.Lines.{line_cells, line_count, line_words};
 ghost use Rattle.pg_report.specs.Spans.{span};
-ghost use Rattle.pg_control.specs.Guests.{virtual};
+ghost use Rattle.pg_mon_control.specs.Guests.{virtual};
 ghost use Rattle.pg_run_still.specs.Views.{AreViewsOf, bytes_of, end_of, low_bytes, rows_from, view_text, views_text};
 
 use crate::view::{ByteCount, Span, View};
 use arrayvec::ArrayVec;
-use pg_control::Guest;
 use pg_edge::{Failed, Sink};
 use pg_hw::Hardware;
 use pg_image::{LINE_CELLS, cell_line};
+use pg_mon_control::Guest;
 use pg_word::Shape;
 
 /// How many cells a line shows, to reckon addresses with.

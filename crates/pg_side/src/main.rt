@@ -8,9 +8,9 @@
 //! word behind the name are answered on standard output.
 //!
 //! Here it is found which program is meant (`words`), and that one is called. How they take their words is in `pg_cli_forms`, why a
-//! machine is refused in `pg_cmd_explain`, what each step of a run does in `pg_cmd_trace`, runs that end in `pg_cmd_going`, findings of other solvers in
-//! `pg_cmd_import`, the clauses of a question and logs for other checkers in `pg_cmd_proofs`, and the solver on clauses in
-//! `pg_cmd_solve`.
+//! machine is refused in `pg_prog_explain`, what each step of a run does in `pg_prog_trace`, runs that end in `pg_prog_go`, findings of other solvers in
+//! `pg_prog_import`, the clauses of a question and logs for other checkers in `pg_prog_proofs`, and the solver on clauses in
+//! `pg_prog_solve`.
 //!
 //! A program beside these is a variant of `Side` and a `run` of its own. Nothing that `pgv` does stands on any of them.
 #![tactic(auto)]
@@ -24,13 +24,13 @@ use pg_cli_says::{
     say_no_text, say_why, words,
 };
 use pg_cli_version::VERSION;
-use pg_cmd_proofs::{dimacs, export};
+use pg_cmd_base::{Status, StopWatcher};
 use pg_edge::{Failed, Shelf, Sink};
-use pg_host::streams::write_whole;
-use pg_host::{DirShelf, Progress, StdSink};
+use pg_io_host::streams::write_whole;
+use pg_io_host::{DirShelf, Progress, StdSink};
+use pg_prog_proofs::{dimacs, export};
 use pg_report::put_text;
 use pg_rig::Rig;
-use pg_steps::{Status, StopWatcher};
 use std::cell::RefCell;
 use std::io::IsTerminal;
 use std::process::ExitCode;
@@ -59,7 +59,7 @@ fn run(rt: &HostRuntime, call: Call) -> u8 {
 /// The status of a program for whose words there is no memory.
 fn starved(rt: &HostRuntime, side: Side) -> u8 {
     match side {
-        Side::Solve => pg_cmd_solve::starved(rt),
+        Side::Solve => pg_prog_solve::starved(rt),
         Side::Explain | Side::Trace | Side::Go | Side::Dimacs | Side::Import | Side::Export => {
             say_why(&mut rt.stderr(), side.program(), Status::Memory, None, None);
             Status::Memory.code()
@@ -96,12 +96,12 @@ fn answer(rt: &HostRuntime, side: Side, words: &[String]) -> u8 {
 /// How a program is called.
 fn usage(side: Side) -> &'static [u8] {
     match side {
-        Side::Explain => pg_cmd_explain::USAGE,
-        Side::Trace => pg_cmd_trace::USAGE,
-        Side::Go => pg_cmd_going::USAGE,
+        Side::Explain => pg_prog_explain::USAGE,
+        Side::Trace => pg_prog_trace::USAGE,
+        Side::Go => pg_prog_go::USAGE,
         Side::Dimacs => dimacs::USAGE,
-        Side::Solve => pg_cmd_solve::USAGE,
-        Side::Import => pg_cmd_import::USAGE,
+        Side::Solve => pg_prog_solve::USAGE,
+        Side::Import => pg_prog_import::USAGE,
         Side::Export => export::USAGE,
     }
 }
@@ -125,8 +125,8 @@ fn run_on(rt: &HostRuntime, side: Side, words: &[String]) -> u8 {
 /// reads. None of any other.
 fn unwatched(rt: &HostRuntime, side: Side, words: &[String]) -> Option<u8> {
     match side {
-        Side::Solve => Some(pg_cmd_solve::run(rt, words)),
-        Side::Explain => pg_cmd_explain::refused(rt, &mut rt.stderr(), words),
+        Side::Solve => Some(pg_prog_solve::run(rt, words)),
+        Side::Explain => pg_prog_explain::refused(rt, &mut rt.stderr(), words),
         Side::Trace | Side::Go | Side::Dimacs | Side::Import | Side::Export => None,
     }
 }
@@ -184,21 +184,21 @@ fn carry<F: Shelf, S: Sink, W: StopWatcher + WordsWatcher>(
     match side {
         Side::Explain => {
             let mut layout = None;
-            let status = pg_cmd_explain::run(alloc, words, shelf, out, &mut layout, watcher);
-            pg_cmd_explain::say_layout(&mut rt.stderr(), layout);
+            let status = pg_prog_explain::run(alloc, words, shelf, out, &mut layout, watcher);
+            pg_prog_explain::say_layout(&mut rt.stderr(), layout);
             status
         }
         Side::Trace => {
             let mut hw = Rig::new(alloc);
-            pg_cmd_trace::run(alloc, words, shelf, out, &mut hw, watcher)
+            pg_prog_trace::run(alloc, words, shelf, out, &mut hw, watcher)
         }
         Side::Go => {
             let mut hw = Rig::new(alloc);
-            pg_cmd_going::run(alloc, words, shelf, out, &mut hw, watcher)
+            pg_prog_go::run(alloc, words, shelf, out, &mut hw, watcher)
         }
         Side::Dimacs => dimacs::run(alloc, words, shelf, out, watcher),
-        Side::Solve => pg_cmd_solve::run(rt, words),
-        Side::Import => pg_cmd_import::run(alloc, words, shelf, out, watcher),
+        Side::Solve => pg_prog_solve::run(rt, words),
+        Side::Import => pg_prog_import::run(alloc, words, shelf, out, watcher),
         Side::Export => export::run(alloc, words, shelf, out, watcher),
     }
 }

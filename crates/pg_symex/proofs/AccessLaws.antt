@@ -24,7 +24,7 @@ use Rattle.pg_cells.specs.Storage.{Agrees, written}
 use Rattle.pg_cells.specs.Cells.{known_cells, puts_of}
 use Rattle.pg_cells.specs.Made.{touch_made, cells_after}
 use Rattle.pg_cells.proofs.TouchLaws.{touches}
-use Rattle.pg_meaning.specs.Values.{Bits, bits, Meaning, with_value, loaded}
+use Rattle.pg_lang_meaning.specs.Values.{Bits, bits, Meaning, with_value, loaded}
 use Rattle.pg_symex.specs.Flow.{SymEntry, SymLets, Flow, view_of}
 use Rattle.pg_symex.specs.Numbers.{value_of, window_value}
 use Rattle.pg_symex.specs.There.{AreBits, IsSymEntry, IsFlow}

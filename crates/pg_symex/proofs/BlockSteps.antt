@@ -17,11 +17,11 @@ use Rattle.pg_ast.specs.declared.tree.Stmt.TheVariants.{If, rolls-Let, rolls-Sto
 use Rattle.pg_ast.specs.declared.tree.Stmt.TheOpen as Open
 use Rattle.pg_ast.specs.declared.tree.Stmt.TheFolds.{ind-Stmt, map-Stmt}
 use Rattle.pg_ast.specs.declared.tree.Stmt.TheViews.{roll-Stmt}
-use Rattle.pg_meaning.specs.Bodies.{in_order, block_deed, deed_of}
-use Rattle.pg_valid.specs.Limits.{Tally, both, all_of, if_any, stmt_tally}
-use Rattle.pg_valid.specs.Widths.{LetWidths, Keeps, fares_in_order, fares_if_any, after_block, fare_of}
-use Rattle.pg_valid.proofs.DeedSound.{then_fares_keeps}
-use Rattle.pg_valid.proofs.CheckStmtEquations.{stmt_tally-if}
+use Rattle.pg_lang_meaning.specs.Bodies.{in_order, block_deed, deed_of}
+use Rattle.pg_lang_valid.specs.Limits.{Tally, both, all_of, if_any, stmt_tally}
+use Rattle.pg_lang_valid.specs.Widths.{LetWidths, Keeps, fares_in_order, fares_if_any, after_block, fare_of}
+use Rattle.pg_lang_valid.proofs.DeedSound.{then_fares_keeps}
+use Rattle.pg_lang_valid.proofs.CheckStmtEquations.{stmt_tally-if}
 use Rattle.pg_symex.specs.declared.run.Run.{Run}
 use Rattle.pg_symex.specs.Flow.{SymEntry, SymLets, SymRun}
 use Rattle.pg_symex.specs.Numbers.{entry_value}

@@ -12,8 +12,8 @@ use Rattle.pg_vec.specs.Makes.{MakesBits}
 use Rattle.pg_vec.proofs.Kept.{front_same, front_then, there_later, all_there_later, values_earlier}
 use Rattle.pg_cells.specs.declared.cell.Write.{Write}
 use Rattle.pg_cells.proofs.OverLaws.{IsOver-later}
-use Rattle.pg_meaning.specs.Values.{Bits, bits, Entry, Lets, Meaning, with_value}
-use Rattle.pg_valid.specs.Widths.{LetWidths}
+use Rattle.pg_lang_meaning.specs.Values.{Bits, bits, Entry, Lets, Meaning, with_value}
+use Rattle.pg_lang_valid.specs.Widths.{LetWidths}
 use Rattle.pg_symex.specs.declared.regs.Regs.{Regs}
 use Rattle.pg_symex.specs.Flow.{SymEntry, SymLets, Flow, view_of, with_nodes}
 use Rattle.pg_symex.specs.Numbers.{value_of, entry_value, lets_value, window_value}

@@ -19,13 +19,13 @@ use Rattle.pg_ast.specs.declared.tree.Expr.TheVariants.{Lit, Name, Pc, Mode, Rel
 use Rattle.pg_ast.specs.declared.tree.Expr.TheOpen as Open
 use Rattle.pg_ast.specs.declared.tree.Expr.TheFolds.{ind-Expr, map-Expr}
 use Rattle.pg_ast.specs.declared.tree.Expr.TheViews.{roll-Expr}
-use Rattle.pg_meaning.specs.Patterns.{field_of}
-use Rattle.pg_meaning.proofs.PatternLemmas.{field_of-within}
-use Rattle.pg_meaning.specs.Values.{bits, name_value, op_value, value}
-use Rattle.pg_meaning.proofs.ValueEquations as values
-use Rattle.pg_valid.specs.Widths.{where_holds, with_width, op_width, cut_width, widened_width, choice_width, width_of}
-use Rattle.pg_valid.proofs.CheckLemmas.{and_both}
-use Rattle.pg_valid.proofs.WidthEquations as widths
+use Rattle.pg_lang_meaning.specs.Patterns.{field_of}
+use Rattle.pg_lang_meaning.proofs.PatternLemmas.{field_of-within}
+use Rattle.pg_lang_meaning.specs.Values.{bits, name_value, op_value, value}
+use Rattle.pg_lang_meaning.proofs.ValueEquations as values
+use Rattle.pg_lang_valid.specs.Widths.{where_holds, with_width, op_width, cut_width, widened_width, choice_width, width_of}
+use Rattle.pg_lang_valid.proofs.CheckLemmas.{and_both}
+use Rattle.pg_lang_valid.proofs.WidthEquations as widths
 use Rattle.pg_symex.specs.There.{AreBits, sym_setting}
 use Rattle.pg_symex.specs.Exprs.{literal_bits, name_bits, bit_0, op_made, expr_made}
 use Rattle.pg_symex.specs.Follows.{Makes, IsRight}

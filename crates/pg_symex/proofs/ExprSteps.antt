@@ -17,14 +17,14 @@ use Rattle.pg_ast.specs.declared.name.Name.{Name as Names}
 use Rattle.pg_ast.specs.declared.tree.Op.{Op}
 use Rattle.pg_ast.specs.declared.tree.Expr.{Expr}
 use Rattle.pg_ast.specs.declared.tree.Expr.TheVariants.{Lit, Name, Load, Not, Bin, Cat, Cut, Ext, Sext, Sel}
-use Rattle.pg_meaning.specs.Patterns.{field_of}
-use Rattle.pg_meaning.proofs.PatternLemmas.{field_of-within}
-use Rattle.pg_meaning.specs.Values.{value}
-use Rattle.pg_valid.specs.Limits.{Tally, both, expr_tally}
-use Rattle.pg_valid.specs.Widths.{where_holds, with_width, op_width, cut_width, widened_width, choice_width, width_of}
-use Rattle.pg_valid.proofs.CheckLemmas.{and_both}
-use Rattle.pg_valid.proofs.WidthEquations as widths
-use Rattle.pg_valid.proofs.CheckExprEquations.{expr_tally-load, expr_tally-not, expr_tally-bin, expr_tally-cat, expr_tally-cut, expr_tally-ext, expr_tally-sext, expr_tally-sel}
+use Rattle.pg_lang_meaning.specs.Patterns.{field_of}
+use Rattle.pg_lang_meaning.proofs.PatternLemmas.{field_of-within}
+use Rattle.pg_lang_meaning.specs.Values.{value}
+use Rattle.pg_lang_valid.specs.Limits.{Tally, both, expr_tally}
+use Rattle.pg_lang_valid.specs.Widths.{where_holds, with_width, op_width, cut_width, widened_width, choice_width, width_of}
+use Rattle.pg_lang_valid.proofs.CheckLemmas.{and_both}
+use Rattle.pg_lang_valid.proofs.WidthEquations as widths
+use Rattle.pg_lang_valid.proofs.CheckExprEquations.{expr_tally-load, expr_tally-not, expr_tally-bin, expr_tally-cat, expr_tally-cut, expr_tally-ext, expr_tally-sext, expr_tally-sel}
 use Rattle.pg_symex.specs.declared.guards.Guards.{Guards}
 use Rattle.pg_symex.specs.Flow.{SymEntry, SymLets, Flow, view_of}
 use Rattle.pg_symex.specs.FlowView.{flow_as}

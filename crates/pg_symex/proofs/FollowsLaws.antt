@@ -1,6 +1,6 @@
 -- What follows where one part comes after another, over plain values.
 use Rattle.std.proofs.Common.{◌≡◌, Bool, true, false, ◌||◌, Option, None, Some, refl, sym, ap, ◌∙◌, subst}
-use Rattle.pg_meaning.specs.Values.{Bits, with_value}
+use Rattle.pg_lang_meaning.specs.Values.{Bits, with_value}
 use Rattle.pg_symex.specs.Follows.{Follows}
 
 or-false : (b : Bool) → (b || false) ≡ b

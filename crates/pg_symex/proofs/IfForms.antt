@@ -12,8 +12,8 @@ use Rattle.pg_vec.specs.There.{AreValues}
 use Rattle.pg_vec.specs.Gates.{or_made}
 use Rattle.pg_vec.proofs.Kept.{front_same, front_then, there_later, values_earlier, and-makes}
 use Rattle.pg_vec.proofs.GateLaws.{or-makes}
-use Rattle.pg_meaning.specs.Bodies.{Course, MemTrapped, Trapped, Going, Run}
-use Rattle.pg_valid.specs.Widths.{LetWidths}
+use Rattle.pg_lang_meaning.specs.Bodies.{Course, MemTrapped, Trapped, Going, Run}
+use Rattle.pg_lang_valid.specs.Widths.{LetWidths}
 use Rattle.pg_symex.specs.Flow.{SymEntry, SymLets, SymRun, with_nodes}
 use Rattle.pg_symex.specs.Numbers.{next_psw, lets_value, window_value}
 use Rattle.pg_symex.specs.There.{IsSymEntry}

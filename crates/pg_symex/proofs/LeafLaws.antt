@@ -11,10 +11,10 @@ use Rattle.pg_vec.specs.Number.{number, bit_of}
 use Rattle.pg_vec.specs.There.{AreThere, AreValues}
 use Rattle.pg_vec.proofs.Sums.{pow-more}
 use Rattle.pg_vec.proofs.StringLaws.{cut-makes}
-use Rattle.pg_meaning.specs.Patterns.{Field, field_value}
-use Rattle.pg_meaning.specs.Values.{bits, let_value, field_or_let}
-use Rattle.pg_meaning.proofs.PatternLemmas.{LiesWithin}
-use Rattle.pg_valid.specs.Widths.{LetWidths, let_width, field_or_let_width}
+use Rattle.pg_lang_meaning.specs.Patterns.{Field, field_value}
+use Rattle.pg_lang_meaning.specs.Values.{bits, let_value, field_or_let}
+use Rattle.pg_lang_meaning.proofs.PatternLemmas.{LiesWithin}
+use Rattle.pg_lang_valid.specs.Widths.{LetWidths, let_width, field_or_let_width}
 use Rattle.pg_symex.specs.Flow.{SymEntry, SymLets}
 use Rattle.pg_symex.specs.Numbers.{value_of, entry_value, lets_value}
 use Rattle.pg_symex.specs.There.{AreBits, IsSymEntry, LetsAre}

@@ -1,7 +1,7 @@
 -- Lets, the newest first.
 use Rattle.std.proofs.Common.{◌≡◌, ℕ, ◌-◌, ◌≤◌, List, length, take, drop, reverse, ap, sym, ◌∙◌, arith, map}
 use Rattle.std.proofs.lemmas.List.{length-reverse, take-map}
-use Rattle.pg_valid.proofs.GrowLemmas.{oldest}
+use Rattle.pg_lang_valid.proofs.GrowLemmas.{oldest}
 use Rattle.pg_symex.specs.Flow.{SymLets}
 use Rattle.pg_circuit.specs.declared.node.Gate.{Gate}
 

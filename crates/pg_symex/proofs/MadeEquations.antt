@@ -6,7 +6,7 @@ use Rattle.pg_ast.specs.declared.name.Name.{Name as Names}
 use Rattle.pg_ast.specs.declared.tree.Op.{Op}
 use Rattle.pg_ast.specs.declared.tree.Expr.{Expr}
 use Rattle.pg_ast.specs.declared.tree.Expr.TheVariants.{Lit, Name, Pc, Mode, Rel, Bound, Load, Not, Bin, Cat, Cut, Ext, Sext, Sel}
-use Rattle.pg_meaning.proofs.Folds.{expr-bin, expr-bound, expr-cat, expr-cut, expr-ext, expr-lit, expr-load, expr-mode, expr-name, expr-not, expr-pc, expr-rel, expr-sel, expr-sext}
+use Rattle.pg_lang_meaning.proofs.Folds.{expr-bin, expr-bound, expr-cat, expr-cut, expr-ext, expr-lit, expr-load, expr-mode, expr-name, expr-not, expr-pc, expr-rel, expr-sel, expr-sext}
 use Rattle.pg_symex.specs.Flow.{SymEntry, SymLets, Flow}
 use Rattle.pg_symex.specs.Exprs.{literal_bits, name_bits, bit_0, then_bits, made_in, op_made, load_made, Making, expr_step, expr_made}
 

@@ -9,8 +9,8 @@ use Rattle.pg_vec.specs.Makes.{MakesBits}
 use Rattle.pg_vec.proofs.OpLaws.{add_worth, sub_worth, mul_worth, and_worth, or_worth, xor_worth, eq_worth, lt_worth, shl_worth, shr_worth}
 use Rattle.pg_ast.specs.declared.tree.Op.{Op}
 use Rattle.pg_ast.specs.declared.tree.Op.TheVariants.{Add, Sub, Mul, And, Or, Xor, Eq, Lt, Shl, Shr}
-use Rattle.pg_meaning.specs.Values.{op_value}
-use Rattle.pg_valid.specs.Widths.{where_holds, op_width}
+use Rattle.pg_lang_meaning.specs.Values.{op_value}
+use Rattle.pg_lang_valid.specs.Widths.{where_holds, op_width}
 use Rattle.pg_symex.specs.Numbers.{value_of}
 use Rattle.pg_symex.specs.There.{AreBits}
 use Rattle.pg_symex.specs.Exprs.{op_made}

@@ -1,7 +1,7 @@
 -- The widths that operators take.
 use Rattle.std.proofs.Common.{◌≡◌, ℕ, ◌==◌, Bool, true, false, IsSome, refl}
 use Rattle.std.proofs.lemmas.Bool.{eqb-true}
-use Rattle.pg_valid.specs.Widths.{where_holds}
+use Rattle.pg_lang_valid.specs.Widths.{where_holds}
 
 by_test : (b : Bool) (j k n : ℕ) → (b ≡ true → j ≡ k) → IsSome (where_holds b n) → j ≡ k
 by_test true j k n e h = e refl

@@ -16,12 +16,12 @@ use Rattle.pg_cells.proofs.TouchLaws.{touches}
 use Rattle.pg_ast.specs.declared.tree.Stmt.{Stmt}
 use Rattle.pg_ast.specs.declared.tree.Instr.{Instr}
 use Rattle.pg_ast.specs.declared.tree.Desc.{Desc}
-use Rattle.pg_meaning.specs.Bodies.{Course, MemTrapped, Trapped, Going, then_do, Run, in_order, deed_of, entry_of, begun, body}
-use Rattle.pg_valid.specs.Widths.{Broken, LetWidths, Keeps, fares_in_order, fare_of, setting_of, width_broken_in, placed_at, width_broken}
-use Rattle.pg_valid.specs.Valid.{IsValid, as_width}
-use Rattle.pg_valid.proofs.ValidFacts.{IsWidth-word, IsWidth-address}
-use Rattle.pg_valid.proofs.PatternFacts.{valid-length}
-use Rattle.pg_valid.proofs.StepSound.{no_break}
+use Rattle.pg_lang_meaning.specs.Bodies.{Course, MemTrapped, Trapped, Going, then_do, Run, in_order, deed_of, entry_of, begun, body}
+use Rattle.pg_lang_valid.specs.Widths.{Broken, LetWidths, Keeps, fares_in_order, fare_of, setting_of, width_broken_in, placed_at, width_broken}
+use Rattle.pg_lang_valid.specs.Valid.{IsValid, as_width}
+use Rattle.pg_lang_valid.proofs.ValidFacts.{IsWidth-word, IsWidth-address}
+use Rattle.pg_lang_valid.proofs.PatternFacts.{valid-length}
+use Rattle.pg_lang_valid.proofs.StepSound.{no_break}
 use Rattle.pg_symex.specs.declared.regs.Regs.{Regs}
 use Rattle.pg_symex.specs.Flow.{SymEntry, SymRun}
 use Rattle.pg_symex.specs.Numbers.{entry_psw, entry_value}

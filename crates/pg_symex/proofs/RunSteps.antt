@@ -17,13 +17,13 @@ use Rattle.pg_cells.proofs.TouchLaws.{touches}
 use Rattle.pg_cells.proofs.OverLaws.{IsOver-later}
 use Rattle.pg_ast.specs.declared.tree.Instr.{Instr}
 use Rattle.pg_ast.specs.declared.tree.Desc.{Desc}
-use Rattle.pg_meaning.specs.declared.decoder.Decoder.{Decoder}
-use Rattle.pg_meaning.specs.Decoders.{decoder_of}
-use Rattle.pg_valid.specs.Valid.{IsValid}
-use Rattle.pg_valid.specs.Widths.{Keeps, fares_in_order, fare_of, setting_of, width_broken}
-use Rattle.pg_valid.proofs.ValidFacts.{IsWidth-word, IsWidth-address}
-use Rattle.pg_valid.proofs.PatternFacts.{valid-length}
-use Rattle.pg_valid.proofs.StepSound.{no_break}
+use Rattle.pg_lang_meaning.specs.declared.decoder.Decoder.{Decoder}
+use Rattle.pg_lang_meaning.specs.Decoders.{decoder_of}
+use Rattle.pg_lang_valid.specs.Valid.{IsValid}
+use Rattle.pg_lang_valid.specs.Widths.{Keeps, fares_in_order, fare_of, setting_of, width_broken}
+use Rattle.pg_lang_valid.proofs.ValidFacts.{IsWidth-word, IsWidth-address}
+use Rattle.pg_lang_valid.proofs.PatternFacts.{valid-length}
+use Rattle.pg_lang_valid.proofs.StepSound.{no_break}
 use Rattle.pg_symex.specs.declared.regs.Regs.{Regs}
 use Rattle.pg_symex.specs.declared.run.Run.{Run}
 use Rattle.pg_symex.specs.Flow.{SymEntry, SymRun, view_of}

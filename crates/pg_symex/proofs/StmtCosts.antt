@@ -11,11 +11,11 @@ use Rattle.pg_ast.specs.declared.tree.Stmt.{Stmt}
 use Rattle.pg_ast.specs.declared.tree.Stmt.TheVariants.{Let, Store, Pc, Mode, Rel, Bound, Trap, If}
 use Rattle.pg_ast.specs.declared.tree.Instr.{Instr}
 use Rattle.pg_ast.specs.declared.tree.Desc.{Desc}
-use Rattle.pg_valid.specs.declared.fault.Limit.{Limit}
-use Rattle.pg_valid.specs.declared.fault.Limit.TheVariants.{Instructions, Accesses, Lets, Statements, Expressions}
-use Rattle.pg_valid.specs.Limits.{most_instructions, most_accesses, most_lets, most_statements, most_expressions, Tally, both, all_of, if_any, stmt_tally, instr_tally, tally_limit, limit_at, at_number, limit_broken}
-use Rattle.pg_valid.specs.Valid.{IsValid, as_limit}
-use Rattle.pg_valid.proofs.CheckStmtEquations.{stmt_tally-let, stmt_tally-store, stmt_tally-pc, stmt_tally-mode, stmt_tally-rel, stmt_tally-bound, stmt_tally-trap, stmt_tally-if}
+use Rattle.pg_lang_valid.specs.declared.fault.Limit.{Limit}
+use Rattle.pg_lang_valid.specs.declared.fault.Limit.TheVariants.{Instructions, Accesses, Lets, Statements, Expressions}
+use Rattle.pg_lang_valid.specs.Limits.{most_instructions, most_accesses, most_lets, most_statements, most_expressions, Tally, both, all_of, if_any, stmt_tally, instr_tally, tally_limit, limit_at, at_number, limit_broken}
+use Rattle.pg_lang_valid.specs.Valid.{IsValid, as_limit}
+use Rattle.pg_lang_valid.proofs.CheckStmtEquations.{stmt_tally-let, stmt_tally-store, stmt_tally-pc, stmt_tally-mode, stmt_tally-rel, stmt_tally-bound, stmt_tally-trap, stmt_tally-if}
 use Rattle.pg_symex.specs.Calls.{Adds, AddsFew, expr_cost, stmts_cost}
 
 -- ---- what is added

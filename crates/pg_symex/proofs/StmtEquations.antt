@@ -5,7 +5,7 @@ use Rattle.pg_ast.specs.declared.name.Name.{Name as Names}
 use Rattle.pg_ast.specs.declared.tree.Expr.{Expr}
 use Rattle.pg_ast.specs.declared.tree.Stmt.{Stmt}
 use Rattle.pg_ast.specs.declared.tree.Stmt.TheVariants.{Let, Store, Pc, Mode, Rel, Bound, Trap, If}
-use Rattle.pg_meaning.proofs.Folds.{stmt-bound, stmt-if, stmt-let, stmt-mode, stmt-pc, stmt-rel, stmt-store, stmt-trap}
+use Rattle.pg_lang_meaning.proofs.Folds.{stmt-bound, stmt-if, stmt-let, stmt-mode, stmt-pc, stmt-rel, stmt-store, stmt-trap}
 use Rattle.pg_symex.specs.Flow.{SymEntry, SymRun}
 use Rattle.pg_symex.specs.Exprs.{bit_0}
 use Rattle.pg_symex.specs.Stmts.{SymDeed, with_expr, let_made, store_made, assign_p, assign_mode, assign_l, assign_b, trap_made, block_made, else_made, if_made, stmt_step, stmt_made}

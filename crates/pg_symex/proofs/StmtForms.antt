@@ -20,9 +20,9 @@ use Rattle.pg_cells.specs.declared.cell.Write.{Write}
 use Rattle.pg_cells.specs.Storage.{after_put, written}
 use Rattle.pg_cells.specs.Cells.{put_of, puts_of}
 use Rattle.pg_cells.proofs.OverLaws.{IsOver-write}
-use Rattle.pg_meaning.specs.Values.{Bits, Meaning}
-use Rattle.pg_meaning.specs.Bodies.{Course, MemTrapped, Trapped, Going, then_do, Run, store_deed}
-use Rattle.pg_valid.specs.Widths.{LetWidths}
+use Rattle.pg_lang_meaning.specs.Values.{Bits, Meaning}
+use Rattle.pg_lang_meaning.specs.Bodies.{Course, MemTrapped, Trapped, Going, then_do, Run, store_deed}
+use Rattle.pg_lang_valid.specs.Widths.{LetWidths}
 use Rattle.pg_symex.specs.declared.regs.Next.{Next}
 use Rattle.pg_symex.specs.Flow.{SymEntry, Flow, SymRun, view_of, with_nodes}
 use Rattle.pg_symex.specs.Numbers.{value_of, next_psw, entry_value, lets_value, window_value}

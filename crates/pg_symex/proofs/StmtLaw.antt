@@ -13,12 +13,12 @@ use Rattle.pg_ast.specs.declared.tree.Stmt.TheVariants.{Let, Store, Pc, Mode, Re
 use Rattle.pg_ast.specs.declared.tree.Stmt.TheOpen as Open
 use Rattle.pg_ast.specs.declared.tree.Stmt.TheFolds.{ind-Stmt, map-Stmt}
 use Rattle.pg_ast.specs.declared.tree.Stmt.TheViews.{roll-Stmt}
-use Rattle.pg_meaning.specs.Values.{value}
-use Rattle.pg_meaning.specs.Bodies.{Course, Trapped, Going, with_bits, Run, let_deed, store_deed, with_p, with_mode, with_l, with_b, in_order, block_deed, else_deed, deed_of}
-use Rattle.pg_meaning.proofs.DeedEquations as deeds
-use Rattle.pg_valid.specs.Widths.{LetWidths, judged_of, width_of, Keeps, wants, then_fares, fares_in_order, fares_if_any, after_block, fare_of}
-use Rattle.pg_valid.proofs.DeedSound.{wants_keeps, then_fares_keeps, after_block_keeps, binds_keeps}
-use Rattle.pg_valid.proofs.FareEquations as fares
+use Rattle.pg_lang_meaning.specs.Values.{value}
+use Rattle.pg_lang_meaning.specs.Bodies.{Course, Trapped, Going, with_bits, Run, let_deed, store_deed, with_p, with_mode, with_l, with_b, in_order, block_deed, else_deed, deed_of}
+use Rattle.pg_lang_meaning.proofs.DeedEquations as deeds
+use Rattle.pg_lang_valid.specs.Widths.{LetWidths, judged_of, width_of, Keeps, wants, then_fares, fares_in_order, fares_if_any, after_block, fare_of}
+use Rattle.pg_lang_valid.proofs.DeedSound.{wants_keeps, then_fares_keeps, after_block_keeps, binds_keeps}
+use Rattle.pg_lang_valid.proofs.FareEquations as fares
 use Rattle.pg_symex.specs.declared.regs.Next.{Next}
 use Rattle.pg_symex.specs.Flow.{SymEntry, SymRun}
 use Rattle.pg_symex.specs.Numbers.{value_of, entry_value, next_psw}

@@ -13,10 +13,10 @@ use Rattle.pg_ast.specs.declared.name.Name.{Name as Names}
 use Rattle.pg_ast.specs.declared.tree.Expr.{Expr}
 use Rattle.pg_ast.specs.declared.tree.Stmt.{Stmt}
 use Rattle.pg_ast.specs.declared.tree.Stmt.TheVariants.{Let, Store, Pc, Mode, Rel, Bound, If}
-use Rattle.pg_meaning.specs.Bodies.{Course, Run as Runs}
-use Rattle.pg_valid.specs.Widths.{LetWidths, judged_of, width_of, Keeps, wants, then_fares, Faring, fares_in_order, fares_if_any, after_block, fare_of}
-use Rattle.pg_valid.proofs.DeedSound.{wants_keeps, then_fares_keeps, binds_keeps}
-use Rattle.pg_valid.proofs.FareEquations as fares
+use Rattle.pg_lang_meaning.specs.Bodies.{Course, Run as Runs}
+use Rattle.pg_lang_valid.specs.Widths.{LetWidths, judged_of, width_of, Keeps, wants, then_fares, Faring, fares_in_order, fares_if_any, after_block, fare_of}
+use Rattle.pg_lang_valid.proofs.DeedSound.{wants_keeps, then_fares_keeps, binds_keeps}
+use Rattle.pg_lang_valid.proofs.FareEquations as fares
 use Rattle.pg_symex.specs.declared.guards.Guards.{Guards}
 use Rattle.pg_symex.specs.declared.run.Run.{Run}
 use Rattle.pg_symex.specs.declared.regs.Next.{Next}

@@ -3,7 +3,7 @@ use Rattle.std.proofs.Common.{◌≡◌, ℕ, ◌<◌, ◌≤◌, Bool, true, fa
 use Rattle.std.proofs.lemmas.Bool.{ltb-true, ltb-false}
 use Rattle.std.proofs.lemmas.List.{length-take, length-set, get_or-take}
 use Rattle.std.proofs.lemmas.Option.{slice_get_past, slice_get-get_or}
-use Rattle.pg_meaning.specs.Values.{bits, loaded}
+use Rattle.pg_lang_meaning.specs.Values.{bits, loaded}
 use Rattle.pg_cells.specs.Storage.{Put, after_put, written}
 
 -- a load from the first v cells, where the address is one of the storage

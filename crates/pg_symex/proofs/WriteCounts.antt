@@ -11,8 +11,8 @@ use Rattle.pg_ast.specs.declared.tree.Stmt.TheVariants.{Let, Store, Pc, Mode, Re
 use Rattle.pg_ast.specs.declared.tree.Stmt.TheOpen as Open
 use Rattle.pg_ast.specs.declared.tree.Stmt.TheFolds.{ind-Stmt, map-Stmt}
 use Rattle.pg_ast.specs.declared.tree.Stmt.TheViews.{roll-Stmt}
-use Rattle.pg_valid.specs.Limits.{Tally, both, all_of, stmt_tally}
-use Rattle.pg_valid.proofs.CheckStmtEquations.{stmt_tally-store, stmt_tally-if}
+use Rattle.pg_lang_valid.specs.Limits.{Tally, both, all_of, stmt_tally}
+use Rattle.pg_lang_valid.proofs.CheckStmtEquations.{stmt_tally-store, stmt_tally-if}
 use Rattle.pg_symex.specs.declared.run.Run.{Run}
 use Rattle.pg_symex.specs.Flow.{SymEntry, SymRun}
 use Rattle.pg_symex.specs.Stmts.{SymDeed, assigned, trap_made, with_live, joined_made, if_made, in_order_made, block_made, else_made, stmt_made}

@@ -6,8 +6,8 @@ use Rattle.pg_circuit.specs.Grown.{GrowsTo}
 use Rattle.pg_cells.specs.declared.cell.Write.{Write}
 use Rattle.pg_cells.specs.View.{View}
 use Rattle.pg_ast.specs.declared.tree.Expr.{Expr}
-use Rattle.pg_valid.specs.Limits.{Tally, expr_tally}
-use Rattle.pg_valid.specs.Widths.{LetWidths, width_of}
+use Rattle.pg_lang_valid.specs.Limits.{Tally, expr_tally}
+use Rattle.pg_lang_valid.specs.Widths.{LetWidths, width_of}
 use Rattle.pg_symex.specs.declared.guards.Guards.{Guards}
 use Rattle.pg_symex.specs.Flow.{SymEntry, SymLets, Flow, view_of}
 use Rattle.pg_symex.specs.FlowView.{flow_as}

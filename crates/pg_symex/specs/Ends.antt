@@ -6,8 +6,8 @@ use Rattle.pg_vec.specs.There.{AreValues}
 use Rattle.pg_cells.specs.Storage.{IsStorage, Agrees}
 use Rattle.pg_cells.specs.Cells.{known_cells}
 use Rattle.pg_ast.specs.declared.tree.Stmt.{Stmt}
-use Rattle.pg_meaning.specs.Bodies.{Course, MemTrapped, Trapped, Going, Run, deed_of}
-use Rattle.pg_valid.specs.Widths.{LetWidths, Keeps, fare_of}
+use Rattle.pg_lang_meaning.specs.Bodies.{Course, MemTrapped, Trapped, Going, Run, deed_of}
+use Rattle.pg_lang_valid.specs.Widths.{LetWidths, Keeps, fare_of}
 use Rattle.pg_symex.specs.Flow.{SymEntry, SymRun}
 use Rattle.pg_symex.specs.Numbers.{next_psw, entry_value, lets_value, window_value}
 use Rattle.pg_symex.specs.There.{AreNext, IsSymEntry, sym_setting, LetsAre, IsFlow}

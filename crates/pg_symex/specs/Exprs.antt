@@ -12,7 +12,7 @@ use Rattle.pg_ast.specs.declared.tree.Op.TheVariants.{Add, Sub, Mul, And, Or, Xo
 use Rattle.pg_ast.specs.declared.tree.Expr.{Expr}
 use Rattle.pg_ast.specs.declared.tree.Expr.TheOpen.{Expr-F, Lit, Name, Pc, Mode, Rel, Bound, Load, Not, Bin, Cat, Cut, Ext, Sext, Sel}
 use Rattle.pg_ast.specs.declared.tree.Expr.TheFolds.{fold-Expr}
-use Rattle.pg_meaning.specs.Patterns.{Field, field_of}
+use Rattle.pg_lang_meaning.specs.Patterns.{Field, field_of}
 use Rattle.pg_symex.specs.Flow.{SymEntry, SymLets, Flow, view_of, with_nodes}
 
 -- ---- what needs no node

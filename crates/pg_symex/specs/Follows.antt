@@ -9,8 +9,8 @@ use Rattle.pg_cells.specs.declared.cell.Write.{Write}
 use Rattle.pg_cells.specs.Storage.{IsStorage, Agrees}
 use Rattle.pg_cells.specs.Cells.{known_cells}
 use Rattle.pg_ast.specs.declared.tree.Expr.{Expr}
-use Rattle.pg_meaning.specs.Values.{Bits, Meaning, value}
-use Rattle.pg_valid.specs.Widths.{LetWidths, width_of}
+use Rattle.pg_lang_meaning.specs.Values.{Bits, Meaning, value}
+use Rattle.pg_lang_valid.specs.Widths.{LetWidths, width_of}
 use Rattle.pg_symex.specs.Flow.{SymEntry, SymLets, Flow}
 use Rattle.pg_symex.specs.Numbers.{value_of, entry_value, lets_value, window_value}
 use Rattle.pg_symex.specs.There.{AreBits, IsSymEntry, sym_setting, LetsAre, IsFlow}

@@ -7,7 +7,7 @@ use Rattle.pg_vec.specs.Number.{number}
 use Rattle.pg_cells.specs.declared.cell.Write.{Write}
 use Rattle.pg_cells.specs.Storage.{written}
 use Rattle.pg_cells.specs.Cells.{puts_of}
-use Rattle.pg_meaning.specs.Values.{Bits, bits, Entry, Lets}
+use Rattle.pg_lang_meaning.specs.Values.{Bits, bits, Entry, Lets}
 use Rattle.pg_symex.specs.declared.regs.Regs.{Regs}
 use Rattle.pg_symex.specs.declared.regs.Next.{Next}
 use Rattle.pg_symex.specs.Flow.{SymEntry, SymLets}

@@ -5,8 +5,8 @@ use Rattle.pg_cells.specs.View.{View}
 use Rattle.pg_cells.specs.Over.{IsOver}
 use Rattle.pg_ast.specs.declared.tree.Instr.{Instr}
 use Rattle.pg_ast.specs.declared.tree.Desc.{Desc}
-use Rattle.pg_meaning.specs.declared.decoder.Decoder.{Decoder}
-use Rattle.pg_meaning.specs.Decoders.{decoder_of}
+use Rattle.pg_lang_meaning.specs.declared.decoder.Decoder.{Decoder}
+use Rattle.pg_lang_meaning.specs.Decoders.{decoder_of}
 use Rattle.pg_symex.specs.declared.regs.Regs.{Regs}
 use Rattle.pg_symex.specs.declared.symbolic.SymOutcome.{SymOutcome}
 use Rattle.pg_symex.specs.Flow.{SymRun}

@@ -4,7 +4,7 @@ use Rattle.pg_circuit.specs.declared.node.Gate.{Gate}
 use Rattle.pg_circuit.specs.declared.node.Node.{Node}
 use Rattle.pg_cells.specs.View.{View}
 use Rattle.pg_ast.specs.declared.tree.Expr.{Expr}
-use Rattle.pg_valid.specs.Widths.{LetWidths, Keeps, Faring, after_block}
+use Rattle.pg_lang_valid.specs.Widths.{LetWidths, Keeps, Faring, after_block}
 use Rattle.pg_symex.specs.declared.run.Run.{Run}
 use Rattle.pg_symex.specs.Flow.{SymEntry, SymRun, view_of}
 use Rattle.pg_symex.specs.FlowView.{flow_as}

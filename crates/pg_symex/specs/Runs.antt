@@ -12,8 +12,8 @@ use Rattle.pg_cells.specs.Cells.{known_cells, puts_of}
 use Rattle.pg_cells.specs.Over.{IsOver}
 use Rattle.pg_ast.specs.declared.tree.Instr.{Instr}
 use Rattle.pg_ast.specs.declared.tree.Desc.{Desc}
-use Rattle.pg_meaning.specs.Bodies.{Course, MemTrapped, Trapped, Going, After, body}
-use Rattle.pg_valid.specs.Valid.{IsValid}
+use Rattle.pg_lang_meaning.specs.Bodies.{Course, MemTrapped, Trapped, Going, After, body}
+use Rattle.pg_lang_valid.specs.Valid.{IsValid}
 use Rattle.pg_symex.specs.declared.regs.Regs.{Regs}
 use Rattle.pg_symex.specs.Flow.{SymRun}
 use Rattle.pg_symex.specs.Numbers.{entry_psw, next_psw}

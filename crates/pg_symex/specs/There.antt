@@ -7,7 +7,7 @@ use Rattle.pg_word.specs.Bits.{IsWidth}
 use Rattle.pg_vec.specs.There.{AreThere}
 use Rattle.pg_cells.specs.declared.cell.Write.{Write}
 use Rattle.pg_cells.specs.Over.{IsOver}
-use Rattle.pg_valid.specs.Widths.{Setting, LetWidths}
+use Rattle.pg_lang_valid.specs.Widths.{Setting, LetWidths}
 use Rattle.pg_symex.specs.declared.regs.Regs.{Regs}
 use Rattle.pg_symex.specs.declared.regs.Next.{Next}
 use Rattle.pg_symex.specs.Flow.{SymEntry, SymLets, Flow, view_of}

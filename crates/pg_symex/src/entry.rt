@@ -1,10 +1,10 @@
 //! What a body reads at its entry.
 
 ghost use Rattle.std.specs.Prelude.{◌≡◌};
-ghost use Rattle.pg_meaning.specs.Decoders.{decoder_of};
+ghost use Rattle.pg_lang_meaning.specs.Decoders.{decoder_of};
 
 use crate::regs::Regs;
-use pg_meaning::Decoder;
+use pg_lang_meaning::Decoder;
 use pg_vec::Bits;
 
 /// The widths of words and addresses, the registers at entry, the pattern, its decoder, and the word that was fetched.

@@ -7,7 +7,7 @@
 //!
 //! What is made is part of each contract, since whoever writes the circuit down counts its nodes: `specs/Exprs.antt`,
 //! `specs/Stmts.antt` and `specs/Body.antt` say it, one small definition a form, in the order of the definitions of bodies
-//! (`pg_meaning`). What the gates mean is said of those definitions alone, in `laws`: for all inputs, and for every storage
+//! (`pg_lang_meaning`). What the gates mean is said of those definitions alone, in `laws`: for all inputs, and for every storage
 //! that agrees with the touched cells, a run tells what the body comes to.
 //!
 //! # Modules

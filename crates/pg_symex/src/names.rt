@@ -3,13 +3,13 @@
 ghost use Rattle.std.specs.Prelude.{◌≡◌, ◌+◌, ◌≤◌, length, IfOk};
 ghost use Rattle.pg_word.specs.Bits.{IsWidth};
 ghost use Rattle.pg_vec.specs.There.{AreThere};
-ghost use Rattle.pg_meaning.specs.Fields.{field_as};
+ghost use Rattle.pg_lang_meaning.specs.Fields.{field_as};
 ghost use Rattle.pg_symex.specs.Exprs.{field_bits, name_bits};
 ghost use Rattle.pg_symex.specs.EntryView.{entry_as};
 
 use crate::entry::Entry;
 use crate::lets::Lets;
-use pg_meaning::Field;
+use pg_lang_meaning::Field;
 use pg_vec::Bits;
 use std::alloc::{AllocError, Global};
 

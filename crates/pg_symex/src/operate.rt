@@ -1,7 +1,7 @@
 //! Operators, each by the operation of its name.
 
 ghost use Rattle.std.specs.Prelude.{◌≡◌, ◌^◌, length, IfOk, IsSome};
-ghost use Rattle.pg_valid.specs.Widths.{op_width};
+ghost use Rattle.pg_lang_valid.specs.Widths.{op_width};
 ghost use Rattle.pg_vec.specs.There.{AreThere};
 ghost use Rattle.pg_vec.specs.AddsNodes.{AddsNodes};
 ghost use Rattle.pg_symex.specs.Exprs.{op_made};

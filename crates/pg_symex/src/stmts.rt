@@ -6,8 +6,8 @@
 ghost use Rattle.std.specs.Prelude.{◌≡◌, ◌+◌, ◌<◌, length, map, OnOk};
 ghost use Rattle.std.specs.Option.{option_map};
 ghost use Rattle.pg_circuit.specs.Grown.{GrowsTo};
-ghost use Rattle.pg_valid.specs.Limits.{both, all_of, if_any, stmt_tally};
-ghost use Rattle.pg_valid.specs.Widths.{fare_of, fares_in_order, fares_if_any};
+ghost use Rattle.pg_lang_valid.specs.Limits.{both, all_of, if_any, stmt_tally};
+ghost use Rattle.pg_lang_valid.specs.Widths.{fare_of, fares_in_order, fares_if_any};
 ghost use Rattle.pg_symex.specs.EntryView.{entry_as};
 ghost use Rattle.pg_symex.specs.There.{sym_setting};
 ghost use Rattle.pg_symex.specs.Stmts.{stmt_made, in_order_made, block_made, else_made, if_made};

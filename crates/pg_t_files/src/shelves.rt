@@ -4,7 +4,7 @@
 //! stands in the way.
 
 use pg_edge::{Failed, LoadFault, MemShelf, Shelf};
-use pg_host::DirShelf;
+use pg_io_host::DirShelf;
 use std::alloc::{AllocError, Global};
 use std::fs;
 use std::test::Fail;

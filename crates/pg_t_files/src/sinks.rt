@@ -3,7 +3,7 @@
 //! A put of no bytes is a put: it may fail, and counts then.
 
 use pg_edge::{MemSink, Sink};
-use pg_host::StdSink;
+use pg_io_host::StdSink;
 use std::alloc::{AllocError, Global};
 use std::io;
 use std::io::{ErrorKind, Write};

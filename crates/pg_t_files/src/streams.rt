@@ -2,8 +2,8 @@
 //!
 //! What was read before a fault is not kept, and a stream that is longer than the limit is refused at one byte beyond it.
 
-use pg_host::Fault;
-use pg_host::streams::{read_up_to, read_within};
+use pg_io_host::Fault;
+use pg_io_host::streams::{read_up_to, read_within};
 use std::alloc::Global;
 use std::io;
 use std::io::{ErrorKind, Read};

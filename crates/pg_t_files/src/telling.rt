@@ -1,8 +1,8 @@
 //! What is said on standard error: the line of a refused call, and the line of progress, over a writer in memory.
 
 use pg_edge::Shelf;
-use pg_host::telling::{note, tell, tell_refused};
-use pg_host::{Cause, Deed, DirShelf, Progress, Refused};
+use pg_io_host::telling::{note, tell, tell_refused};
+use pg_io_host::{Cause, Deed, DirShelf, Progress, Refused};
 use std::io;
 use std::io::{ErrorKind, Write};
 use std::test::Fail;

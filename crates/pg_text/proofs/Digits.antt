@@ -8,7 +8,7 @@ use Rattle.std.specs.List.{list_all}
 use Rattle.std.specs.Char.{digit_value, is_ascii_hexdigit}
 use Rattle.std.specs.Str.Parse.{AllDigits}
 use Rattle.std.proofs.lemmas.Str.{IsUtf8-from_ascii}
-use Rattle.pg_token.specs.Words.{is_digit}
+use Rattle.pg_lang_token.specs.Words.{is_digit}
 use Rattle.pg_text.specs.Cutting.{limited}
 
 dec_digit : (c : ℕ) → is_digit c ≡ true → digit_value c < 10

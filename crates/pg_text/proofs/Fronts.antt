@@ -6,12 +6,12 @@ use Rattle.std.proofs.lemmas.List.Sums.{prefix_len-le-length}
 use Rattle.std.proofs.lemmas.List.{get_or_past}
 use Rattle.std.proofs.lemmas.Bool.{cases_lt, eqb-true}
 use Rattle.std.proofs.lemmas.Bool.Decides.{nat_tests}
-use Rattle.pg_token.specs.Words.{most_name_bytes, is_letter, is_digit, is_word_byte}
-use Rattle.pg_token.specs.Words.{is_pattern_byte}
-use Rattle.pg_token.specs.declared.tok.Sign.{Sign}
-use Rattle.pg_token.specs.declared.tok.Tok.{Tok}
-use Rattle.pg_token.specs.declared.tok.Tok.TheVariants.{Word, Number, Pattern}
-use Rattle.pg_token.specs.declared.tok.Tok.TheVariants as signs
+use Rattle.pg_lang_token.specs.Words.{most_name_bytes, is_letter, is_digit, is_word_byte}
+use Rattle.pg_lang_token.specs.Words.{is_pattern_byte}
+use Rattle.pg_lang_token.specs.declared.tok.Sign.{Sign}
+use Rattle.pg_lang_token.specs.declared.tok.Tok.{Tok}
+use Rattle.pg_lang_token.specs.declared.tok.Tok.TheVariants.{Word, Number, Pattern}
+use Rattle.pg_lang_token.specs.declared.tok.Tok.TheVariants as signs
 use Rattle.pg_text.specs.declared.place.TextFault.TheVariants.{BadByte, BadNumber, BadWord, BadPattern}
 use Rattle.pg_text.specs.declared.place.TextFault.{TextFault}
 use Rattle.pg_text.specs.declared.piece.Piece.{Piece}

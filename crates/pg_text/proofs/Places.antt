@@ -1,6 +1,6 @@
 -- The places of a text's tokens are in order.
 use Rattle.std.proofs.Common.{◌≡◌, ℕ, zero, suc, ◌+◌, ◌-◌, ◌<◌, ◌≤◌, List, [], ◌∷◌, ◌++◌, length, Option, Some, None, Ok, subst, refl, arith}
-use Rattle.pg_token.specs.declared.tok.Tok.{Tok}
+use Rattle.pg_lang_token.specs.declared.tok.Tok.{Tok}
 use Rattle.pg_text.specs.declared.place.Span.{Span}
 use Rattle.pg_text.specs.declared.piece.Piece.{Piece}
 use Rattle.pg_text.specs.Cutting.{front, placed, cut_from, cut}

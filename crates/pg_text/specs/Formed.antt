@@ -1,9 +1,9 @@
 -- What each token of a text holds.
 use Rattle.std.specs.Prelude.{◌<◌, ◌^◌, IsTrue}
 use Rattle.std.specs.List.{list_all}
-use Rattle.pg_token.specs.Words.{is_word, is_pattern_byte}
-use Rattle.pg_token.specs.declared.tok.Tok.{Tok}
-use Rattle.pg_token.specs.declared.tok.Tok.TheVariants.{Word, Number, Pattern, Sign}
+use Rattle.pg_lang_token.specs.Words.{is_word, is_pattern_byte}
+use Rattle.pg_lang_token.specs.declared.tok.Tok.{Tok}
+use Rattle.pg_lang_token.specs.declared.tok.Tok.TheVariants.{Word, Number, Pattern, Sign}
 
 -- a word's bytes make a word, a number is below 2 ^ 64, and a pattern's bytes may stand in a pattern
 abbrev pub IsFormed : Tok → Type 0

@@ -1,6 +1,6 @@
 -- What holds of the tokens of each text.
 use Rattle.std.specs.Prelude.{ℕ, ◌<◌, ◌≤◌, List, [], ◌∷◌}
-use Rattle.pg_token.specs.declared.tok.Tok.{Tok}
+use Rattle.pg_lang_token.specs.declared.tok.Tok.{Tok}
 use Rattle.pg_text.specs.declared.place.Span.{Span}
 
 -- places one behind another, from a byte on up to an end, of at least one byte each

@@ -8,10 +8,10 @@
 
 ghost use Rattle.std.specs.Prelude.{◌≡◌, ◌≤◌, length, not, ◌==◌};
 ghost use Rattle.std.specs.List.{prefix_len};
-ghost use Rattle.pg_token.specs.Words.{is_word_byte};
+ghost use Rattle.pg_lang_token.specs.Words.{is_word_byte};
 ghost use Rattle.pg_text.specs.Cutting.{is_blank, is_inner, sign_of_one, sign_of_two};
 
-use pg_token::{Sign, is_pattern_byte, is_word_byte};
+use pg_lang_token::{Sign, is_pattern_byte, is_word_byte};
 
 /// What separates tokens: space, tab, CR or LF.
 pub fn is_blank(byte: u8) -> bool

@@ -13,7 +13,7 @@ ghost use Rattle.pg_text.specs.Cutting.{IsCutDue, placed, cut};
 
 use crate::piece::{Piece, piece_at};
 use crate::place::{Span, TextFault};
-use pg_token::Tok;
+use pg_lang_token::Tok;
 use sqlite_items::Items;
 use std::alloc::{AllocError, Global};
 

@@ -2,7 +2,7 @@
 //! anything when it runs.
 
 ghost use Rattle.std.specs.Prelude.{◌≡◌, List, Ok, All, length};
-ghost use Rattle.pg_token.specs.declared.tok.Tok.{Tok};
+ghost use Rattle.pg_lang_token.specs.declared.tok.Tok.{Tok};
 ghost use Rattle.pg_text.specs.declared.place.Span.{Span};
 ghost use Rattle.pg_text.specs.Cutting.{cut};
 ghost use Rattle.pg_text.specs.Formed.{IsFormed};

@@ -10,7 +10,7 @@ ghost use Rattle.std.specs.Prelude.{◌≡◌, ◌≤◌};
 ghost use Rattle.std.specs.List.{list_all};
 ghost use Rattle.std.specs.Char.{is_ascii_hexdigit};
 ghost use Rattle.std.specs.Str.Parse.{IsNumeral, digits_value};
-ghost use Rattle.pg_token.specs.Words.{is_digit};
+ghost use Rattle.pg_lang_token.specs.Words.{is_digit};
 ghost use Rattle.pg_text.specs.Cutting.{limited, dec_number, hex_digits, hex_number, number_of};
 
 /// The number that digits of this base write, or `None` where it is 2^64 or more.

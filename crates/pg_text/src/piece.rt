@@ -6,13 +6,13 @@
 //! others none.
 
 ghost use Rattle.std.specs.Prelude.{◌≡◌, ◌<◌, length, slice_index, filter, IfOk};
-ghost use Rattle.pg_token.specs.Words.{is_pattern_byte};
+ghost use Rattle.pg_lang_token.specs.Words.{is_pattern_byte};
 ghost use Rattle.pg_text.specs.Cutting.{IsCutDue, word_at, number_at, pattern_at, sign_at, sign_of_two, front};
 
 use crate::classes::{inner_len, is_blank, len_before, sign_of_one, sign_of_two, word_len};
 use crate::number::number_of;
 use crate::place::TextFault;
-use pg_token::{NAME_BYTES, Sign, Tok, is_letter, is_pattern_byte};
+use pg_lang_token::{NAME_BYTES, Sign, Tok, is_letter, is_pattern_byte};
 use sqlite_items::Items;
 use std::alloc::{AllocError, Global};
 

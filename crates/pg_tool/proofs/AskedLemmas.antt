@@ -1,16 +1,16 @@
 -- A command line: what its words ask for is carried out, or they are refused.
 use Rattle.std.proofs.Common.{◌≡◌, ◌≢◌, ℕ, List, Option, Some, None, refl, sym, subst}
 use Rattle.pg_edge.specs.Shelf.{Files}
-use Rattle.pg_command.specs.Asked.{request_of}
-use Rattle.pg_asked.specs.declared.ask.Request.{Request}
-use Rattle.pg_asked.specs.declared.ask.Fault.{Fault}
-use Rattle.pg_asked.specs.declared.ask.Fault.TheVariants as fault
-use Rattle.pg_steps.specs.declared.status.Status.{Status}
-use Rattle.pg_steps.specs.declared.status.Status.TheVariants as status
-use Rattle.pg_steps.specs.Answering.{Stops}
-use Rattle.pg_steps.specs.Commands.{Command, Carries}
-use Rattle.pg_steps.specs.World.{World, IsUntouched, SavesOnly}
-use Rattle.pg_steps.proofs.CarryLemmas.{carries-stopped}
+use Rattle.pg_cli_parse.specs.Asked.{request_of}
+use Rattle.pg_cli_table.specs.declared.ask.Request.{Request}
+use Rattle.pg_cli_table.specs.declared.ask.Fault.{Fault}
+use Rattle.pg_cli_table.specs.declared.ask.Fault.TheVariants as fault
+use Rattle.pg_cmd_base.specs.declared.status.Status.{Status}
+use Rattle.pg_cmd_base.specs.declared.status.Status.TheVariants as status
+use Rattle.pg_cmd_base.specs.Answering.{Stops}
+use Rattle.pg_cmd_base.specs.Commands.{Command, Carries}
+use Rattle.pg_cmd_base.specs.World.{World, IsUntouched, SavesOnly}
+use Rattle.pg_cmd_base.proofs.CarryLemmas.{carries-stopped}
 use Rattle.pg_tool.specs.Asking.{no_command, command_of, command_or_none, command_for, stop_of_words}
 
 pub carries-asked : (words : List (List ℕ)) (asked : Request) (old new : World) (given : Status) → request_of words ≡ Some asked → Carries (command_of asked) old new given →

@@ -5,12 +5,12 @@ use Rattle.std.proofs.lemmas.List.{ext_get_or, get_or-drop, get_or-take}
 use Rattle.std.proofs.lemmas.List.Elements.{All-cons, All-nil}
 use Rattle.std.proofs.lemmas.Option.{get_or_from_slice_get}
 use Rattle.pg_hw.specs.Machinery.{Machinery}
-use Rattle.pg_meaning.specs.States.{State}
-use Rattle.pg_control.specs.declared.guest.Guest.{Guest}
-use Rattle.pg_control.specs.Plans.{IsOutside}
+use Rattle.pg_lang_meaning.specs.States.{State}
+use Rattle.pg_mon_control.specs.declared.guest.Guest.{Guest}
+use Rattle.pg_mon_control.specs.Plans.{IsOutside}
 use Rattle.pg_report.specs.Spans.{span}
-use Rattle.pg_guests.specs.Runs.{RanGuests}
-use Rattle.pg_shown.specs.Runs.{GuestRun, granted, guests_of}
+use Rattle.pg_run_guests.specs.Runs.{RanGuests}
+use Rattle.pg_run_base.specs.Runs.{GuestRun, granted, guests_of}
 
 abbrev first : List (List ℕ) → List ℕ
 first [] = []

@@ -1,19 +1,19 @@
 -- A command line comes to one thing, for told files.
 use Rattle.std.proofs.Common.{List, ℕ, Option, Some, None, Ok, Err, sym, ◌∙◌, ap}
 use Rattle.pg_cert.specs.declared.cert.Family.TheVariants.{Plain, Hybrid}
-use Rattle.pg_command.specs.Asked.{request_of}
-use Rattle.pg_asked.specs.declared.ask.Request.{Request}
-use Rattle.pg_asked.specs.declared.ask.Request.TheVariants as request
+use Rattle.pg_cli_parse.specs.Asked.{request_of}
+use Rattle.pg_cli_table.specs.declared.ask.Request.{Request}
+use Rattle.pg_cli_table.specs.declared.ask.Request.TheVariants as request
 use Rattle.pg_edge.specs.Shelf.{Files}
-use Rattle.pg_inputs.proofs.OneInput.{one-desc}
-use Rattle.pg_judged.proofs.OneJudged.{one-judged}
-use Rattle.pg_steps.specs.Steps.{IsOne}
-use Rattle.pg_tool_plain.proofs.OneBare.{one-bare, one-print}
-use Rattle.pg_tool_gen.proofs.OneGenerated.{one-gen}
-use Rattle.pg_tool_run.proofs.OneRun.{one-run}
-use Rattle.pg_tool_nest.proofs.OneNested.{one-nest}
-use Rattle.pg_tool_asm.proofs.OneAssembled.{one-asm, one-disasm}
-use Rattle.pg_tool_save.proofs.OneSaved.{one-save, one-resume}
+use Rattle.pg_cmd_inputs.proofs.OneInput.{one-desc}
+use Rattle.pg_cmd_certs.proofs.OneJudged.{one-judged}
+use Rattle.pg_cmd_base.specs.Steps.{IsOne}
+use Rattle.pg_cmd_plain.proofs.OneBare.{one-bare, one-print}
+use Rattle.pg_cmd_gen.proofs.OneGenerated.{one-gen}
+use Rattle.pg_cmd_run.proofs.OneRun.{one-run}
+use Rattle.pg_cmd_nest.proofs.OneNested.{one-nest}
+use Rattle.pg_cmd_asm.proofs.OneAssembled.{one-asm, one-disasm}
+use Rattle.pg_cmd_save.proofs.OneSaved.{one-save, one-resume}
 use Rattle.pg_tool.specs.Asking.{WordsRefused, command_of, command_or_none, command_for}
 
 -- a line for each command

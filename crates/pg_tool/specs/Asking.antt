@@ -1,31 +1,31 @@
 -- The command that words ask for.
 use Rattle.std.specs.Prelude.{◌≡◌, ℕ, List, Option, None, Some}
 use Rattle.pg_cert.specs.declared.cert.Family.TheVariants.{Plain, Hybrid}
-use Rattle.pg_command.specs.Asked.{request_of}
-use Rattle.pg_asked.specs.declared.ask.Fault.{Fault}
-use Rattle.pg_asked.specs.declared.ask.Fault.TheVariants as words
-use Rattle.pg_asked.specs.declared.ask.Request.{Request}
-use Rattle.pg_asked.specs.declared.ask.Request.TheVariants as request
-use Rattle.pg_steps.specs.declared.refusal.Refusal.{Refusal}
-use Rattle.pg_steps.specs.declared.refusal.Refusal.TheVariants.{Words}
-use Rattle.pg_steps.specs.declared.refusal.Stop.{Stop}
-use Rattle.pg_steps.specs.declared.refusal.Stop.TheVariants as stop
-use Rattle.pg_steps.specs.Commands.{Command}
-use Rattle.pg_steps.specs.Steps.{Step, Came, Refused, Misread}
-use Rattle.pg_tool_plain.specs.Bare.{bare_command}
-use Rattle.pg_tool_run.specs.Run.{run_command}
-use Rattle.pg_tool_run.specs.Hybrid.{hybrid_command}
-use Rattle.pg_tool_nest.specs.Nest.{nest_command}
-use Rattle.pg_tool_plain.specs.Print.{print_command}
-use Rattle.pg_tool_judging.specs.Verify.{verify_command}
-use Rattle.pg_tool_judging.specs.Replay.{replay_command}
-use Rattle.pg_tool_judging.specs.Migrate.{migrate_command}
-use Rattle.pg_tool_judging.specs.Check.{check_command}
-use Rattle.pg_tool_gen.specs.Generating.{gen_command}
-use Rattle.pg_tool_asm.specs.Asm.{asm_command}
-use Rattle.pg_tool_asm.specs.Disasm.{disasm_command}
-use Rattle.pg_tool_save.specs.Save.{save_command}
-use Rattle.pg_tool_save.specs.Resume.{resume_command}
+use Rattle.pg_cli_parse.specs.Asked.{request_of}
+use Rattle.pg_cli_table.specs.declared.ask.Fault.{Fault}
+use Rattle.pg_cli_table.specs.declared.ask.Fault.TheVariants as words
+use Rattle.pg_cli_table.specs.declared.ask.Request.{Request}
+use Rattle.pg_cli_table.specs.declared.ask.Request.TheVariants as request
+use Rattle.pg_cmd_base.specs.declared.refusal.Refusal.{Refusal}
+use Rattle.pg_cmd_base.specs.declared.refusal.Refusal.TheVariants.{Words}
+use Rattle.pg_cmd_base.specs.declared.refusal.Stop.{Stop}
+use Rattle.pg_cmd_base.specs.declared.refusal.Stop.TheVariants as stop
+use Rattle.pg_cmd_base.specs.Commands.{Command}
+use Rattle.pg_cmd_base.specs.Steps.{Step, Came, Refused, Misread}
+use Rattle.pg_cmd_plain.specs.Bare.{bare_command}
+use Rattle.pg_cmd_run.specs.Run.{run_command}
+use Rattle.pg_cmd_run.specs.Hybrid.{hybrid_command}
+use Rattle.pg_cmd_nest.specs.Nest.{nest_command}
+use Rattle.pg_cmd_plain.specs.Print.{print_command}
+use Rattle.pg_cmd_check.specs.Verify.{verify_command}
+use Rattle.pg_cmd_check.specs.Replay.{replay_command}
+use Rattle.pg_cmd_check.specs.Migrate.{migrate_command}
+use Rattle.pg_cmd_check.specs.Check.{check_command}
+use Rattle.pg_cmd_gen.specs.Generating.{gen_command}
+use Rattle.pg_cmd_asm.specs.Asm.{asm_command}
+use Rattle.pg_cmd_asm.specs.Disasm.{disasm_command}
+use Rattle.pg_cmd_save.specs.Save.{save_command}
+use Rattle.pg_cmd_save.specs.Resume.{resume_command}
 
 -- words that are refused come to that and nothing else
 abbrev pub WordsRefused : Step Refusal ⊥

@@ -1,17 +1,17 @@
 //! Laws of what is due, and of what is left: how much the clauses of `tool` leave open.
 
 ghost use Rattle.std.specs.Prelude.{◌≡◌, ◌≢◌, ℕ, List, None, Some};
-ghost use Rattle.pg_command.specs.Asked.{request_of};
+ghost use Rattle.pg_cli_parse.specs.Asked.{request_of};
 ghost use Rattle.pg_edge.specs.Shelf.{Files};
 ghost use Rattle.pg_hw.specs.Machinery.{Machinery};
-ghost use Rattle.pg_tool_plain.specs.Bare.{BareRun, RanBare};
-ghost use Rattle.pg_steps.specs.Commands.{Carries};
-ghost use Rattle.pg_steps.specs.World.{World};
-ghost use Rattle.pg_steps.specs.declared.status.Status.TheVariants.{ReadFault};
-ghost use Rattle.pg_guests.specs.Runs.{RanGuests};
-ghost use Rattle.pg_shown.specs.Runs.{GuestRun};
+ghost use Rattle.pg_cmd_plain.specs.Bare.{BareRun, RanBare};
+ghost use Rattle.pg_cmd_base.specs.Commands.{Carries};
+ghost use Rattle.pg_cmd_base.specs.World.{World};
+ghost use Rattle.pg_cmd_base.specs.declared.status.Status.TheVariants.{ReadFault};
+ghost use Rattle.pg_run_guests.specs.Runs.{RanGuests};
+ghost use Rattle.pg_run_base.specs.Runs.{GuestRun};
 ghost use Rattle.pg_tool.specs.Asking.{command_for};
-ghost use Rattle.pg_steps.specs.Steps.{IsOne};
+ghost use Rattle.pg_cmd_base.specs.Steps.{IsOne};
 
 /// For words and told files one thing is due at most, beside a read that may fail: one refusal, or one piece of work.
 #[tactic(auto, using(crate::proofs::OnlyOne::due_is_one))]

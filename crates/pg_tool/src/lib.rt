@@ -6,8 +6,8 @@
 //! tells a watcher besides of each question that is asked, how far long work has come, why a command stops, and of a verdict that could
 //! not be saved.
 //!
-//! What a command is, and how its steps join, stands in `pg_steps`; the commands stand in families, crates of their own
-//! (`pg_tool_plain`, `pg_tool_asm`, `pg_tool_judging`, `pg_tool_run`, `pg_tool_nest`, `pg_tool_gen`, `pg_tool_save`). Here a command
+//! What a command is, and how its steps join, stands in `pg_cmd_base`; the commands stand in families, crates of their own
+//! (`pg_cmd_plain`, `pg_cmd_asm`, `pg_cmd_check`, `pg_cmd_run`, `pg_cmd_nest`, `pg_cmd_gen`, `pg_cmd_save`). Here a command
 //! has one line in each of three places: the definition (`command_of`, `specs/Asking.antt`), `carry` below, and the proof that it
 //! comes to one thing (`proofs/OnlyOne.antt`).
 //!
@@ -17,33 +17,33 @@
 ghost use Rattle.std.specs.Prelude.{◌≡◌, ◌≤◌, Some, map, string_bytes};
 ghost use Rattle.pg_ast.specs.declared.tree.Desc.{Desc};
 ghost use Rattle.pg_edge.specs.Shelf.{Files};
-ghost use Rattle.pg_control.specs.Counting.{CanCount};
-ghost use Rattle.pg_steps.specs.Able.{IsAble};
-ghost use Rattle.pg_steps.specs.Commands.{Carries, Exactly};
-ghost use Rattle.pg_steps.specs.World.{Keeps, SavesOnly, around};
+ghost use Rattle.pg_mon_control.specs.Counting.{CanCount};
+ghost use Rattle.pg_cmd_base.specs.Able.{IsAble};
+ghost use Rattle.pg_cmd_base.specs.Commands.{Carries, Exactly};
+ghost use Rattle.pg_cmd_base.specs.World.{Keeps, SavesOnly, around};
 ghost use Rattle.pg_tool.specs.Asking.{command_for, command_of, stop_of_words};
-ghost use Rattle.pg_valid.specs.Valid.{IsValid};
+ghost use Rattle.pg_lang_valid.specs.Valid.{IsValid};
 
 pub mod laws;
 mod silent;
 
-use pg_asked::{Fault, Request};
 use pg_cert::Family;
+pub use pg_cert_migrate::ReadWatcher;
 pub use pg_classify::{SearchWatcher, Watcher};
-use pg_command::request;
+use pg_cli_parse::request;
+use pg_cli_table::{Fault, Request};
+use pg_cmd_asm::{carry_asm, carry_disasm};
+use pg_cmd_base::stopped;
+pub use pg_cmd_base::{Refusal, Status, Stop, StopWatcher};
+pub use pg_cmd_certs::{JudgedMachine, VerdictWatcher};
+use pg_cmd_check::{carry_check, carry_migrate, carry_replay, carry_verify};
+use pg_cmd_gen::carry_gen;
+use pg_cmd_nest::carry_nest;
+use pg_cmd_plain::{carry_bare, carry_print};
+use pg_cmd_run::{carry_hybrid, carry_run};
+use pg_cmd_save::{carry_resume, carry_save};
 use pg_edge::{Shelf, Sink};
 use pg_hw::Hardware;
-pub use pg_judged::{JudgedMachine, VerdictWatcher};
-pub use pg_migrate::ReadWatcher;
-use pg_steps::stopped;
-pub use pg_steps::{Refusal, Status, Stop, StopWatcher};
-use pg_tool_asm::{carry_asm, carry_disasm};
-use pg_tool_gen::carry_gen;
-use pg_tool_judging::{carry_check, carry_migrate, carry_replay, carry_verify};
-use pg_tool_nest::carry_nest;
-use pg_tool_plain::{carry_bare, carry_print};
-use pg_tool_run::{carry_hybrid, carry_run};
-use pg_tool_save::{carry_resume, carry_save};
 pub use pg_type::Kind;
 pub use silent::Silent;
 use std::alloc::Global;

@@ -1,9 +1,9 @@
 //! A watcher that says nothing of what it is told.
 
+use pg_cert_migrate::ReadWatcher;
 use pg_classify::{SearchWatcher, Watcher};
-use pg_judged::{JudgedMachine, VerdictWatcher};
-use pg_migrate::ReadWatcher;
-use pg_steps::{Stop, StopWatcher};
+use pg_cmd_base::{Stop, StopWatcher};
+use pg_cmd_certs::{JudgedMachine, VerdictWatcher};
 use pg_type::Kind;
 
 /// Says nothing of what it is told.

@@ -5,10 +5,10 @@ use Rattle.std.proofs.Math.Logic.{∥∥₁_map}
 use Rattle.pg_word.specs.declared.psw.Psw.{Psw}
 use Rattle.pg_ast.specs.declared.tree.Instr.{Instr}
 use Rattle.pg_ast.specs.declared.tree.Desc.{Desc}
-use Rattle.pg_meaning.specs.Bodies.{body}
-use Rattle.pg_meaning.specs.States.{State, IsState}
-use Rattle.pg_meaning.specs.Steps.{ending, step, steps}
-use Rattle.pg_valid.specs.Sized.{sized}
+use Rattle.pg_lang_meaning.specs.Bodies.{body}
+use Rattle.pg_lang_meaning.specs.States.{State, IsState}
+use Rattle.pg_lang_meaning.specs.Steps.{ending, step, steps}
+use Rattle.pg_lang_valid.specs.Sized.{sized}
 use Rattle.pg_type.specs.Kinds.{course_at, ShowsControl, ShowsMode, ShowsLocation, ShowsBound}
 use Rattle.pg_type.specs.Accepting.{IsPrivileged, IsInnocuous, IsUserInnocuous, IsAccepted, IsHybridAccepted}
 use Rattle.pg_type.specs.Agreeing.{Agree}

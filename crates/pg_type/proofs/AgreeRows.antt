@@ -2,9 +2,9 @@
 use Rattle.std.proofs.Common.{◌≡◌, true, false, ◌<◌, ◌≤◌, ◌^◌, refl, ◌∙◌, ap, arith, lit<, lit≤}
 use Rattle.std.proofs.lemmas.List.Elements.{All-replicate}
 use Rattle.std.proofs.lemmas.Nat.{pow_pos}
-use Rattle.pg_meaning.specs.States.{IsState}
-use Rattle.pg_meaning.specs.Steps.{power_on, bare}
-use Rattle.pg_valid.specs.Sized.{sized}
+use Rattle.pg_lang_meaning.specs.States.{IsState}
+use Rattle.pg_lang_meaning.specs.Steps.{power_on, bare}
+use Rattle.pg_lang_valid.specs.Sized.{sized}
 use Rattle.pg_type.specs.Examples.{m0, m1}
 use Rattle.pg_type.specs.WorkedRuns.{loop_image}
 use Rattle.pg_type.specs.WorkedAgreeing.{m0_narrow, sixteen_cells, twenty_cells, NarrowLoop, CausesDoNotAgree, SixteenCellsFitBoth, TwentyCellsFitOneAlone, NarrowM1ServesHybrid}

@@ -15,14 +15,14 @@ use Rattle.pg_word.specs.declared.psw.Mode.{Mode}
 use Rattle.pg_word.specs.declared.psw.Mode.TheVariants.{S, U}
 use Rattle.pg_ast.specs.declared.tree.Instr.{Instr}
 use Rattle.pg_ast.specs.declared.tree.Desc.{Desc}
-use Rattle.pg_meaning.specs.Patterns.{matches}
-use Rattle.pg_meaning.specs.Bodies.{Course, MemTrapped, Trapped, Going, After, body}
-use Rattle.pg_valid.specs.Typed.{AreWords}
-use Rattle.pg_meaning.specs.States.{State, IsState, window_length, window, in_user}
+use Rattle.pg_lang_meaning.specs.Patterns.{matches}
+use Rattle.pg_lang_meaning.specs.Bodies.{Course, MemTrapped, Trapped, Going, After, body}
+use Rattle.pg_lang_valid.specs.Typed.{AreWords}
+use Rattle.pg_lang_meaning.specs.States.{State, IsState, window_length, window, in_user}
 use Rattle.pg_type.specs.Kinds.{IsAt, fetched_word, course_at, Observation, SeenMemTrap, SeenTrap, SeenDone, observed, observation, IsDone, ChangesControl, ShowsLocation, ShowsBound}
 use Rattle.pg_type.specs.Accepting.{IsPrivileged, IsInnocuous, IsUserInnocuous}
 use Rattle.pg_type.specs.Alike.{LookAlike, DoneAlike, Places}
-use Rattle.pg_valid.proofs.StepSound.{window-length, window-words}
+use Rattle.pg_lang_valid.proofs.StepSound.{window-length, window-words}
 use Rattle.pg_type.proofs.KindLaws.{innocuous-user}
 
 -- what is not different is the same: lists, modes, observations

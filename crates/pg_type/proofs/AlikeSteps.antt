@@ -11,15 +11,15 @@ use Rattle.pg_word.specs.Psw.{IsPsw}
 use Rattle.pg_word.specs.declared.psw.Mode.TheVariants.{U}
 use Rattle.pg_ast.specs.declared.tree.Instr.{Instr}
 use Rattle.pg_ast.specs.declared.tree.Desc.{Desc}
-use Rattle.pg_meaning.specs.Patterns.{matches, matching}
-use Rattle.pg_meaning.specs.Bodies.{Course, MemTrapped, Trapped, Going, After, body}
-use Rattle.pg_meaning.specs.States.{State, IsState, window_length, window, put_back}
-use Rattle.pg_valid.specs.Valid.{IsValid}
-use Rattle.pg_meaning.specs.Steps.{Ending, ByMemTrap, ByTrap, ByNoPattern, Done, ending_of, executed, fetched, ending, left_by, step, ends_in_trap}
+use Rattle.pg_lang_meaning.specs.Patterns.{matches, matching}
+use Rattle.pg_lang_meaning.specs.Bodies.{Course, MemTrapped, Trapped, Going, After, body}
+use Rattle.pg_lang_meaning.specs.States.{State, IsState, window_length, window, put_back}
+use Rattle.pg_lang_valid.specs.Valid.{IsValid}
+use Rattle.pg_lang_meaning.specs.Steps.{Ending, ByMemTrap, ByTrap, ByNoPattern, Done, ending_of, executed, fetched, ending, left_by, step, ends_in_trap}
 use Rattle.pg_type.specs.Kinds.{IsAt, fetched_word, course_at, SeenDone, observed, observation, IsDone, ChangesControl}
 use Rattle.pg_type.specs.Accepting.{IsPrivileged, IsInnocuous, IsUserInnocuous, IsAccepted, IsHybridAccepted}
 use Rattle.pg_type.specs.Alike.{LookAlike, DoneAlike, StepsAlike, Places}
-use Rattle.pg_valid.proofs.StepSound.{AfterFits, OnDone, ending-sound, window-length, window-words, put_back-length}
+use Rattle.pg_lang_valid.proofs.StepSound.{AfterFits, OnDone, ending-sound, window-length, window-words, put_back-length}
 use Rattle.pg_type.proofs.KindLaws.{accepted-hybrid}
 use Rattle.pg_type.proofs.AlikeLemmas.{placed, placed-window, placed-state, nat_same, mode_same, observation_same, psw_same, done_same, done_alike, user_done_alike}
 

@@ -3,16 +3,16 @@ use Rattle.std.proofs.Common.{◌≡◌, ◌≢◌, ◌⊎◌, ℕ, ◌/◌, ◌
 use Rattle.std.proofs.lemmas.List.Elements.{All-head, All-from_recursion}
 use Rattle.pg_word.specs.declared.psw.Psw.{Psw}
 use Rattle.pg_word.specs.declared.psw.Mode.TheVariants.{U}
-use Rattle.pg_meaning.specs.Patterns.{run_length, field_of_letter}
-use Rattle.pg_meaning.specs.Values.{let_value}
-use Rattle.pg_meaning.specs.Bodies.{Going, body, in_order}
-use Rattle.pg_meaning.specs.States.{State, window}
+use Rattle.pg_lang_meaning.specs.Patterns.{run_length, field_of_letter}
+use Rattle.pg_lang_meaning.specs.Values.{let_value}
+use Rattle.pg_lang_meaning.specs.Bodies.{Going, body, in_order}
+use Rattle.pg_lang_meaning.specs.States.{State, window}
 use Rattle.pg_type.specs.Kinds.{fetched_word, course_at, observed, observation, ChangesControl}
 use Rattle.pg_type.specs.Accepting.{IsPrivileged, IsInnocuous, IsUserInnocuous}
 use Rattle.pg_type.specs.Examples.{alone, rtu}
 use Rattle.pg_type.specs.WorkedKinds.{M1ServesHybridAlone}
-use Rattle.pg_meaning.proofs.ValueEquations.{value_rules}
-use Rattle.pg_meaning.proofs.DeedEquations.{deed_rules}
+use Rattle.pg_lang_meaning.proofs.ValueEquations.{value_rules}
+use Rattle.pg_lang_meaning.proofs.DeedEquations.{deed_rules}
 use Rattle.pg_type.proofs.KindRows.{rtu_shows_control, rtu_breaks_privilege}
 use Rattle.pg_type.proofs.KindLaws.{privileged-exactly}
 

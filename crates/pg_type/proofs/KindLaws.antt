@@ -3,8 +3,8 @@ use Rattle.std.proofs.Common.{◌≡◌, ◌⊎◌, refl, sym, subst, inl, inr, 
 use Rattle.pg_word.specs.declared.psw.Mode.TheVariants.{S}
 use Rattle.pg_ast.specs.declared.tree.Instr.{Instr}
 use Rattle.pg_ast.specs.declared.tree.Desc.{Desc}
-use Rattle.pg_meaning.specs.Bodies.{Course, MemTrapped, Trapped, Going, After}
-use Rattle.pg_meaning.specs.States.{State, IsState, in_user}
+use Rattle.pg_lang_meaning.specs.Bodies.{Course, MemTrapped, Trapped, Going, After}
+use Rattle.pg_lang_meaning.specs.States.{State, IsState, in_user}
 use Rattle.pg_type.specs.declared.kind.Kind.{Kind}
 use Rattle.pg_type.specs.declared.kind.Kind.TheVariants.{Privileged, Control, ModeDep, Location, Bound, UControl, ULocation, UBound}
 use Rattle.pg_type.specs.Kinds.{Shows, IsAt, course_at, IsDone, IsTrap, IsNoMemTrap, IsModePair}

@@ -4,15 +4,15 @@ use Rattle.std.proofs.lemmas.List.Elements.{All-from_recursion}
 use Rattle.pg_word.specs.declared.psw.Mode.{Mode}
 use Rattle.pg_word.specs.declared.psw.Mode.TheVariants.{S, U}
 use Rattle.pg_ast.specs.declared.tree.Instr.{Instr}
-use Rattle.pg_meaning.specs.Patterns.{matches, run_length, field_of_letter}
-use Rattle.pg_meaning.specs.Values.{let_value}
-use Rattle.pg_meaning.specs.Bodies.{MemTrapped, Trapped, Going, body, in_order}
-use Rattle.pg_meaning.specs.States.{IsState}
+use Rattle.pg_lang_meaning.specs.Patterns.{matches, run_length, field_of_letter}
+use Rattle.pg_lang_meaning.specs.Values.{let_value}
+use Rattle.pg_lang_meaning.specs.Bodies.{MemTrapped, Trapped, Going, body, in_order}
+use Rattle.pg_lang_meaning.specs.States.{IsState}
 use Rattle.pg_type.specs.Kinds.{course_at}
 use Rattle.pg_type.specs.Examples.{alone, state, rtu, lr, svc, store_mode, store_rel, store_bound, supervisor_load, user_jump, open_lr}
 use Rattle.pg_type.specs.WorkedKinds.{RtuShowsControl, RtuInUserModeDoesNot, RtuBreaksPrivilege, LrBreaksNoPrivilege, StoreModeShowsMode, StoreModeOutsideDoesNot, SupervisorLoadShowsMode, UserJumpShowsMode, UserJumpBreaksPrivilege, StoreRelShowsLocation, StoreRelUserShowsLocation, StoreRelOutsideDoesNot, StoreBoundShowsBound, StoreBoundUserShowsBound, StoreBoundOutsideDoesNot, OpenLrShowsControl, OpenLrOfTheSameDoesNot, StoreRelIsNoUserPair, StoreBoundIsNoUserPair, StoreBoundOfTwoSizesShowsBound, StoreRelOfTwoSizesDoesNot, StoreRelOfTwoBoundsDoesNot, LrDoneInSupervisorModeDoesNot, SvcBreaksPrivilege}
-use Rattle.pg_meaning.proofs.ValueEquations.{value_rules}
-use Rattle.pg_meaning.proofs.DeedEquations.{deed_rules}
+use Rattle.pg_lang_meaning.proofs.ValueEquations.{value_rules}
+use Rattle.pg_lang_meaning.proofs.DeedEquations.{deed_rules}
 
 -- a state of four cells below 2^32, whose fields are below 2^8
 four_cells : (i : Instr) (a b c e : ℕ) (mode : Mode) (p l bound : ℕ) → a < 2 ^ 32 → b < 2 ^ 32 → c < 2 ^ 32 → e < 2 ^ 32 →

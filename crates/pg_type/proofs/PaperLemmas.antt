@@ -4,8 +4,8 @@ use Rattle.pg_word.specs.declared.psw.Mode.{Mode}
 use Rattle.pg_word.specs.declared.psw.Mode.TheVariants.{S, U}
 use Rattle.pg_ast.specs.declared.tree.Instr.{Instr}
 use Rattle.pg_ast.specs.declared.tree.Desc.{Desc}
-use Rattle.pg_meaning.specs.Bodies.{Course, MemTrapped, Trapped, Going, After}
-use Rattle.pg_meaning.specs.States.{State, in_user}
+use Rattle.pg_lang_meaning.specs.Bodies.{Course, MemTrapped, Trapped, Going, After}
+use Rattle.pg_lang_meaning.specs.States.{State, in_user}
 use Rattle.pg_type.specs.Kinds.{course_at, observation, IsDone, IsTrap, IsNoMemTrap, ShowsLocation}
 use Rattle.pg_type.specs.Accepting.{IsPrivileged, IsInnocuous, IsAccepted}
 use Rattle.pg_type.specs.PaperWords.{IsPaperPrivileged, DiffersElsewhere, IsPaperSensitive, HoldPaperWords}

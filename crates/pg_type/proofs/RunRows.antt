@@ -1,15 +1,15 @@
 -- Runs of bare machines, worked out.
 use Rattle.std.proofs.Common.{◌≡◌, [], ◌∷◌, replicate, refl, ap, ◌∙◌, sym}
-use Rattle.pg_meaning.specs.Patterns.{matches, matching, run_length, field_of_letter}
-use Rattle.pg_meaning.specs.Values.{let_value}
-use Rattle.pg_meaning.specs.Bodies.{body, in_order}
-use Rattle.pg_meaning.specs.Steps.{step, steps, ending, power_on, bare}
+use Rattle.pg_lang_meaning.specs.Patterns.{matches, matching, run_length, field_of_letter}
+use Rattle.pg_lang_meaning.specs.Values.{let_value}
+use Rattle.pg_lang_meaning.specs.Bodies.{body, in_order}
+use Rattle.pg_lang_meaning.specs.Steps.{step, steps, ending, power_on, bare}
 use Rattle.pg_word.specs.declared.psw.Mode.TheVariants.{S}
 use Rattle.pg_type.specs.Examples.{m0, m0_causes, state}
 use Rattle.pg_type.specs.WorkedRuns.{window_image, window_after, loop_image, loop_after, NoPattern, NoWindow, PastStorage, LastUsable, FirstPastBound, FirstPastSize, RunsPastWindow, DoublesInALoop, WindowOfOneCell, NoPatternCause, MemoryTrapCause, TrapCause, TrapsForEver, WidensAndShifts}
-use Rattle.pg_meaning.proofs.StepLaws.{steps-add, steps-around, steps-stay}
-use Rattle.pg_meaning.proofs.ValueEquations.{value_rules}
-use Rattle.pg_meaning.proofs.DeedEquations.{deed_rules}
+use Rattle.pg_lang_meaning.proofs.StepLaws.{steps-add, steps-around, steps-stay}
+use Rattle.pg_lang_meaning.proofs.ValueEquations.{value_rules}
+use Rattle.pg_lang_meaning.proofs.DeedEquations.{deed_rules}
 
 pub no_pattern : NoPattern
 unfolding bare power_on steps step ending matching matches body in_order run_length field_of_letter let_value

@@ -2,18 +2,18 @@
 use Rattle.std.proofs.Common.{◌≡◌, ◌<◌, ◌^◌, [], ◌∷◌, refl, ◌∙◌, ap, lit<, lit≤, inl, inr}
 use Rattle.std.proofs.lemmas.List.Elements.{All-from_recursion}
 use Rattle.pg_word.specs.declared.psw.Mode.TheVariants.{U}
-use Rattle.pg_meaning.specs.Patterns.{matches, matching, run_length, field_of_letter}
-use Rattle.pg_meaning.specs.Values.{let_value}
-use Rattle.pg_meaning.specs.Bodies.{Going, body, in_order}
-use Rattle.pg_meaning.specs.States.{IsState, window}
-use Rattle.pg_meaning.specs.Steps.{Done, left_by, ending, step, ends_in_trap}
+use Rattle.pg_lang_meaning.specs.Patterns.{matches, matching, run_length, field_of_letter}
+use Rattle.pg_lang_meaning.specs.Values.{let_value}
+use Rattle.pg_lang_meaning.specs.Bodies.{Going, body, in_order}
+use Rattle.pg_lang_meaning.specs.States.{IsState, window}
+use Rattle.pg_lang_meaning.specs.Steps.{Done, left_by, ending, step, ends_in_trap}
 use Rattle.pg_type.specs.Kinds.{IsAt, course_at}
 use Rattle.pg_type.specs.Accepting.{IsHybridAccepted}
 use Rattle.pg_type.specs.Alike.{LookAlike, DoneAlike}
 use Rattle.pg_type.specs.Examples.{m1, rtu}
 use Rattle.pg_type.specs.WorkedUserMode.{here, elsewhere, elsewhere_in_s, left_here, RtuDoneAlike, RtuTrapsAlike, RtuStepsAlike, RtuKeepsControl, RtuInSupervisorModeIsNotAlike}
-use Rattle.pg_meaning.proofs.ValueEquations.{value_rules}
-use Rattle.pg_meaning.proofs.DeedEquations.{deed_rules}
+use Rattle.pg_lang_meaning.proofs.ValueEquations.{value_rules}
+use Rattle.pg_lang_meaning.proofs.DeedEquations.{deed_rules}
 use Rattle.pg_type.proofs.HybridRow.{rtu_user_innocuous, m1_serves_hybrid_alone}
 use Rattle.pg_type.proofs.AlikeLemmas.{user_done_alike}
 use Rattle.pg_type.proofs.AlikeSteps.{user_traps_alike, user_steps_alike, user_kept}

@@ -3,7 +3,7 @@ use Rattle.std.specs.Prelude.{◌≡◌, ◌⊎◌, All}
 use Rattle.pg_word.specs.declared.psw.Mode.TheVariants.{S, U}
 use Rattle.pg_ast.specs.declared.tree.Instr.{Instr}
 use Rattle.pg_ast.specs.declared.tree.Desc.{Desc}
-use Rattle.pg_meaning.specs.States.{State, IsState, in_user}
+use Rattle.pg_lang_meaning.specs.States.{State, IsState, in_user}
 use Rattle.pg_type.specs.Kinds.{IsAt, course_at, IsDone, IsNoMemTrap, BreaksPrivilege, ShowsControl, ShowsMode, ShowsLocation, ShowsBound}
 
 -- *Privileged* (section 3 of the paper): in user mode the instruction traps, in some way, at every state; and where neither

@@ -3,9 +3,9 @@ use Rattle.std.specs.Prelude.{◌≡◌, ℕ, ◌+◌, ◌≤◌, List, length}
 use Rattle.pg_word.specs.declared.psw.Psw.{Psw}
 use Rattle.pg_ast.specs.declared.tree.Instr.{Instr}
 use Rattle.pg_ast.specs.declared.tree.Desc.{Desc}
-use Rattle.pg_meaning.specs.Bodies.{After}
-use Rattle.pg_meaning.specs.States.{State, window}
-use Rattle.pg_meaning.specs.Steps.{Done, ending}
+use Rattle.pg_lang_meaning.specs.Bodies.{After}
+use Rattle.pg_lang_meaning.specs.States.{State, window}
+use Rattle.pg_lang_meaning.specs.Steps.{Done, ending}
 use Rattle.pg_type.specs.Kinds.{course_at, observation, ChangesControl}
 
 -- two states of equal windows and equal P; sizes, modes, and where the windows lie and end may differ

@@ -2,7 +2,7 @@
 use Rattle.std.specs.Prelude.{ℕ, true, false, List, [], ◌∷◌, codes, IsTrue, None, Some, refl}
 use Rattle.std.specs.List.{list_all}
 use Rattle.std.proofs.Common.{lit≤}
-use Rattle.pg_token.specs.Words.{is_name, is_pattern_byte}
+use Rattle.pg_lang_token.specs.Words.{is_name, is_pattern_byte}
 use Rattle.pg_ast.specs.declared.name.Name.{Name as Names}
 use Rattle.pg_ast.specs.declared.tree.Expr.{Expr}
 use Rattle.pg_ast.specs.declared.tree.Expr.TheVariants.{Lit, Name, Mode as TheMode, Rel as TheRel, Bound as TheBound, Load, Not, Bin, Cut, Ext, Sext}
@@ -12,7 +12,7 @@ use Rattle.pg_ast.specs.declared.tree.Stmt.TheVariants.{Let, Store, Pc, Mode, Re
 use Rattle.pg_ast.specs.declared.tree.Instr.{Instr}
 use Rattle.pg_ast.specs.declared.tree.Desc.{Desc}
 use Rattle.pg_word.specs.declared.psw.Mode.{Mode as Modes}
-use Rattle.pg_meaning.specs.States.{State}
+use Rattle.pg_lang_meaning.specs.States.{State}
 use Rattle.pg_ast.specs.Levels.{IsShallow}
 use Rattle.pg_ast.proofs.ExprEquations.{depth_of_rules}
 use Rattle.pg_ast.proofs.StmtEquations.{expr_levels_rules, block_levels_rules}

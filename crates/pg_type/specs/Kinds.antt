@@ -7,9 +7,9 @@ use Rattle.pg_ast.specs.declared.tree.Instr.{Instr}
 use Rattle.pg_ast.specs.declared.tree.Desc.{Desc}
 use Rattle.pg_type.specs.declared.kind.Kind.{Kind}
 use Rattle.pg_type.specs.declared.kind.Kind.TheVariants.{Privileged, Control, ModeDep, Location, Bound, UControl, ULocation, UBound}
-use Rattle.pg_meaning.specs.Patterns.{matches}
-use Rattle.pg_meaning.specs.Bodies.{Course, MemTrapped, Trapped, Going, After, body}
-use Rattle.pg_meaning.specs.States.{State, IsState, window, in_user}
+use Rattle.pg_lang_meaning.specs.Patterns.{matches}
+use Rattle.pg_lang_meaning.specs.Bodies.{Course, MemTrapped, Trapped, Going, After, body}
+use Rattle.pg_lang_meaning.specs.States.{State, IsState, window, in_user}
 
 -- "i at S": P is usable and the word fetched matches the instruction's pattern
 abbrev pub IsAt : Instr → State → Type 0

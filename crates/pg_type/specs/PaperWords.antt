@@ -4,7 +4,7 @@ use Rattle.std.specs.Prelude.{◌≡◌, ◌≢◌, ◌⊎◌, length, All}
 use Rattle.pg_word.specs.declared.psw.Mode.TheVariants.{S}
 use Rattle.pg_ast.specs.declared.tree.Instr.{Instr}
 use Rattle.pg_ast.specs.declared.tree.Desc.{Desc}
-use Rattle.pg_meaning.specs.States.{State, IsState, window, in_user}
+use Rattle.pg_lang_meaning.specs.States.{State, IsState, window, in_user}
 use Rattle.pg_type.specs.Kinds.{IsAt, course_at, observation, IsDone, IsTrap, IsNoMemTrap, ChangesControl}
 
 -- paper-privileged: of every state pair that differs in the mode alone and memory traps in neither, the user one traps and

@@ -2,9 +2,9 @@
 use Rattle.std.specs.Prelude.{◌≡◌, replicate}
 use Rattle.pg_word.specs.declared.psw.Mode.TheVariants.{S}
 use Rattle.pg_ast.specs.declared.tree.Desc.{Desc}
-use Rattle.pg_meaning.specs.States.{State, IsState}
-use Rattle.pg_meaning.specs.Steps.{bare}
-use Rattle.pg_valid.specs.Sized.{sized}
+use Rattle.pg_lang_meaning.specs.States.{State, IsState}
+use Rattle.pg_lang_meaning.specs.Steps.{bare}
+use Rattle.pg_lang_valid.specs.Sized.{sized}
 use Rattle.pg_type.specs.Accepting.{IsHybridAccepted}
 use Rattle.pg_type.specs.Agreeing.{Agree}
 use Rattle.pg_type.specs.Examples.{m0, m0_causes, m1, state}

@@ -1,8 +1,8 @@
 -- Runs of bare machines, worked out by hand: each is a law of the crate.
 use Rattle.std.specs.Prelude.{◌≡◌, ℕ, List, [], ◌∷◌, replicate}
 use Rattle.pg_word.specs.declared.psw.Mode.TheVariants.{S}
-use Rattle.pg_meaning.specs.States.{State}
-use Rattle.pg_meaning.specs.Steps.{bare}
+use Rattle.pg_lang_meaning.specs.States.{State}
+use Rattle.pg_lang_meaning.specs.Steps.{bare}
 use Rattle.pg_type.specs.Examples.{m0, m0_causes, widen, machine, state}
 
 -- no pattern matches 0: the trap stores (s, 2, (0, 8)) and loads what cell 1 holds, 0

@@ -2,9 +2,9 @@
 -- alike. Each is a law of the crate.
 use Rattle.std.specs.Prelude.{◌≡◌, [], ◌∷◌}
 use Rattle.pg_word.specs.declared.psw.Mode.TheVariants.{S, U}
-use Rattle.pg_meaning.specs.Bodies.{After}
-use Rattle.pg_meaning.specs.States.{State, window}
-use Rattle.pg_meaning.specs.Steps.{ending, step, ends_in_trap}
+use Rattle.pg_lang_meaning.specs.Bodies.{After}
+use Rattle.pg_lang_meaning.specs.States.{State, window}
+use Rattle.pg_lang_meaning.specs.Steps.{ending, step, ends_in_trap}
 use Rattle.pg_type.specs.Alike.{LookAlike, DoneAlike, StepsAlike}
 use Rattle.pg_type.specs.Examples.{m1, state, rtu}
 

@@ -9,7 +9,7 @@ ghost use Rattle.pg_type.specs.Accepting.{IsAccepted, IsHybridAccepted};
 ghost use Rattle.pg_type.specs.Agreeing.{Agree};
 ghost use Rattle.pg_type.specs.PaperWords.{HoldPaperWords};
 
-use pg_machine::Machine;
+use pg_mach_ready::Machine;
 
 /// A machine of which each instruction is privileged or not sensitive.
 #[derive(Clone, Copy)]

@@ -17,13 +17,13 @@ ghost use Rattle.pg_word.specs.declared.psw.Mode.TheVariants.{U};
 ghost use Rattle.pg_word.specs.Psw.{IsPsw};
 ghost use Rattle.pg_ast.specs.declared.tree.Instr.{Instr};
 ghost use Rattle.pg_ast.specs.declared.tree.Desc.{Desc};
-ghost use Rattle.pg_meaning.specs.Bodies.{After};
-ghost use Rattle.pg_meaning.specs.States.{State, IsState, window};
-ghost use Rattle.pg_meaning.specs.Steps.{Done, ending, step, ends_in_trap};
+ghost use Rattle.pg_lang_meaning.specs.Bodies.{After};
+ghost use Rattle.pg_lang_meaning.specs.States.{State, IsState, window};
+ghost use Rattle.pg_lang_meaning.specs.Steps.{Done, ending, step, ends_in_trap};
 ghost use Rattle.pg_type.specs.Kinds.{IsAt, IsDone, course_at};
 ghost use Rattle.pg_type.specs.Accepting.{IsAccepted, IsHybridAccepted, IsInnocuous, IsPrivileged, IsUserInnocuous};
 ghost use Rattle.pg_type.specs.Alike.{LookAlike, DoneAlike, Places, StepsAlike};
-ghost use Rattle.pg_valid.specs.Valid.{IsValid};
+ghost use Rattle.pg_lang_valid.specs.Valid.{IsValid};
 
 /// An instruction that is done at a user state is done alike at every state that looks alike: one that is privileged or not
 /// sensitive, and so each of an accepted description.

@@ -2,8 +2,8 @@
 
 ghost use Rattle.std.specs.Prelude.{◌≡◌, ◌↔◌, ◌≤◌, ℕ, List};
 ghost use Rattle.pg_word.specs.declared.psw.Psw.{Psw};
-ghost use Rattle.pg_meaning.specs.States.{State, IsState};
-ghost use Rattle.pg_meaning.specs.Steps.{ending, step, steps};
+ghost use Rattle.pg_lang_meaning.specs.States.{State, IsState};
+ghost use Rattle.pg_lang_meaning.specs.Steps.{ending, step, steps};
 ghost use Rattle.pg_type.specs.Accepting.{IsPrivileged, IsNeverBroken, IsAccepted, IsHybridAccepted};
 ghost use Rattle.pg_type.specs.Agreeing.{Agree};
 ghost use Rattle.pg_type.specs.PaperWords.{HoldPaperWords};

@@ -10,8 +10,8 @@
 //! of Theorem 3. `alike` says what a monitor gains by it: what is done in user mode is done alike wherever the window and
 //! P are the same. `laws` has what else follows from the definitions alone.
 //!
-//! What instructions mean stands in `pg_meaning`, which descriptions are valid in `pg_valid`, and a valid one made ready is a
-//! `Machine` of `pg_machine`. Their public names and definitions are passed on from here.
+//! What instructions mean stands in `pg_lang_meaning`, which descriptions are valid in `pg_lang_valid`, and a valid one made ready is a
+//! `Machine` of `pg_mach_ready`. Their public names and definitions are passed on from here.
 #![tactic(auto)]
 
 mod accepted;
@@ -22,6 +22,6 @@ pub mod rows;
 
 pub use accepted::{Accepted, HybridAccepted};
 pub use kind::Kind;
-pub use pg_machine::{Machine, check};
-pub use pg_meaning::{Decoder, Field, field_of, matches};
-pub use pg_valid::{Limit, TypeFault};
+pub use pg_lang_meaning::{Decoder, Field, field_of, matches};
+pub use pg_lang_valid::{Limit, TypeFault};
+pub use pg_mach_ready::{Machine, check};

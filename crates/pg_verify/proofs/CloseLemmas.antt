@@ -21,8 +21,8 @@ use Rattle.pg_cert.specs.declared.line.Line.TheVariants as line
 use Rattle.pg_cert.specs.Verdicts.{mark_of}
 use Rattle.pg_cert.specs.Texts.{found_of, body_lines, instr_of, kind_of, name_of, finding_lines, findings_lines, AreListed}
 use Rattle.pg_cert.specs.Validity.{IsValidFinding}
-use Rattle.pg_drawn.specs.Drawn.{Drawn}
-use Rattle.pg_drawn.proofs.DrawnLines.{sparse_of}
+use Rattle.pg_cert_drawn.specs.Drawn.{Drawn}
+use Rattle.pg_cert_drawn.proofs.DrawnLines.{sparse_of}
 use Rattle.pg_verify.specs.Reader.{Pair, NoState, FirstSize, FirstState, SecondSize, BothStates, Open, Fresh, Between, Refuting, Showing, Spending, Ended, Mark, Refuted, Shown, Spent, Progress}
 use Rattle.pg_verify.specs.Taking.{is_whole, may_close, marked, due_kind, shows_at, shows_due, closed_pair, closed_open}
 use Rattle.pg_verify.specs.Feeding.{kept}

@@ -10,9 +10,9 @@ use Rattle.std.proofs.lemmas.Slice.Eq.{bytes_eq-Decides}
 use Rattle.pg_word.specs.Shape.{IsShape}
 use Rattle.pg_ast.specs.declared.tree.Instr.{Instr}
 use Rattle.pg_ast.specs.declared.tree.Desc.{Desc}
-use Rattle.pg_meaning.specs.States.{shape_of}
-use Rattle.pg_valid.specs.Twice.{is_among, first_twice, instr_names, let_twice_among, first_of_two}
-use Rattle.pg_valid.specs.Valid.{as_twice, IsValid}
+use Rattle.pg_lang_meaning.specs.States.{shape_of}
+use Rattle.pg_lang_valid.specs.Twice.{is_among, first_twice, instr_names, let_twice_among, first_of_two}
+use Rattle.pg_lang_valid.specs.Valid.{as_twice, IsValid}
 use Rattle.pg_type.specs.declared.kind.Kind.{Kind}
 use Rattle.pg_type.specs.declared.kind.Kind.TheVariants as kind
 use Rattle.pg_type.specs.Listed.{state_of as listed_state}
@@ -32,7 +32,7 @@ use Rattle.pg_cert.specs.declared.line.Line.TheVariants as line
 use Rattle.pg_cert.specs.Verdicts.{kinds_of, kind_count, mark_of}
 use Rattle.pg_cert.specs.Texts.{act_line, state_lines, instr_of, kind_of, name_of, finding_lines, lines_text, AreListed}
 use Rattle.pg_cert.specs.Validity.{may_remove, IsValidFinding}
-use Rattle.pg_drawn.specs.Drawn.{Drawn, drawn_of}
+use Rattle.pg_cert_drawn.specs.Drawn.{Drawn, drawn_of}
 use Rattle.pg_verify.specs.declared.fault.VerifyFault.TheVariants as fault
 use Rattle.pg_verify.specs.Reader.{NoState, FirstSize, FirstState, SecondSize, BothStates, Open, Between, Refuting, Showing, Spending, Mark, Refuted, Shown, Spent, Progress}
 use Rattle.pg_verify.specs.Taking.{then_take, misplaced, missing, with_open, may_close, marked, shows_at, closed, clauses_at, opening, placed, named, instr_named, kind_place, with_header, after_header, after_form}

@@ -8,11 +8,11 @@ use Rattle.std.proofs.lemmas.List.Elements.{All-nil}
 use Rattle.std.proofs.lemmas.List.Sums.{passes_at_first}
 use Rattle.std.proofs.lemmas.Option.{same_Some, cond_some, slice_get_cases}
 use Rattle.std.proofs.lemmas.Slice.Eq.{bytes_eq-Decides}
-use Rattle.pg_token.specs.Words.{is_word}
+use Rattle.pg_lang_token.specs.Words.{is_word}
 use Rattle.pg_ast.specs.declared.tree.Instr.{Instr}
 use Rattle.pg_ast.specs.declared.tree.Desc.{Desc}
-use Rattle.pg_meaning.specs.States.{shape_of}
-use Rattle.pg_valid.specs.Twice.{instr_names}
+use Rattle.pg_lang_meaning.specs.States.{shape_of}
+use Rattle.pg_lang_valid.specs.Twice.{instr_names}
 use Rattle.pg_type.specs.declared.kind.Kind.{Kind}
 use Rattle.pg_type.specs.declared.kind.Kind.TheVariants as kind
 use Rattle.pg_ask.specs.Question.{question}
@@ -27,7 +27,7 @@ use Rattle.pg_cert.specs.Lines.{is_line, IsLine, is_found, most_budget}
 use Rattle.pg_cert.specs.Verdicts.{kinds_of, kind_count}
 use Rattle.pg_cert.specs.Texts.{family_of, instr_of, kind_of, name_of, findings_lines, AreListed}
 use Rattle.pg_cert.specs.Validity.{may_remove, IsActUnder}
-use Rattle.pg_drawn.proofs.DrawnLines.{row_is}
+use Rattle.pg_cert_drawn.proofs.DrawnLines.{row_is}
 use Rattle.pg_verify.specs.declared.fault.VerifyFault.TheVariants as fault
 use Rattle.pg_verify.specs.Reader.{Open, Fresh, Between, Refuting, Showing, Spending, Ended, Mark, Progress}
 use Rattle.pg_verify.specs.Taking.{then_take, misplaced, with_open, after_step, after_remove, with_size, with_psw, with_cells, after_state_line, missing, all_findings, may_close, closed, clauses_at, opening, placed, named, instr_named, kind_place, with_header, after_header, ended, after_end, is_fresh, same_family, is_first_due, after_first, after_form}

@@ -11,9 +11,9 @@ use Rattle.pg_word.specs.declared.psw.Mode.{Mode}
 use Rattle.pg_word.specs.declared.psw.Mode.TheVariants.{S, U}
 use Rattle.pg_ast.specs.declared.tree.Instr.{Instr}
 use Rattle.pg_ast.specs.declared.tree.Desc.{Desc}
-use Rattle.pg_meaning.specs.Patterns.{matches}
-use Rattle.pg_meaning.specs.Bodies.{Course, MemTrapped, Trapped, Going, After}
-use Rattle.pg_meaning.specs.States.{State, IsState, window, in_user}
+use Rattle.pg_lang_meaning.specs.Patterns.{matches}
+use Rattle.pg_lang_meaning.specs.Bodies.{Course, MemTrapped, Trapped, Going, After}
+use Rattle.pg_lang_meaning.specs.States.{State, IsState, window, in_user}
 use Rattle.pg_type.specs.declared.kind.Kind.{Kind}
 use Rattle.pg_type.specs.declared.kind.Kind.TheVariants.{Privileged, Control, ModeDep, Location, Bound, UControl, ULocation, UBound}
 use Rattle.pg_type.specs.Kinds.{IsAt, course_at, SeenDone, observed, observation, IsDone, IsTrap, IsNoMemTrap, ChangesControl, IsModePair, BreaksPrivilege, ShowsControl, ShowsMode, ShowsLocation, ShowsBound, Shows}

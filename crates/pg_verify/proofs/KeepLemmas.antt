@@ -1,7 +1,7 @@
 -- What a line leaves as it is, whatever it says: the description, the family, and how far the text has been fed.
 use Rattle.std.proofs.Common.{◌≡◌, ℕ, suc, ◌+◌, Bool, true, false, List, ◌*◌, length, Option, None, Some, refl, subst, ◌∙◌}
 use Rattle.std.specs.Prelude.{⊤, ◌==◌, nat_lt, if◌then◌else◌, slice_get, Result, Ok, Err}
-use Rattle.pg_meaning.specs.States.{shape_of}
+use Rattle.pg_lang_meaning.specs.States.{shape_of}
 use Rattle.pg_type.specs.declared.kind.Kind.{Kind}
 use Rattle.pg_cert.specs.declared.line.Heading.{Heading}
 use Rattle.pg_cert.specs.declared.line.Found.{Found}

@@ -10,10 +10,10 @@ use Rattle.std.proofs.lemmas.List.Sums.{position_or_len_is}
 use Rattle.std.proofs.lemmas.Bool.Decides.{same_from_decides}
 use Rattle.pg_ast.specs.declared.tree.Instr.{Instr}
 use Rattle.pg_ast.specs.declared.tree.Desc.{Desc}
-use Rattle.pg_valid.specs.declared.fault.Limit.{Limit}
-use Rattle.pg_valid.specs.declared.fault.Limit.TheVariants.{Instructions}
-use Rattle.pg_valid.specs.Limits.{most_instructions, limit_at, at_number, limit_broken, tally_limit, instr_tally}
-use Rattle.pg_valid.specs.Valid.{IsValid, as_limit}
+use Rattle.pg_lang_valid.specs.declared.fault.Limit.{Limit}
+use Rattle.pg_lang_valid.specs.declared.fault.Limit.TheVariants.{Instructions}
+use Rattle.pg_lang_valid.specs.Limits.{most_instructions, limit_at, at_number, limit_broken, tally_limit, instr_tally}
+use Rattle.pg_lang_valid.specs.Valid.{IsValid, as_limit}
 use Rattle.pg_proof.specs.State.{State as Log, begun}
 use Rattle.pg_type.specs.declared.kind.Kind.{Kind}
 use Rattle.pg_type.specs.Kinds.{Shows}
@@ -21,7 +21,7 @@ use Rattle.pg_ask.specs.Question.{question}
 use Rattle.pg_cert.specs.declared.cert.Family.{Family}
 use Rattle.pg_cert.specs.declared.cert.Family.TheVariants.{Plain, Hybrid}
 use Rattle.pg_cert.specs.Verdicts.{kind_count}
-use Rattle.pg_drawn.specs.Drawn.{Drawn, state_of}
+use Rattle.pg_cert_drawn.specs.Drawn.{Drawn, state_of}
 use Rattle.pg_verify.specs.Judging.{shows}
 use Rattle.pg_verify.specs.Taking.{shows_at, clauses_at}
 use Rattle.pg_verify.proofs.JudgingLemmas.{shows_decides}

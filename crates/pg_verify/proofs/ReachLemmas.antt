@@ -6,7 +6,7 @@ use Rattle.std.proofs.lemmas.List.Elements.{All-head, All-tail}
 use Rattle.pg_word.specs.Shape.{IsShape}
 use Rattle.pg_word.specs.declared.shape.Shape.{Shape}
 use Rattle.pg_ast.specs.declared.tree.Desc.{Desc}
-use Rattle.pg_meaning.specs.States.{shape_of}
+use Rattle.pg_lang_meaning.specs.States.{shape_of}
 use Rattle.pg_cert.specs.declared.cert.Family.{Family}
 use Rattle.pg_cert.specs.declared.line.Line.{Line}
 use Rattle.pg_cert.specs.Lines.{line_text, IsLine}

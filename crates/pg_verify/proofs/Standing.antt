@@ -21,7 +21,7 @@ use Rattle.pg_cert.specs.Lines.{most_budget}
 use Rattle.pg_cert.specs.Verdicts.{kind_count, mark_of}
 use Rattle.pg_cert.specs.Texts.{act_line, family_of, instr_of, kind_of, name_of, findings_lines, AreListed}
 use Rattle.pg_cert.specs.Validity.{may_remove, IsActUnder, IsValidFinding}
-use Rattle.pg_drawn.proofs.DrawnLines.{drawn_lines, IsDrawn}
+use Rattle.pg_cert_drawn.proofs.DrawnLines.{drawn_lines, IsDrawn}
 use Rattle.pg_verify.specs.Reader.{Pair, NoState, FirstSize, FirstState, SecondSize, BothStates, Open, Fresh, Between, Refuting, Showing, Spending, Ended, Mark, Progress}
 use Rattle.pg_verify.specs.Feeding.{kept}
 

@@ -8,15 +8,15 @@ use Rattle.pg_word.specs.declared.sparse.Sparse.{Sparse}
 use Rattle.pg_word.specs.Sparse.{IsCellList, storage_of}
 use Rattle.pg_word.proofs.SparseLemmas.{length-storage_of}
 use Rattle.pg_ast.specs.declared.tree.Desc.{Desc}
-use Rattle.pg_meaning.specs.States.{shape_of}
+use Rattle.pg_lang_meaning.specs.States.{shape_of}
 use Rattle.pg_image.specs.Lines.{line_words, line_count}
 use Rattle.pg_cert.specs.declared.cert.Family.{Family}
 use Rattle.pg_cert.specs.declared.line.Line.{Line}
 use Rattle.pg_cert.specs.declared.line.Line.TheVariants as line
 use Rattle.pg_cert.specs.Lines.{line_text}
 use Rattle.pg_cert.specs.Texts.{row_lines, rows_before, state_lines, lines_text}
-use Rattle.pg_drawn.specs.Drawn.{Drawn, drawn_of, drawn, with_row}
-use Rattle.pg_drawn.proofs.RowsBack.{cells_before, cells_again, zeros_passed, rows_drawn, row_drawn}
+use Rattle.pg_cert_drawn.specs.Drawn.{Drawn, drawn_of, drawn, with_row}
+use Rattle.pg_cert_drawn.proofs.RowsBack.{cells_before, cells_again, zeros_passed, rows_drawn, row_drawn}
 use Rattle.pg_verify.specs.Reader.{Pair, FirstState, BothStates, Open, Showing, Mark}
 use Rattle.pg_verify.specs.Taking.{reopened, with_size, with_psw, as_first, as_second, with_cells, shown_on, after_state_line, after_form}
 use Rattle.pg_verify.proofs.ReachLemmas.{spot, Fits, fits_front, fits_back, Reaches, reaches_none, reaches_then, reaches_cons}

@@ -22,8 +22,8 @@ use Rattle.pg_cert.specs.declared.line.Line.{Line}
 use Rattle.pg_cert.specs.declared.line.Line.TheVariants as line
 use Rattle.pg_cert.specs.Texts.{act_line}
 use Rattle.pg_cert.specs.Validity.{IsActUnder}
-use Rattle.pg_drawn.specs.Drawn.{Drawn, drawn, with_row}
-use Rattle.pg_drawn.proofs.DrawnLines.{drawn_lines, drawn_new, drawn_new-lines, IsRow, row_on}
+use Rattle.pg_cert_drawn.specs.Drawn.{Drawn, drawn, with_row}
+use Rattle.pg_cert_drawn.proofs.DrawnLines.{drawn_lines, drawn_new, drawn_new-lines, IsRow, row_on}
 use Rattle.pg_verify.specs.declared.fault.VerifyFault.{VerifyFault}
 use Rattle.pg_verify.specs.Reader.{Pair, NoState, FirstSize, FirstState, SecondSize, BothStates}
 use Rattle.pg_verify.specs.Taking.{then_take, where_valid, with_step, with_spent_step, is_worth, with_size, with_psw, as_first, as_second, with_cells}

@@ -6,7 +6,7 @@ use Rattle.pg_cert.specs.declared.line.Line.TheVariants as line
 use Rattle.pg_cert.specs.declared.report.Mark.{Mark as Marks}
 use Rattle.pg_cert.specs.declared.report.Mark.TheVariants as mark
 use Rattle.pg_cert.specs.declared.report.Report.{Report}
-use Rattle.pg_drawn.specs.Drawn.{drawn_of}
+use Rattle.pg_cert_drawn.specs.Drawn.{drawn_of}
 use Rattle.pg_verify.specs.declared.fault.VerifyFault.{VerifyFault}
 use Rattle.pg_verify.specs.declared.fault.VerifyFault.TheVariants as fault
 use Rattle.pg_verify.specs.Reader.{Open, Fresh, Between, Refuting, Showing, Spending, Ended, Mark, Refuted, Shown, Spent, Progress, Reader}

@@ -3,7 +3,7 @@ use Rattle.std.specs.Prelude.{ℕ, Bool, List, Result}
 use Rattle.pg_ast.specs.declared.tree.Desc.{Desc}
 use Rattle.pg_proof.specs.State.{State as Log}
 use Rattle.pg_cert.specs.declared.cert.Family.{Family}
-use Rattle.pg_drawn.specs.Drawn.{Drawn}
+use Rattle.pg_cert_drawn.specs.Drawn.{Drawn}
 use Rattle.pg_verify.specs.declared.fault.VerifyFault.{VerifyFault}
 
 -- how far the two states of a finding have come. A state is whole from its program status word on; rows of cells may follow

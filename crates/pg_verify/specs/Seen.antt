@@ -1,6 +1,6 @@
 -- The values of the code as the definitions have them.
 use Rattle.std.specs.Prelude.{Bool, true, false, ℕ, ◌≡◌, ◌≢◌, length, Option, None, Some, Result, Ok, Err}
-use Rattle.pg_drawn.specs.Drawn.{drawn_of}
+use Rattle.pg_cert_drawn.specs.Drawn.{drawn_of}
 use Rattle.pg_verify.specs.declared.fault.VerifyFault.{VerifyFault}
 use Rattle.pg_verify.specs.declared.fault.VerifyFault.TheVariants.{Memory}
 use Rattle.pg_verify.specs.declared.drawing.Drawing.{Drawing}

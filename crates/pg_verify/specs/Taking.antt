@@ -3,8 +3,8 @@ use Rattle.std.specs.Prelude.{ℕ, suc, ◌+◌, ◌*◌, Bool, true, false, not
 use Rattle.pg_word.specs.declared.psw.Psw.{Psw as Psws}
 use Rattle.pg_ast.specs.declared.tree.Instr.{Instr}
 use Rattle.pg_ast.specs.declared.tree.Desc.{Desc}
-use Rattle.pg_meaning.specs.States.{shape_of}
-use Rattle.pg_valid.specs.Twice.{instr_names}
+use Rattle.pg_lang_meaning.specs.States.{shape_of}
+use Rattle.pg_lang_valid.specs.Twice.{instr_names}
 use Rattle.pg_type.specs.declared.kind.Kind.{Kind}
 use Rattle.pg_type.specs.declared.kind.Kind.TheVariants as kind
 use Rattle.pg_proof.specs.declared.step.ProofFault.{ProofFault}
@@ -27,7 +27,7 @@ use Rattle.pg_cert.specs.Verdicts.{kind_count}
 use Rattle.pg_cert.specs.Parsing.{Said, Says, NoToken, NoForm, OtherVersion, said}
 use Rattle.pg_cert.specs.Texts.{family_of, instr_of, kind_of}
 use Rattle.pg_cert.specs.Validity.{may_remove}
-use Rattle.pg_drawn.specs.Drawn.{Drawn, state_of, drawn, with_row}
+use Rattle.pg_cert_drawn.specs.Drawn.{Drawn, state_of, drawn, with_row}
 use Rattle.pg_verify.specs.declared.fault.VerifyFault.{VerifyFault}
 use Rattle.pg_verify.specs.declared.fault.VerifyFault.TheVariants as fault
 use Rattle.pg_verify.specs.declared.fault.StepCause.TheVariants.{UnknownLit, UnknownHint, NotUnit, NoConflict}

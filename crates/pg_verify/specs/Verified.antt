@@ -3,8 +3,8 @@ use Rattle.std.specs.Prelude.{◌≡◌, ⊤, ℕ, ◌*◌, ◌<◌, ◌≤◌, 
 use Rattle.std.specs.List.{All, Contains}
 use Rattle.pg_ast.specs.declared.tree.Instr.{Instr}
 use Rattle.pg_ast.specs.declared.tree.Desc.{Desc}
-use Rattle.pg_meaning.specs.States.{State, shape_of}
-use Rattle.pg_valid.specs.Valid.{IsValid}
+use Rattle.pg_lang_meaning.specs.States.{State, shape_of}
+use Rattle.pg_lang_valid.specs.Valid.{IsValid}
 use Rattle.pg_type.specs.declared.kind.Kind.{Kind}
 use Rattle.pg_type.specs.Kinds.{Shows}
 use Rattle.pg_ask.specs.Question.{question}
@@ -15,7 +15,7 @@ use Rattle.pg_cert.specs.Verdicts.{kinds_of, kind_count, mark_of}
 use Rattle.pg_cert.specs.Lines.{IsLine}
 use Rattle.pg_cert.specs.Texts.{instr_of, kind_of, cert_lines, cert_text, AreListed}
 use Rattle.pg_cert.specs.Validity.{IsValidCert}
-use Rattle.pg_drawn.specs.Drawn.{state_of}
+use Rattle.pg_cert_drawn.specs.Drawn.{state_of}
 use Rattle.pg_verify.specs.declared.fault.VerifyFault.TheVariants as fault
 use Rattle.pg_verify.specs.Reader.{Mark, Refuted, Shown, Spent, Progress}
 use Rattle.pg_verify.specs.Feeding.{verified, kept, most_bytes}

@@ -6,7 +6,7 @@
 ghost use Rattle.std.specs.Prelude.{◌≡◌, ◌+◌, ◌*◌, ◌<◌, ◌≤◌, ◌^◌, ◌==◌, length, slice_get, true, map, Some, IfOk, IfSome, Ok};
 ghost use Rattle.pg_cert.specs.Verdicts.{kind_count};
 ghost use Rattle.pg_proof.specs.State.{begun as log_begun};
-ghost use Rattle.pg_drawn.specs.Drawn.{drawn_of};
+ghost use Rattle.pg_cert_drawn.specs.Drawn.{drawn_of};
 ghost use Rattle.pg_verify.specs.Taking.{closed, closed_pair, marked, opened_with, shows_due, due_instr, due_kind, all_findings, may_close, instr_named, clauses_at, placed, named, after_first, after_header, after_end, after_form, is_first_due, ended};
 ghost use Rattle.pg_verify.specs.Feeding.{begun, kept};
 ghost use Rattle.pg_verify.specs.Taking.{reopened, after_step, after_remove, after_state_line, after_line};
@@ -27,7 +27,7 @@ use crate::steps::{take_removal, take_step};
 pub use feeding::CERT_BYTES;
 use pg_ask::ask;
 use pg_cert::{Family, Found, Heading, Line, LineFault, Mark, MarkList, parse_line};
-use pg_machine::Machine;
+use pg_mach_ready::Machine;
 use pg_proof::{Checker, Step};
 use pg_replay::replay;
 use pg_type::Kind;

@@ -1,6 +1,6 @@
 //! Lines of the two states of a finding: sizes, program status words, and rows of cells.
 //!
-//! What a row makes of one state is `pg_drawn`'s to know; here is which of the two it belongs to.
+//! What a row makes of one state is `pg_cert_drawn`'s to know; here is which of the two it belongs to.
 
 ghost use Rattle.std.specs.Prelude.{◌≡◌, ◌+◌, ◌≤◌, IfOk};
 ghost use Rattle.pg_verify.specs.Taking.{with_size, with_psw, with_cells, after_state_line};
@@ -9,7 +9,7 @@ ghost use Rattle.pg_verify.specs.Seen.{pair_of, open_of, numbered, IsTold, IsPai
 use crate::drawing::Drawing;
 use crate::fault::VerifyFault;
 use crate::opened::Opened;
-use pg_drawn::{drawn, with_row};
+use pg_cert_drawn::{drawn, with_row};
 use pg_word::Psw;
 use std::alloc::{AllocError, Global};
 use std::mem;

@@ -14,7 +14,7 @@ ghost use Rattle.pg_verify.specs.Verified.{IsAsked};
 use crate::fault::VerifyFault;
 use crate::reading::{CERT_BYTES, Reading};
 use pg_cert::{Family, Report};
-use pg_machine::Machine;
+use pg_mach_ready::Machine;
 use std::alloc::Global;
 use std::marker::Model;
 

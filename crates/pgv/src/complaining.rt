@@ -1,9 +1,9 @@
 //! What is wrong with words that are refused, on standard error.
 
+use pg_cli_parse::complaint;
 use pg_cli_says::Program;
 use pg_cli_version::VERSION;
-use pg_command::complaint;
-use pg_host::streams::write_whole;
+use pg_io_host::streams::write_whole;
 use std::alloc::{AllocError, Global};
 use std::io::Write;
 

@@ -1,7 +1,7 @@
 //! The program: real files and standard output below, and the command line above.
 //!
 //! All that the program means stands in the crates below, over the traits `Shelf`, `Sink` and `Hardware`. Here their real
-//! forms are made, of `pg_host` and `pg_rig`, and lent to `tool_watched`. Where there is no memory for the words, it is not
+//! forms are made, of `pg_io_host` and `pg_rig`, and lent to `tool_watched`. Where there is no memory for the words, it is not
 //! called, and the program ends with the same status, 10, as it does where the call has none.
 //!
 //! What standard error says is of `pg_cli_says`, but for what is wrong with the words (`complaining`): why the program ends so,
@@ -14,12 +14,12 @@ mod naming;
 
 use complaining::say_complaint;
 use naming::named_by;
+use pg_cli_parse::request;
 use pg_cli_says::{
     Beside, Ended, Holding, LastRead, Lines, Program, Reading, Seen, Ticker, Watching, say_no_text,
     say_why, words,
 };
-use pg_command::request;
-use pg_host::{DirShelf, Progress, StdSink};
+use pg_io_host::{DirShelf, Progress, StdSink};
 use pg_rig::Rig;
 use pg_tool::{Status, tool_watched};
 use std::cell::RefCell;

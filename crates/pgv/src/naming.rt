@@ -1,7 +1,7 @@
 //! What the words of a command name, as far as standard error tells of it.
 
-use pg_asked::{CheckWords, FileName, Request, RunWords};
 use pg_cli_says::{Named, Room};
+use pg_cli_table::{CheckWords, FileName, Request, RunWords};
 
 /// What a request names; nothing where there is none.
 pub fn named_by(asked: Option<&Request>) -> Named<'_> {

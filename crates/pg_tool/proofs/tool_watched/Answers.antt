@@ -1,9 +1,9 @@
 use Rattle.std.proofs.Common.{map, Err, refl, ap, subst}
 use Rattle.std.specs.Prelude.{string_bytes}
 use Rattle.pg_tool.specs.Asking.{command_for}
-use Rattle.pg_steps.specs.Answering.{Stops}
-use Rattle.pg_steps.specs.World.{around, output}
-use Rattle.pg_steps.proofs.CarryLemmas.{exactly-of}
+use Rattle.pg_cmd_base.specs.Answering.{Stops}
+use Rattle.pg_cmd_base.specs.World.{around, output}
+use Rattle.pg_cmd_base.proofs.CarryLemmas.{exactly-of}
 use Rattle.pg_tool.proofs.AskedLemmas.{carries-asked, saves-asked, carries-words}
 use Rattle.pg_tool.proofs.OnlyOne.{due_is_one}
 use Rattle.pg_tool.proofs.tool_watched.Goals as goal

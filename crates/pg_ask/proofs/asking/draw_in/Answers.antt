@@ -1,7 +1,7 @@
 use Rattle.std.proofs.Common.{length, sym, ap, subst}
 use Rattle.pg_word.specs.declared.shape.Shape.{Shape}
 use Rattle.pg_word.specs.Bits.{IsWidth}
-use Rattle.pg_valid.proofs.ValidFacts.{IsWidth-address}
+use Rattle.pg_lang_valid.proofs.ValidFacts.{IsWidth-address}
 use Rattle.pg_ask.proofs.AskSteps.{unknowns_width, unknowns_as_due}
 use Rattle.pg_ask.proofs.asking.draw_in.Goals as goal
 

@@ -1,6 +1,6 @@
 use Rattle.std.proofs.Common.{◌≤◌, List, length, get_or, ap, ◌∙◌, arith}
 use Rattle.pg_ast.specs.declared.tree.Instr.{Instr}
-use Rattle.pg_valid.proofs.PatternFacts.{valid-short}
+use Rattle.pg_lang_valid.proofs.PatternFacts.{valid-short}
 use Rattle.pg_asm.proofs.disassembler.instr_of.Goals as goal
 
 pub returns-clause-short : goal.returns-clause-short

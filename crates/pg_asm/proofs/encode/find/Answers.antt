@@ -1,5 +1,5 @@
 use Rattle.std.proofs.Common.{◌≡◌, ℕ, List, bytes_eq, position, ap, ◌∙◌}
-use Rattle.pg_valid.specs.Twice.{instr_names}
+use Rattle.pg_lang_valid.specs.Twice.{instr_names}
 use Rattle.pg_asm.proofs.LineLemmas.{name-utf8}
 use Rattle.pg_asm.proofs.encode.find.Goals as goal
 

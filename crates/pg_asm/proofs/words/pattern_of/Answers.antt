@@ -1,6 +1,6 @@
 use Rattle.std.proofs.Common.{◌≡◌, ◌≤◌, List, length, get_or, All, ap, sym, ◌∙◌, arith}
 use Rattle.pg_ast.specs.declared.tree.Instr.{Instr}
-use Rattle.pg_valid.proofs.PatternFacts.{valid-short}
+use Rattle.pg_lang_valid.proofs.PatternFacts.{valid-short}
 use Rattle.pg_asm.proofs.DecodeLemmas.{pattern-at, pattern-length}
 use Rattle.pg_asm.proofs.words.pattern_of.Goals as goal
 

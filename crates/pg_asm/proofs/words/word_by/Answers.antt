@@ -1,6 +1,6 @@
 use Rattle.std.proofs.Common.{◌≡◌, ℕ, ◌+◌, ◌-◌, ◌*◌, ◌^◌, true, false, length, drop, get_or, sym, ap, ◌∙◌, arith, rules}
-use Rattle.pg_meaning.specs.Patterns.{run_length}
-use Rattle.pg_meaning.specs.Opcodes.{wanted_bit}
+use Rattle.pg_lang_meaning.specs.Patterns.{run_length}
+use Rattle.pg_lang_meaning.specs.Opcodes.{wanted_bit}
 use Rattle.pg_asm.specs.Words.{begins_field, word_behind, word_by}
 use Rattle.pg_asm.proofs.FieldLemmas.{Taking, taking, Adds, sum-more, other-sum, other-fit, total-room, end-sum, length-behind}
 use Rattle.pg_asm.proofs.words.word_by.Goals as goal

@@ -1,4 +1,4 @@
-use Rattle.pg_valid.proofs.ValidFacts.{IsShape-of_valid}
+use Rattle.pg_lang_valid.proofs.ValidFacts.{IsShape-of_valid}
 use Rattle.pg_cert.proofs.InRange.{cert_in_range}
 use Rattle.pg_cert.proofs.laws.valid_certificates_are_in_range.Goals as goal
 

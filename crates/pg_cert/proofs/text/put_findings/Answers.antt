@@ -1,6 +1,6 @@
 use Rattle.std.proofs.Common.{sym, ap, ◌∙◌}
 use Rattle.std.specs.Prelude.{slice_get}
-use Rattle.pg_valid.specs.Twice.{instr_names}
+use Rattle.pg_lang_valid.specs.Twice.{instr_names}
 use Rattle.pg_cert.proofs.TextLemmas.{findings_over, findings_more}
 use Rattle.pg_cert.proofs.text.put_findings.Goals as goal
 

@@ -1,5 +1,5 @@
 use Rattle.std.proofs.Common.{◌≡◌, ◌++◌, drop}
-use Rattle.pg_meaning.specs.States.{shape_of}
+use Rattle.pg_lang_meaning.specs.States.{shape_of}
 use Rattle.pg_cert.specs.Texts.{findings_lines, lines_text}
 use Rattle.pg_cert.proofs.text.put_findings.Given as goal
 

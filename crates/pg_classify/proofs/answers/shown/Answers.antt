@@ -1,5 +1,5 @@
 use Rattle.std.proofs.Common.{◌<◌, length, sym, subst}
-use Rattle.pg_machine.specs.declared.machine.Machine.{Machine}
+use Rattle.pg_mach_ready.specs.declared.machine.Machine.{Machine}
 use Rattle.pg_classify.proofs.FoundLemmas.{shown_again, shown_found}
 use Rattle.pg_classify.proofs.answers.shown.Goals as goal
 

@@ -1,4 +1,4 @@
-use Rattle.pg_control.proofs.ScheduleLemmas.{count_of-schedule}
+use Rattle.pg_mon_control.proofs.ScheduleLemmas.{count_of-schedule}
 use Rattle.pg_hybrid.specs.UserTurns.{hybrid_among}
 use Rattle.pg_hybrid.specs.Plans.{user_count}
 use Rattle.pg_hybrid.proofs.UserLemmas.{user-adds, hybrid-adds}

@@ -1,10 +1,10 @@
 use Rattle.std.proofs.Common.{ap, sym, ◌∙◌, subst, arith}
 use Rattle.pg_word.specs.declared.psw.Psw.{Psw}
-use Rattle.pg_meaning.specs.States.{State, IsState}
-use Rattle.pg_valid.proofs.StepSound.{steps-state}
+use Rattle.pg_lang_meaning.specs.States.{State, IsState}
+use Rattle.pg_lang_valid.proofs.StepSound.{steps-state}
 use Rattle.pg_hw.proofs.BurstLaws.{burst_length-most, burst_length-some}
-use Rattle.pg_control.specs.Current.{with_psw}
-use Rattle.pg_control.proofs.BurstLemmas.{Directly-burst, Stopped-burst, Stopped, Halted-of, entry-read}
+use Rattle.pg_mon_control.specs.Current.{with_psw}
+use Rattle.pg_mon_control.proofs.BurstLemmas.{Directly-burst, Stopped-burst, Stopped, Halted-of, entry-read}
 use Rattle.pg_hybrid.proofs.SteppedLemmas.{alike-of, Stepped-direct, Stepped-halted}
 use Rattle.pg_hybrid.proofs.turning.burst_on.Goals as goal
 

@@ -1,6 +1,6 @@
 use Rattle.std.proofs.Common.{ap}
 use Rattle.pg_word.specs.declared.psw.Psw.{Psw}
-use Rattle.pg_control.specs.Current.{with_psw}
+use Rattle.pg_mon_control.specs.Current.{with_psw}
 use Rattle.pg_hybrid.proofs.SteppedLemmas.{Interpreted-of}
 use Rattle.pg_hybrid.proofs.turning.interpret.Goals as goal
 

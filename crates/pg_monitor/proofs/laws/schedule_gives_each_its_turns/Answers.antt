@@ -1,6 +1,6 @@
-use Rattle.pg_control.proofs.ScheduleLemmas.{turns_for-schedule, turns_of-schedule, count_of-schedule}
-use Rattle.pg_control.proofs.CountLemmas.{direct-adds}
-use Rattle.pg_control.specs.Direct.{direct_among}
+use Rattle.pg_mon_control.proofs.ScheduleLemmas.{turns_for-schedule, turns_of-schedule, count_of-schedule}
+use Rattle.pg_mon_control.proofs.CountLemmas.{direct-adds}
+use Rattle.pg_mon_control.specs.Direct.{direct_among}
 use Rattle.pg_monitor.proofs.laws.schedule_gives_each_its_turns.Goals as goal
 
 pub returns-clause-each_turns : goal.returns-clause-each_turns

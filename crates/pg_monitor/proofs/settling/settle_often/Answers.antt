@@ -1,5 +1,5 @@
 use Rattle.std.proofs.Common.{◌∙◌, refl, sym, ◌+◌, ◌-◌, subst, arith}
-use Rattle.pg_control.specs.Guests.{virtual}
+use Rattle.pg_mon_control.specs.Guests.{virtual}
 use Rattle.pg_monitor.specs.Settling.{TellsFirst}
 use Rattle.pg_monitor.proofs.SettleLemmas.{TellsFirst-none, TellsFirst-then, TellsFirst-as, first-fits}
 use Rattle.pg_monitor.proofs.WentLemmas.{Went-none, Went-then, Went-count}

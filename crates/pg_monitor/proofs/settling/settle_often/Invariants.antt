@@ -1,5 +1,5 @@
 use Rattle.std.proofs.Common.{◌≡◌, ◌-◌, ◌≤◌}
-use Rattle.pg_control.specs.Guests.{virtual}
+use Rattle.pg_mon_control.specs.Guests.{virtual}
 use Rattle.pg_monitor.specs.Current.{Went}
 use Rattle.pg_monitor.specs.Settling.{TellsFirst}
 use Rattle.pg_monitor.proofs.settling.settle_often.Given as goal

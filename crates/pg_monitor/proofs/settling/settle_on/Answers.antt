@@ -1,11 +1,11 @@
 use Rattle.std.proofs.Common.{false, ap, sym, ◌∙◌, subst, arith}
 use Rattle.pg_word.specs.declared.psw.Psw.{Psw}
-use Rattle.pg_meaning.specs.States.{State, IsState}
-use Rattle.pg_valid.proofs.StepSound.{steps-state}
+use Rattle.pg_lang_meaning.specs.States.{State, IsState}
+use Rattle.pg_lang_valid.proofs.StepSound.{steps-state}
 use Rattle.pg_hw.proofs.BurstLaws.{burst_length-some, burst_length-most}
-use Rattle.pg_control.specs.Current.{with_psw}
-use Rattle.pg_control.proofs.BurstLemmas.{Directly-burst, Stopped-burst, Stopped, Halted-of, entry-read}
-use Rattle.pg_control.proofs.DirectLemmas.{accepted-alike}
+use Rattle.pg_mon_control.specs.Current.{with_psw}
+use Rattle.pg_mon_control.proofs.BurstLemmas.{Directly-burst, Stopped-burst, Stopped, Halted-of, entry-read}
+use Rattle.pg_mon_control.proofs.DirectLemmas.{accepted-alike}
 use Rattle.pg_monitor.proofs.SettleLemmas.{tells-direct, tells-still, tells-moves}
 use Rattle.pg_monitor.proofs.WentLemmas.{Went-direct, Went-halted}
 use Rattle.pg_monitor.proofs.settling.settle_on.Goals as goal

@@ -1,9 +1,9 @@
 use Rattle.std.proofs.Common.{sym, subst}
 use Rattle.pg_word.specs.Psw.{IsPsw}
-use Rattle.pg_valid.proofs.StepSound.{step-state}
+use Rattle.pg_lang_valid.proofs.StepSound.{step-state}
 use Rattle.pg_hw.specs.Serving.{IsServed}
 use Rattle.pg_hw.proofs.ServingLaws.{IsServedPsw-of}
-use Rattle.pg_control.proofs.StateLemmas.{composed-fits}
+use Rattle.pg_mon_control.proofs.StateLemmas.{composed-fits}
 use Rattle.pg_monitor.proofs.turning.interpret.Goals as goal
 
 pub enter-requires-clause-fits : goal.enter-requires-clause-fits

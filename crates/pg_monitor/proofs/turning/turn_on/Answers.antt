@@ -1,10 +1,10 @@
 use Rattle.std.proofs.Common.{false, ap, sym, ◌∙◌, subst, arith}
 use Rattle.pg_word.specs.declared.psw.Psw.{Psw}
-use Rattle.pg_meaning.specs.States.{State, IsState}
-use Rattle.pg_valid.proofs.StepSound.{steps-state}
-use Rattle.pg_control.specs.Current.{with_psw}
-use Rattle.pg_control.proofs.BurstLemmas.{Directly-burst, Stopped-burst, Stopped, Halted-of, entry-read}
-use Rattle.pg_control.proofs.DirectLemmas.{accepted-alike}
+use Rattle.pg_lang_meaning.specs.States.{State, IsState}
+use Rattle.pg_lang_valid.proofs.StepSound.{steps-state}
+use Rattle.pg_mon_control.specs.Current.{with_psw}
+use Rattle.pg_mon_control.proofs.BurstLemmas.{Directly-burst, Stopped-burst, Stopped, Halted-of, entry-read}
+use Rattle.pg_mon_control.proofs.DirectLemmas.{accepted-alike}
 use Rattle.pg_monitor.proofs.WentLemmas.{Went-direct, Went-halted}
 use Rattle.pg_monitor.proofs.ToldLemmas.{TellsBurst-of, calm-last, stopped-last}
 use Rattle.pg_monitor.proofs.turning.turn_on.Goals as goal

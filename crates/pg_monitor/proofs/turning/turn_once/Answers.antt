@@ -1,10 +1,10 @@
 use Rattle.std.proofs.Common.{refl, ap, sym, ◌∙◌, lit<}
 use Rattle.pg_word.specs.declared.psw.Psw.{Psw}
-use Rattle.pg_meaning.specs.States.{State}
+use Rattle.pg_lang_meaning.specs.States.{State}
 use Rattle.pg_hw.specs.Bursts.{traps}
-use Rattle.pg_control.specs.Current.{with_psw}
-use Rattle.pg_control.proofs.DirectLemmas.{DirectStep-of, accepted-alike}
-use Rattle.pg_control.proofs.BurstLemmas.{Directly-burst, burst-one, steps-once, Runs-calm, Stopped-once, Halted-once, Stopped-turned, Stopped-state}
+use Rattle.pg_mon_control.specs.Current.{with_psw}
+use Rattle.pg_mon_control.proofs.DirectLemmas.{DirectStep-of, accepted-alike}
+use Rattle.pg_mon_control.proofs.BurstLemmas.{Directly-burst, burst-one, steps-once, Runs-calm, Stopped-once, Halted-once, Stopped-turned, Stopped-state}
 use Rattle.pg_monitor.proofs.WentLemmas.{Went-direct, Went-halted, Ran-step}
 use Rattle.pg_monitor.proofs.turning.turn_once.Goals as goal
 

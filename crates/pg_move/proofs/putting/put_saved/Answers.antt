@@ -1,10 +1,10 @@
 use Rattle.std.proofs.Common.{◌≡◌, ◌++◌, Option, IsSomeAnd, ap, sym, subst, ◌∙◌}
-use Rattle.pg_machine.specs.declared.machine.Machine.{Machine}
-use Rattle.pg_meaning.specs.States.{State, shape_of}
+use Rattle.pg_mach_ready.specs.declared.machine.Machine.{Machine}
+use Rattle.pg_lang_meaning.specs.States.{State, shape_of}
 use Rattle.pg_image.specs.Lines.{state_text}
-use Rattle.pg_control.specs.Current.{Holds}
-use Rattle.pg_control.specs.Guests.{virtual}
-use Rattle.pg_control.proofs.GuestLemmas.{Holds-of, virtuals-at}
+use Rattle.pg_mon_control.specs.Current.{Holds}
+use Rattle.pg_mon_control.specs.Guests.{virtual}
+use Rattle.pg_mon_control.proofs.GuestLemmas.{Holds-of, virtuals-at}
 use Rattle.pg_monitor.specs.Monitors.{desc_of}
 use Rattle.pg_move.specs.Texts.{saved_text}
 use Rattle.pg_move.proofs.PutLemmas.{saved_put}

@@ -1,6 +1,6 @@
 use Rattle.std.proofs.Common.{◌-◌, ◌≤◌, ◌+◌, ◌∙◌, ap, refl, subst, arith}
-use Rattle.pg_machine.specs.declared.machine.Machine.{Machine}
-use Rattle.pg_meaning.specs.Steps.{steps}
+use Rattle.pg_mach_ready.specs.declared.machine.Machine.{Machine}
+use Rattle.pg_lang_meaning.specs.Steps.{steps}
 use Rattle.pg_hw.specs.Bursts.{BottomRises}
 use Rattle.pg_hw.proofs.BurstLaws.{BottomRises-none, BottomRises-then, untrapped_among-most}
 use Rattle.pg_hw.proofs.RunLemmas.{InBurst-none, InBurst-whole}

@@ -1,6 +1,6 @@
 use Rattle.std.proofs.Common.{refl, sym, ◌∙◌, ap}
 use Rattle.std.proofs.lemmas.Option.{same_Some}
-use Rattle.pg_control.specs.declared.guest.Guest.{Guest}
+use Rattle.pg_mon_control.specs.declared.guest.Guest.{Guest}
 use Rattle.pg_nest.specs.Presenting.{first_guest, first_state}
 use Rattle.pg_nest.proofs.PresentLemmas.{alone-first, turned-presents, turned-bottom}
 use Rattle.pg_nest.proofs.SegmentLemmas.{segment-told}

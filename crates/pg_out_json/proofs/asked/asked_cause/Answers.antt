@@ -1,6 +1,6 @@
 use Rattle.std.proofs.Common.{◌+◌, ◌≤◌, length, sym, subst, arith}
 use Rattle.pg_word.specs.Psw.{IsPsw}
-use Rattle.pg_control.proofs.StateLemmas.{composed-fits}
+use Rattle.pg_mon_control.proofs.StateLemmas.{composed-fits}
 use Rattle.pg_out_json.proofs.asked.asked_cause.Goals as goal
 
 pub step_in-ended-requires-clause-fields : goal.step_in-ended-requires-clause-fields

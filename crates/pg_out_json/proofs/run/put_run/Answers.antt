@@ -1,8 +1,8 @@
 use Rattle.std.proofs.Common.{length, sym, ◌∙◌, ap, subst, arith}
 use Rattle.pg_hw.specs.Machinery.{Machinery}
-use Rattle.pg_meaning.specs.States.{IsState}
-use Rattle.pg_valid.proofs.StepSound.{power_on-state}
-use Rattle.pg_traced.proofs.TraceLemmas.{blank-length}
+use Rattle.pg_lang_meaning.specs.States.{IsState}
+use Rattle.pg_lang_valid.proofs.StepSound.{power_on-state}
+use Rattle.pg_out_steps.proofs.TraceLemmas.{blank-length}
 use Rattle.pg_out_json.proofs.RunLemmas.{reached-anyway}
 use Rattle.pg_out_json.proofs.run.put_run.Goals as goal
 

@@ -1,13 +1,13 @@
 use Rattle.std.proofs.Common.{◌≡◌, ◌<◌, refl, sym, ◌∙◌, subst, arith}
 use Rattle.std.specs.Prelude.{IfSome}
-use Rattle.pg_meaning.specs.States.{IsState}
-use Rattle.pg_meaning.specs.Steps.{steps}
-use Rattle.pg_valid.proofs.StepSound.{steps-state}
+use Rattle.pg_lang_meaning.specs.States.{IsState}
+use Rattle.pg_lang_meaning.specs.Steps.{steps}
+use Rattle.pg_lang_valid.proofs.StepSound.{steps-state}
 use Rattle.pg_hw.specs.Running.{Ran}
 use Rattle.pg_hw.proofs.RunLemmas.{Ran-none, Ran-then}
-use Rattle.pg_traced.specs.Counting.{IsTally}
-use Rattle.pg_traced.specs.Tells.{Tells}
-use Rattle.pg_traced.proofs.TallyLemmas.{tally-next}
+use Rattle.pg_out_steps.specs.Counting.{IsTally}
+use Rattle.pg_out_steps.specs.Tells.{Tells}
+use Rattle.pg_out_steps.proofs.TallyLemmas.{tally-next}
 use Rattle.pg_out_json.proofs.turns.put_turns.Goals as goal
 
 pub loop-done-init : goal.loop-done-init

@@ -1,6 +1,6 @@
 use Rattle.std.proofs.Common.{◌≡◌}
 use Rattle.pg_hw.specs.Running.{Ran}
-use Rattle.pg_traced.specs.Counting.{IsBalanced, IsTally}
+use Rattle.pg_out_steps.specs.Counting.{IsBalanced, IsTally}
 use Rattle.pg_out_json.proofs.turns.put_turns.Given as goal
 
 -- so many steps were done and counted

@@ -3,10 +3,10 @@ use Rattle.std.specs.Prelude.{OnOk}
 use Rattle.pg_edge.specs.Sink.{Adds}
 use Rattle.pg_edge.specs.Told.{BothTold}
 use Rattle.pg_hw.specs.Machinery.{Machinery}
-use Rattle.pg_meaning.specs.States.{IsState}
-use Rattle.pg_meaning.specs.Steps.{power_on}
-use Rattle.pg_valid.proofs.StepSound.{power_on-state}
-use Rattle.pg_traced.proofs.TraceLemmas.{blank-length}
+use Rattle.pg_lang_meaning.specs.States.{IsState}
+use Rattle.pg_lang_meaning.specs.Steps.{power_on}
+use Rattle.pg_lang_valid.proofs.StepSound.{power_on-state}
+use Rattle.pg_out_steps.proofs.TraceLemmas.{blank-length}
 use Rattle.pg_out_vcd.specs.declared.signal.Signal.{Signal}
 use Rattle.pg_out_vcd.specs.Dump.{head_text, sample_at_end}
 use Rattle.pg_out_vcd.specs.Values.{sample_text}

@@ -4,11 +4,11 @@ use Rattle.pg_edge.specs.Told.{BothTold}
 use Rattle.pg_edge.proofs.PutsLaws.{Adds-nil}
 use Rattle.pg_hw.specs.Running.{Ran}
 use Rattle.pg_hw.proofs.RunLemmas.{Ran-none, Ran-then}
-use Rattle.pg_meaning.specs.States.{IsState}
-use Rattle.pg_meaning.specs.Steps.{steps}
-use Rattle.pg_traced.specs.Handling.{handling_under}
-use Rattle.pg_traced.specs.Tells.{Tells}
-use Rattle.pg_valid.proofs.StepSound.{steps-state}
+use Rattle.pg_lang_meaning.specs.States.{IsState}
+use Rattle.pg_lang_meaning.specs.Steps.{steps}
+use Rattle.pg_out_steps.specs.Handling.{handling_under}
+use Rattle.pg_out_steps.specs.Tells.{Tells}
+use Rattle.pg_lang_valid.proofs.StepSound.{steps-state}
 use Rattle.pg_out_vcd.specs.Dump.{last_sample, sample_of, steps_text}
 use Rattle.pg_out_vcd.specs.Values.{sample_text}
 use Rattle.pg_out_vcd.proofs.DumpLemmas.{last-next, sample-is, steps-next}

@@ -1,5 +1,5 @@
 use Rattle.std.proofs.Common.{◌++◌, ◌∙◌, ap, length}
-use Rattle.pg_traced.proofs.TraceLemmas.{pushed}
+use Rattle.pg_out_steps.proofs.TraceLemmas.{pushed}
 use Rattle.pg_out_vcd.specs.Dump.{begin_text, head_text, instrs_text, scope_end_text, scope_text, signals_text}
 use Rattle.pg_out_vcd.specs.Values.{signals_of}
 use Rattle.pg_out_vcd.proofs.head.push_head.Goals as goal

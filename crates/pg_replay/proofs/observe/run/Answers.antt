@@ -1,8 +1,8 @@
 -- What is executed at P is the instruction that stands there.
 use Rattle.std.proofs.Common.{subst}
 use Rattle.pg_word.specs.declared.sparse.Sparse.{Sparse}
-use Rattle.pg_meaning.specs.States.{window}
-use Rattle.pg_meaning.specs.Steps.{Ending, ending}
+use Rattle.pg_lang_meaning.specs.States.{window}
+use Rattle.pg_lang_meaning.specs.Steps.{Ending, ending}
 use Rattle.pg_interp.specs.Outcomes.{IsOutcome}
 use Rattle.pg_type.specs.Listed.{state_of}
 use Rattle.pg_replay.proofs.RunLemmas.{ending-course}

@@ -1,5 +1,5 @@
 -- Where nothing is stored, nothing differs.
-use Rattle.pg_meaning.specs.States.{window}
+use Rattle.pg_lang_meaning.specs.States.{window}
 use Rattle.pg_type.specs.Listed.{state_of}
 use Rattle.pg_replay.proofs.StoreLemmas.{written-same, written-agree}
 use Rattle.pg_replay.proofs.observe.same_after.Goals as goal

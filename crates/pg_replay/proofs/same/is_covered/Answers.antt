@@ -1,5 +1,5 @@
 -- What is listed is what is not zero.
-use Rattle.pg_meaning.specs.States.{window}
+use Rattle.pg_lang_meaning.specs.States.{window}
 use Rattle.pg_type.specs.Listed.{state_of}
 use Rattle.pg_replay.proofs.SameLemmas.{covered-of, standing-all}
 use Rattle.pg_replay.proofs.same.is_covered.Goals as goal

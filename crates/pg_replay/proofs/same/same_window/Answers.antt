@@ -1,9 +1,9 @@
 -- Windows of one length that cover one another are the same.
 use Rattle.std.proofs.Common.{sym, ◌∙◌, ◌≡◌, length}
 use Rattle.std.proofs.lemmas.Bool.{false≢true, iff_false}
-use Rattle.pg_meaning.specs.States.{window}
+use Rattle.pg_lang_meaning.specs.States.{window}
 use Rattle.pg_type.specs.Listed.{state_of}
-use Rattle.pg_valid.proofs.StepSound.{window-length}
+use Rattle.pg_lang_valid.proofs.StepSound.{window-length}
 use Rattle.pg_replay.proofs.SameLemmas.{windows-same, covers-same}
 use Rattle.pg_replay.proofs.same.same_window.Goals as goal
 

@@ -1,5 +1,5 @@
 use Rattle.std.proofs.Common.{◌≡◌, take}
-use Rattle.pg_meaning.specs.States.{window, put_back}
+use Rattle.pg_lang_meaning.specs.States.{window, put_back}
 use Rattle.pg_interp.specs.Writes.{written}
 use Rattle.pg_type.specs.Listed.{state_of}
 use Rattle.pg_replay.proofs.stored.after_stores.Given as goal

@@ -1,5 +1,5 @@
 use Rattle.std.proofs.lemmas.List.{take_all}
-use Rattle.pg_token.specs.Words.{most_name_bytes}
+use Rattle.pg_lang_token.specs.Words.{most_name_bytes}
 use Rattle.pg_report.proofs.Names.{length-name}
 use Rattle.pg_report.proofs.laws.names_are_shown_whole.Goals as goal
 

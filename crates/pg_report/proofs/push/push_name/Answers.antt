@@ -1,5 +1,5 @@
 use Rattle.std.proofs.Common.{◌++◌, ◌∙◌, ap}
-use Rattle.pg_token.specs.Words.{most_name_bytes}
+use Rattle.pg_lang_token.specs.Words.{most_name_bytes}
 use Rattle.pg_report.proofs.Names.{take-within}
 use Rattle.pg_report.proofs.push.push_name.Goals as goal
 

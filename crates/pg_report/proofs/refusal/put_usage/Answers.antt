@@ -1,7 +1,7 @@
 use Rattle.std.proofs.Common.{◌+◌, ◌++◌, ◌∙◌, ◌<◌, ◌≤◌, [], ap, arith, drop, length}
 use Rattle.std.proofs.lemmas.Result.{err_from_is_err_and}
-use Rattle.pg_asked.proofs.UsageLaws.{usage_all, usage_line, usage_none}
-use Rattle.pg_asked.specs.Commands.{usages}
+use Rattle.pg_cli_table.proofs.UsageLaws.{usage_all, usage_line, usage_none}
+use Rattle.pg_cli_table.specs.Commands.{usages}
 use Rattle.pg_edge.proofs.PutsLaws.{Puts-none, Puts-stopped, Puts-then}
 use Rattle.pg_report.proofs.refusal.put_usage.Goals as goal
 

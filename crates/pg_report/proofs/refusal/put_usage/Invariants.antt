@@ -1,5 +1,5 @@
 use Rattle.std.proofs.Common.{◌≡◌, ℕ, List, ◌++◌, drop, Ok}
-use Rattle.pg_asked.specs.Commands.{usage_text, usages}
+use Rattle.pg_cli_table.specs.Commands.{usage_text, usages}
 use Rattle.pg_edge.specs.Sink.{Puts}
 use Rattle.pg_edge.specs.declared.shelf.Failed.{Failed}
 use Rattle.pg_report.proofs.refusal.put_usage.Given as goal

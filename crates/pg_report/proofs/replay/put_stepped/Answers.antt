@@ -1,8 +1,8 @@
 use Rattle.std.proofs.Common.{◌++◌, [], Option, sym, subst, ap₂}
 use Rattle.pg_word.specs.declared.cause.Cause.{Cause}
-use Rattle.pg_meaning.specs.States.{State, IsState, window}
-use Rattle.pg_meaning.specs.Steps.{ending, step}
-use Rattle.pg_valid.proofs.StepSound.{step-state}
+use Rattle.pg_lang_meaning.specs.States.{State, IsState, window}
+use Rattle.pg_lang_meaning.specs.Steps.{ending, step}
+use Rattle.pg_lang_valid.proofs.StepSound.{step-state}
 use Rattle.pg_type.specs.Listed.{state_of}
 use Rattle.pg_replay.specs.Storing.{cause_of}
 use Rattle.pg_report.specs.declared.replay.ReplayFault.TheVariants.{Failed, Memory}

@@ -1,6 +1,6 @@
 use Rattle.std.proofs.Common.{◌∙◌, ap, sym, take, drop}
-use Rattle.pg_meaning.specs.States.{State}
-use Rattle.pg_meaning.specs.Steps.{ByMemTrap, ByTrap, ByNoPattern, Done}
+use Rattle.pg_lang_meaning.specs.States.{State}
+use Rattle.pg_lang_meaning.specs.Steps.{ByMemTrap, ByTrap, ByNoPattern, Done}
 use Rattle.pg_interp.specs.Writes.{written}
 use Rattle.pg_interp.specs.declared.effect.Effect.{Effect}
 use Rattle.pg_interp.specs.Outcomes.{ending_as, outcome_in}

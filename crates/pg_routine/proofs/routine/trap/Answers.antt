@@ -1,6 +1,6 @@
 use Rattle.std.proofs.Common.{◌≡◌, ◌+◌, ◌∙◌, sym, ap, slice_index, slice_set, arith}
 use Rattle.pg_word.specs.Psw.{cause_number, packed_trap, unpacked}
-use Rattle.pg_meaning.specs.States.{State, shape_of}
+use Rattle.pg_lang_meaning.specs.States.{State, shape_of}
 use Rattle.pg_hw.specs.Machinery.{Machinery}
 use Rattle.pg_routine.specs.Granting.{guest_at}
 use Rattle.pg_routine.proofs.GrantLaws.{guest-length, guest-cell, guest-set}

@@ -4,10 +4,10 @@ use Rattle.std.proofs.lemmas.List.{length-map, length-set, length-take-le}
 use Rattle.std.proofs.lemmas.List.Elements.{All-get_or}
 use Rattle.std.proofs.lemmas.Option.{same_Some, slice_get-get_or, slice_get_within}
 use Rattle.pg_ast.specs.declared.tree.Desc.{Desc}
-use Rattle.pg_machine.specs.declared.machine.Machine.{Machine}
-use Rattle.pg_meaning.specs.States.{State}
-use Rattle.pg_control.specs.Guests.{virtuals}
-use Rattle.pg_control.specs.Standing.{Stands}
+use Rattle.pg_mach_ready.specs.declared.machine.Machine.{Machine}
+use Rattle.pg_lang_meaning.specs.States.{State}
+use Rattle.pg_mon_control.specs.Guests.{virtuals}
+use Rattle.pg_mon_control.specs.Standing.{Stands}
 use Rattle.pg_monitor.specs.Schedules.{Begun}
 use Rattle.pg_monitor.proofs.ScheduleLemmas.{Begun-then}
 use Rattle.pg_run_still.specs.declared.rounds.Rest.{Rest}

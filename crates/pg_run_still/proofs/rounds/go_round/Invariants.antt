@@ -1,7 +1,7 @@
 use Rattle.std.proofs.Common.{◌≡◌, ℕ, ◌<◌, ◌≤◌, length, take, Some, slice_get}
-use Rattle.pg_meaning.specs.States.{State}
-use Rattle.pg_control.specs.Guests.{virtuals}
-use Rattle.pg_control.specs.Standing.{Stands}
+use Rattle.pg_lang_meaning.specs.States.{State}
+use Rattle.pg_mon_control.specs.Guests.{virtuals}
+use Rattle.pg_mon_control.specs.Standing.{Stands}
 use Rattle.pg_monitor.specs.Schedules.{Begun}
 use Rattle.pg_run_still.specs.declared.rounds.Rest.{Rest}
 use Rattle.pg_run_still.specs.Rounds.{round_behind}

@@ -1,10 +1,10 @@
 use Rattle.std.proofs.Common.{◌≡◌, ℕ, ◌+◌, ◌-◌, ◌<◌, ◌≤◌, All, None, List, ◌++◌, take, drop, min, length, refl, sym, ◌∙◌, ap, subst, arith}
 use Rattle.std.proofs.lemmas.List.{length-map, take-append-le, take_all}
 use Rattle.std.proofs.lemmas.List.Elements.{All-same}
-use Rattle.pg_machine.specs.declared.machine.Machine.{Machine}
-use Rattle.pg_control.proofs.GuestLemmas.{All-at}
-use Rattle.pg_control.specs.Guests.{virtual, virtuals}
-use Rattle.pg_control.specs.Standing.{Stands}
+use Rattle.pg_mach_ready.specs.declared.machine.Machine.{Machine}
+use Rattle.pg_mon_control.proofs.GuestLemmas.{All-at}
+use Rattle.pg_mon_control.specs.Guests.{virtual, virtuals}
+use Rattle.pg_mon_control.specs.Standing.{Stands}
 use Rattle.pg_run_still.specs.declared.rounds.Rest.{Rest}
 use Rattle.pg_run_still.specs.Resting.{AfterRound, IsBefore}
 use Rattle.pg_run_still.proofs.GoingLemmas.{Going, Going-none, Going-before, Going-round, Going-end}

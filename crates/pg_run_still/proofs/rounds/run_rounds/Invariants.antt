@@ -1,5 +1,5 @@
 use Rattle.std.proofs.Common.{◌≡◌, ◌≤◌, ◌-◌, length}
-use Rattle.pg_control.specs.Standing.{Stands}
+use Rattle.pg_mon_control.specs.Standing.{Stands}
 use Rattle.pg_run_still.proofs.GoingLemmas.{Going}
 use Rattle.pg_run_still.proofs.rounds.run_rounds.Given as goal
 

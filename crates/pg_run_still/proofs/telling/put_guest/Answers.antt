@@ -2,7 +2,7 @@ use Rattle.std.proofs.Common.{◌≡◌, ◌∙◌, ℕ, ap, subst, sym, arith}
 use Rattle.pg_edge.specs.declared.shelf.Failed.{Failed}
 use Rattle.pg_edge.specs.Sink.{Puts}
 use Rattle.pg_image.specs.Lines.{state_text}
-use Rattle.pg_control.specs.Guests.{virtual}
+use Rattle.pg_mon_control.specs.Guests.{virtual}
 use Rattle.pg_report.specs.Spans.{span}
 use Rattle.pg_run_still.specs.Views.{views_text}
 use Rattle.pg_run_still.proofs.ViewLemmas.{guest_text-none, guest_text-some}

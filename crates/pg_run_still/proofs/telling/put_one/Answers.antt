@@ -2,7 +2,7 @@ use Rattle.std.proofs.Common.{subst, Ok, Err}
 use Rattle.pg_edge.specs.declared.shelf.Failed.{Failed}
 use Rattle.pg_edge.specs.Sink.{Puts}
 use Rattle.pg_edge.proofs.PutsLaws.{Puts-then, Puts-stopped}
-use Rattle.pg_control.specs.Guests.{virtual}
+use Rattle.pg_mon_control.specs.Guests.{virtual}
 use Rattle.pg_run_still.specs.Views.{guest_text}
 use Rattle.pg_run_still.proofs.telling.put_one.Goals as goal
 

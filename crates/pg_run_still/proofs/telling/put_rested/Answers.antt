@@ -2,10 +2,10 @@ use Rattle.std.proofs.Common.{◌≡◌, ◌++◌, ◌∙◌, ℕ, All, List, le
 use Rattle.pg_edge.specs.Sink.{Puts}
 use Rattle.pg_edge.specs.declared.shelf.Failed.{Failed}
 use Rattle.pg_edge.proofs.PutsLaws.{Puts-then, Puts-stopped}
-use Rattle.pg_control.specs.declared.guest.Guest.{Guest}
-use Rattle.pg_control.specs.Guests.{virtuals}
+use Rattle.pg_mon_control.specs.declared.guest.Guest.{Guest}
+use Rattle.pg_mon_control.specs.Guests.{virtuals}
 use Rattle.pg_report.specs.Runs.{steps_line}
-use Rattle.pg_shown.specs.Telling.{AreWithin}
+use Rattle.pg_run_base.specs.Telling.{AreWithin}
 use Rattle.pg_run_still.specs.declared.rounds.Rest.{Rest}
 use Rattle.pg_run_still.specs.Running.{rests_text, still_text}
 use Rattle.pg_run_still.specs.Views.{AreViewsOf}

@@ -1,7 +1,7 @@
 use Rattle.std.proofs.Common.{◌<◌, ◌≤◌, ◌^◌, ◌∙◌, ap, subst, sym, arith}
 use Rattle.pg_edge.specs.Sink.{Puts}
 use Rattle.pg_edge.specs.declared.shelf.Failed.{Failed}
-use Rattle.pg_control.specs.Guests.{virtual}
+use Rattle.pg_mon_control.specs.Guests.{virtual}
 use Rattle.pg_run_still.specs.declared.view.View.{View}
 use Rattle.pg_run_still.specs.Views.{end_of, view_text}
 use Rattle.pg_run_still.proofs.ViewLemmas.{All-part, bytes-shown, cells-shown}

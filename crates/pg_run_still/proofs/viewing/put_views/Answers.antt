@@ -5,7 +5,7 @@ use Rattle.std.proofs.lemmas.Result.{err_from_is_err_and}
 use Rattle.pg_edge.specs.Sink.{Puts}
 use Rattle.pg_edge.specs.declared.shelf.Failed.{Failed}
 use Rattle.pg_edge.proofs.PutsLaws.{Puts-none, Puts-then, Puts-stopped}
-use Rattle.pg_control.specs.Guests.{virtual}
+use Rattle.pg_mon_control.specs.Guests.{virtual}
 use Rattle.pg_run_still.specs.declared.view.View.{View}
 use Rattle.pg_run_still.specs.Views.{end_of, view_text, views_text}
 use Rattle.pg_run_still.proofs.ViewLemmas.{views_text-none, views_text-next, views_text-front}

@@ -1,7 +1,7 @@
 use Rattle.std.proofs.Common.{take, Ok}
 use Rattle.pg_edge.specs.Sink.{Puts}
 use Rattle.pg_edge.specs.declared.shelf.Failed.{Failed}
-use Rattle.pg_control.specs.Guests.{virtual}
+use Rattle.pg_mon_control.specs.Guests.{virtual}
 use Rattle.pg_run_still.specs.Views.{views_text}
 use Rattle.pg_run_still.proofs.viewing.put_views.Given as goal
 

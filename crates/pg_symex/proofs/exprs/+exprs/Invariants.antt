@@ -1,6 +1,6 @@
 use Rattle.std.proofs.Common.{◌+◌, ◌*◌}
 use Rattle.pg_ast.specs.declared.tree.Expr.TheVariants.{Load, Not, Bin, Cat, Cut, Ext, Sext, Sel}
-use Rattle.pg_valid.specs.Limits.{expr_tally}
+use Rattle.pg_lang_valid.specs.Limits.{expr_tally}
 use Rattle.pg_symex.proofs.exprs.+exprs.Given as goal
 
 -- a part has fewer expressions than the whole, and a form stands below the call that asks for it

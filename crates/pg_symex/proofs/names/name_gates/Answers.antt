@@ -1,5 +1,5 @@
 use Rattle.std.proofs.Common.{sym, arith}
-use Rattle.pg_meaning.proofs.PatternLemmas.{field_of-within}
+use Rattle.pg_lang_meaning.proofs.PatternLemmas.{field_of-within}
 use Rattle.pg_symex.proofs.names.name_gates.Goals as goal
 
 pub field_gates-requires-clause-some : goal.field_gates-requires-clause-some

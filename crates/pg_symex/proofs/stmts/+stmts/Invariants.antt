@@ -1,5 +1,5 @@
 use Rattle.std.proofs.Common.{◌+◌, ◌*◌, drop, map}
-use Rattle.pg_valid.specs.Limits.{all_of, if_any, stmt_tally}
+use Rattle.pg_lang_valid.specs.Limits.{all_of, if_any, stmt_tally}
 use Rattle.std.specs.Option.{option_map}
 use Rattle.pg_symex.specs.EntryView.{entry_as}
 use Rattle.pg_symex.proofs.BlockSteps.{PartlyMade}

@@ -1,6 +1,6 @@
 use Rattle.std.proofs.Common.{◌≡◌, ◌+◌, ◌-◌, ◌≤◌, length, drop}
 use Rattle.std.specs.List.{prefix_len}
-use Rattle.pg_token.specs.Words.{is_word_byte}
+use Rattle.pg_lang_token.specs.Words.{is_word_byte}
 use Rattle.pg_text.proofs.classes.word_len.Given as goal
 
 abbrev pub invariant-loop-n : goal.invariant-loop-n

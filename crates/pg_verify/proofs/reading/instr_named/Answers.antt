@@ -1,6 +1,6 @@
 use Rattle.std.proofs.Common.{arith, sym, ◌∙◌}
 use Rattle.std.proofs.lemmas.List.{length-map}
-use Rattle.pg_valid.specs.Twice.{instr_names}
+use Rattle.pg_lang_valid.specs.Twice.{instr_names}
 use Rattle.pg_verify.proofs.NameLemmas.{named_here, named_elsewhere, named_nowhere}
 use Rattle.pg_verify.proofs.reading.instr_named.Goals as goal
 

@@ -1,4 +1,4 @@
-use Rattle.pg_valid.specs.Twice.{instr_names}
+use Rattle.pg_lang_valid.specs.Twice.{instr_names}
 use Rattle.pg_verify.proofs.NameLemmas.{AreOthers}
 use Rattle.pg_verify.proofs.reading.instr_named.Given as goal
 

@@ -1,5 +1,5 @@
 use Rattle.std.proofs.Common.{refl, sym, ◌∙◌, arith}
-use Rattle.pg_meaning.specs.Steps.{steps}
+use Rattle.pg_lang_meaning.specs.Steps.{steps}
 use Rattle.pg_hw.specs.Machinery.{at_psw}
 use Rattle.pg_hw.specs.Bursts.{untrapped_among, burst_length}
 use Rattle.pg_hw.proofs.BurstLaws.{steps-one, burst_length-trap, untrapped_at-trap, untrapped_among-one}

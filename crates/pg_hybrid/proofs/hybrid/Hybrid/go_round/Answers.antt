@@ -1,7 +1,7 @@
 use Rattle.std.proofs.Common.{length, refl, ap, ◌∙◌, subst, arith}
-use Rattle.pg_machine.specs.declared.machine.Machine.{Machine}
-use Rattle.pg_control.specs.Standing.{Stands}
-use Rattle.pg_control.proofs.PlanLemmas.{grants-length}
+use Rattle.pg_mach_ready.specs.declared.machine.Machine.{Machine}
+use Rattle.pg_mon_control.specs.Standing.{Stands}
+use Rattle.pg_mon_control.proofs.PlanLemmas.{grants-length}
 use Rattle.pg_hybrid.proofs.TurnedLemmas.{Turned-machine}
 use Rattle.pg_hybrid.proofs.PlanLemmas.{Followed-none, Followed-guest, Followed-alike}
 use Rattle.pg_hybrid.proofs.hybrid.Hybrid.go_round.Goals as goal

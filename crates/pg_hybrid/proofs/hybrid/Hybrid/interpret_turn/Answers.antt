@@ -1,10 +1,10 @@
 use Rattle.std.proofs.Common.{ap, sym, subst, ◌≡◌, Option, ℕ}
-use Rattle.pg_machine.specs.declared.machine.Machine.{Machine}
-use Rattle.pg_control.specs.declared.guest.Guest.{Guest}
-use Rattle.pg_control.specs.Current.{Holds}
-use Rattle.pg_control.specs.Standing.{Stands}
-use Rattle.pg_control.proofs.GuestLemmas.{Holds-of}
-use Rattle.pg_control.proofs.OwnLemmas.{owned-set}
+use Rattle.pg_mach_ready.specs.declared.machine.Machine.{Machine}
+use Rattle.pg_mon_control.specs.declared.guest.Guest.{Guest}
+use Rattle.pg_mon_control.specs.Current.{Holds}
+use Rattle.pg_mon_control.specs.Standing.{Stands}
+use Rattle.pg_mon_control.proofs.GuestLemmas.{Holds-of}
+use Rattle.pg_mon_control.proofs.OwnLemmas.{owned-set}
 use Rattle.pg_hybrid.specs.Turns.{HybridTurned}
 use Rattle.pg_hybrid.proofs.TurnedLemmas.{Interpreted-machine, turned-interpreted, stands-interpreted}
 use Rattle.pg_hybrid.proofs.hybrid.Hybrid.interpret_turn.Goals as goal

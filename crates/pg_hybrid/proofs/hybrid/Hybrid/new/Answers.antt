@@ -1,4 +1,4 @@
-use Rattle.pg_control.proofs.BaseLemmas.{direct-anywhere}
+use Rattle.pg_mon_control.proofs.BaseLemmas.{direct-anywhere}
 use Rattle.pg_hybrid.proofs.hybrid.Hybrid.new.Goals as goal
 
 pub returns-clause-direct_at_every_base : goal.returns-clause-direct_at_every_base

@@ -1,8 +1,8 @@
 use Rattle.std.proofs.Common.{ap, ◌∙◌, subst, arith, take}
 use Rattle.std.proofs.lemmas.List.{take_all}
-use Rattle.pg_machine.specs.declared.machine.Machine.{Machine}
-use Rattle.pg_control.specs.Standing.{Stands}
-use Rattle.pg_control.proofs.PlanLemmas.{grants-length}
+use Rattle.pg_mach_ready.specs.declared.machine.Machine.{Machine}
+use Rattle.pg_mon_control.specs.Standing.{Stands}
+use Rattle.pg_mon_control.proofs.PlanLemmas.{grants-length}
 use Rattle.pg_hybrid.proofs.TurnedLemmas.{Turned-machine}
 use Rattle.pg_hybrid.proofs.PlanLemmas.{Followed-own, Followed-on, Followed-same}
 use Rattle.pg_hybrid.proofs.hybrid.Hybrid.run.Goals as goal

@@ -1,5 +1,5 @@
 use Rattle.std.proofs.Common.{◌≡◌, take, length}
-use Rattle.pg_control.specs.Standing.{Stands}
+use Rattle.pg_mon_control.specs.Standing.{Stands}
 use Rattle.pg_hybrid.specs.Plans.{HybridFollowed}
 use Rattle.pg_hybrid.proofs.hybrid.Hybrid.run.Given as goal
 

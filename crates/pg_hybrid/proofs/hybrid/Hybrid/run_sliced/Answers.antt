@@ -1,6 +1,6 @@
 use Rattle.std.proofs.Common.{◌%◌, length, ap, ◌∙◌, subst, arith}
-use Rattle.pg_machine.specs.declared.machine.Machine.{Machine}
-use Rattle.pg_control.specs.Standing.{Stands}
+use Rattle.pg_mach_ready.specs.declared.machine.Machine.{Machine}
+use Rattle.pg_mon_control.specs.Standing.{Stands}
 use Rattle.pg_hybrid.proofs.PlanLemmas.{Followed-alike, Followed-round, Followed-schedule, Followed-states}
 use Rattle.pg_hybrid.proofs.hybrid.Hybrid.run_sliced.Goals as goal
 

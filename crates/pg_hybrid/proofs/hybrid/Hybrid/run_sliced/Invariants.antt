@@ -1,6 +1,6 @@
 use Rattle.std.proofs.Common.{◌≡◌, length}
-use Rattle.pg_control.specs.Standing.{Stands}
-use Rattle.pg_control.specs.Schedules.{rounds_of}
+use Rattle.pg_mon_control.specs.Standing.{Stands}
+use Rattle.pg_mon_control.specs.Schedules.{rounds_of}
 use Rattle.pg_hybrid.specs.Plans.{HybridFollowed}
 use Rattle.pg_hybrid.proofs.hybrid.Hybrid.run_sliced.Given as goal
 

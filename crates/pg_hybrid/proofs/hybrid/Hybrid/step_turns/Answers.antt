@@ -1,8 +1,8 @@
 use Rattle.std.proofs.Common.{ap, sym, ◌∙◌, subst, slice_get, ◌≡◌, Some, List, Option, ℕ}
-use Rattle.pg_machine.specs.declared.machine.Machine.{Machine}
-use Rattle.pg_control.specs.declared.guest.Guest.{Guest}
-use Rattle.pg_control.specs.Standing.{Stands}
-use Rattle.pg_control.proofs.OwnLemmas.{owned-set}
+use Rattle.pg_mach_ready.specs.declared.machine.Machine.{Machine}
+use Rattle.pg_mon_control.specs.declared.guest.Guest.{Guest}
+use Rattle.pg_mon_control.specs.Standing.{Stands}
+use Rattle.pg_mon_control.proofs.OwnLemmas.{owned-set}
 use Rattle.pg_hybrid.specs.Turns.{HybridTurned}
 use Rattle.pg_hybrid.proofs.TurnedLemmas.{Stepped-machine, stepped-once, turned-stepped, stands-stepped}
 use Rattle.pg_hybrid.proofs.hybrid.Hybrid.step_turns.Goals as goal

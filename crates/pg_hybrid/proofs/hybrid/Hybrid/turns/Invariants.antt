@@ -1,5 +1,5 @@
 use Rattle.std.proofs.Common.{◌≡◌, ◌-◌, ◌≤◌, length}
-use Rattle.pg_control.specs.Standing.{Stands}
+use Rattle.pg_mon_control.specs.Standing.{Stands}
 use Rattle.pg_hybrid.specs.Turns.{HybridTurned}
 use Rattle.pg_hybrid.proofs.hybrid.Hybrid.turns.Given as goal
 

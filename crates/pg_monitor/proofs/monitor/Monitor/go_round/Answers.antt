@@ -1,8 +1,8 @@
 use Rattle.std.proofs.Common.{length, refl, ap, ◌∙◌, subst, arith}
-use Rattle.pg_machine.specs.declared.machine.Machine.{Machine}
-use Rattle.pg_control.specs.Standing.{Stands}
+use Rattle.pg_mach_ready.specs.declared.machine.Machine.{Machine}
+use Rattle.pg_mon_control.specs.Standing.{Stands}
 use Rattle.pg_monitor.proofs.PlanLemmas.{Turned-machine}
-use Rattle.pg_control.proofs.PlanLemmas.{grants-length}
+use Rattle.pg_mon_control.proofs.PlanLemmas.{grants-length}
 use Rattle.pg_monitor.proofs.ScheduleLemmas.{Begun-guest, Begun-same}
 use Rattle.pg_monitor.proofs.monitor.Monitor.go_round.Goals as goal
 

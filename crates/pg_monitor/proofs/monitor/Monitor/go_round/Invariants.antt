@@ -1,6 +1,6 @@
 use Rattle.std.proofs.Common.{◌≡◌, length}
-use Rattle.pg_control.specs.Standing.{Stands}
-use Rattle.pg_control.specs.Schedules.{round_of}
+use Rattle.pg_mon_control.specs.Standing.{Stands}
+use Rattle.pg_mon_control.specs.Schedules.{round_of}
 use Rattle.pg_monitor.specs.Schedules.{Begun}
 use Rattle.pg_monitor.proofs.monitor.Monitor.go_round.Given as goal
 

@@ -1,4 +1,4 @@
-use Rattle.pg_control.proofs.OwnLemmas.{owned-made}
+use Rattle.pg_mon_control.proofs.OwnLemmas.{owned-made}
 use Rattle.pg_monitor.proofs.monitor.Monitor.hold.Goals as goal
 
 pub invariant_of-self : goal.invariant_of-self

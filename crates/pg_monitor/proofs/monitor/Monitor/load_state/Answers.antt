@@ -1,7 +1,7 @@
 use Rattle.std.proofs.Common.{arith}
 use Rattle.pg_word.proofs.SparseLemmas.{length-storage_of}
 use Rattle.pg_type.specs.Listed.{state_of}
-use Rattle.pg_control.proofs.AdmitLemmas.{admits, admits-stands, state-admitted, placed-fits, placed-within}
+use Rattle.pg_mon_control.proofs.AdmitLemmas.{admits, admits-stands, state-admitted, placed-fits, placed-within}
 use Rattle.pg_monitor.specs.Monitors.{kept_by}
 use Rattle.pg_monitor.proofs.monitor.Monitor.load_state.Goals as goal
 

@@ -1,6 +1,6 @@
 use Rattle.std.proofs.Math.Logic.{∥∥₁_map}
 use Rattle.pg_type.proofs.KindLaws.{accepted-hybrid}
-use Rattle.pg_control.proofs.BaseLemmas.{direct-anywhere}
+use Rattle.pg_mon_control.proofs.BaseLemmas.{direct-anywhere}
 use Rattle.pg_monitor.proofs.monitor.Monitor.new.Goals as goal
 
 pub returns-clause-direct_at_every_base : goal.returns-clause-direct_at_every_base

@@ -1,5 +1,5 @@
 use Rattle.std.proofs.Common.{sym}
-use Rattle.pg_control.proofs.OwnLemmas.{owned-in}
+use Rattle.pg_mon_control.proofs.OwnLemmas.{owned-in}
 use Rattle.pg_monitor.proofs.monitor.Monitor.place.Goals as goal
 
 pub place-requires-clause-owned : goal.place-requires-clause-owned

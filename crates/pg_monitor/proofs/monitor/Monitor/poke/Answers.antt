@@ -1,6 +1,6 @@
 use Rattle.std.proofs.Common.{arith, ◌<◌, ap}
 use Rattle.pg_hw.specs.Machinery.{Machinery}
-use Rattle.pg_control.specs.declared.guest.Guest.{Guest}
+use Rattle.pg_mon_control.specs.declared.guest.Guest.{Guest}
 use Rattle.pg_monitor.proofs.ReachLemmas.{guest-known, reached-within, reached-fits, poked-states, poked-stands}
 use Rattle.pg_monitor.proofs.monitor.Monitor.poke.Goals as goal
 

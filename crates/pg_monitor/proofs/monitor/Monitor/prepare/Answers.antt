@@ -1,6 +1,6 @@
 use Rattle.std.proofs.Common.{ap}
 use Rattle.pg_word.specs.declared.shape.Shape.{Shape}
-use Rattle.pg_control.proofs.LoadLemmas.{shape-same}
+use Rattle.pg_mon_control.proofs.LoadLemmas.{shape-same}
 use Rattle.pg_monitor.proofs.ReadyLemmas.{ready-of, room-found}
 use Rattle.pg_monitor.proofs.monitor.Monitor.prepare.Goals as goal
 

@@ -1,8 +1,8 @@
 use Rattle.std.proofs.Common.{ap, ◌∙◌, subst, arith}
-use Rattle.pg_machine.specs.declared.machine.Machine.{Machine}
-use Rattle.pg_control.specs.Standing.{Stands}
+use Rattle.pg_mach_ready.specs.declared.machine.Machine.{Machine}
+use Rattle.pg_mon_control.specs.Standing.{Stands}
 use Rattle.pg_monitor.proofs.PlanLemmas.{Followed-own, Followed-on, Followed-end, Turned-machine}
-use Rattle.pg_control.proofs.PlanLemmas.{grants-length}
+use Rattle.pg_mon_control.proofs.PlanLemmas.{grants-length}
 use Rattle.pg_monitor.proofs.monitor.Monitor.run.Goals as goal
 
 pub loop-turn-preserved : goal.loop-turn-preserved

@@ -1,6 +1,6 @@
 use Rattle.std.proofs.Common.{◌%◌, length, ap, ◌∙◌, subst, arith}
-use Rattle.pg_machine.specs.declared.machine.Machine.{Machine}
-use Rattle.pg_control.specs.Standing.{Stands}
+use Rattle.pg_mach_ready.specs.declared.machine.Machine.{Machine}
+use Rattle.pg_mon_control.specs.Standing.{Stands}
 use Rattle.pg_monitor.proofs.ScheduleLemmas.{Begun-same, Begun-round, Begun-schedule, Followed-schedule}
 use Rattle.pg_monitor.proofs.monitor.Monitor.run_sliced.Goals as goal
 

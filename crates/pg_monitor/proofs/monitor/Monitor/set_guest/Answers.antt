@@ -1,12 +1,12 @@
 use Rattle.std.proofs.Common.{◌≡◌, refl, sym, subst, List}
 use Rattle.pg_hw.proofs.ServingLaws.{IsServedPsw-of}
-use Rattle.pg_control.specs.declared.guest.Guest.{Guest}
-use Rattle.pg_control.specs.Guests.{virtuals}
+use Rattle.pg_mon_control.specs.declared.guest.Guest.{Guest}
+use Rattle.pg_mon_control.specs.Guests.{virtuals}
 use Rattle.pg_monitor.specs.Reaching.{under_psw, changed_at}
-use Rattle.pg_control.specs.Standing.{Stands}
-use Rattle.pg_control.proofs.GuestLemmas.{Holds-of}
-use Rattle.pg_control.proofs.StateLemmas.{Holds-addressable, composed-fits}
-use Rattle.pg_control.proofs.OwnLemmas.{owned-set}
+use Rattle.pg_mon_control.specs.Standing.{Stands}
+use Rattle.pg_mon_control.proofs.GuestLemmas.{Holds-of}
+use Rattle.pg_mon_control.proofs.StateLemmas.{Holds-addressable, composed-fits}
+use Rattle.pg_mon_control.proofs.OwnLemmas.{owned-set}
 use Rattle.pg_monitor.proofs.ResetLemmas.{reset-states, reset-stands}
 use Rattle.pg_monitor.proofs.monitor.Monitor.set_guest.Goals as goal
 

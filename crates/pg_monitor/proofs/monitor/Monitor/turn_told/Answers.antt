@@ -1,8 +1,8 @@
 use Rattle.std.proofs.Common.{ap, ◌∙◌, lit<, slice_set, slice_get, List}
-use Rattle.pg_machine.specs.declared.machine.Machine.{Machine}
+use Rattle.pg_mach_ready.specs.declared.machine.Machine.{Machine}
 use Rattle.pg_hw.specs.Machinery.{Machinery}
-use Rattle.pg_control.specs.declared.guest.Guest.{Guest}
-use Rattle.pg_control.proofs.OwnLemmas.{owned-set}
+use Rattle.pg_mon_control.specs.declared.guest.Guest.{Guest}
+use Rattle.pg_mon_control.proofs.OwnLemmas.{owned-set}
 use Rattle.pg_monitor.proofs.TurnedLemmas.{Went-machine, moved-machine, Stands-some, Turned-some, turn-kept}
 use Rattle.pg_monitor.proofs.monitor.Monitor.turn_told.Goals as goal
 

@@ -1,7 +1,7 @@
 use Rattle.std.proofs.Common.{ap, ◌∙◌, slice_set, slice_get, List, arith}
-use Rattle.pg_machine.specs.declared.machine.Machine.{Machine}
-use Rattle.pg_control.specs.declared.guest.Guest.{Guest}
-use Rattle.pg_control.proofs.OwnLemmas.{owned-set}
+use Rattle.pg_mach_ready.specs.declared.machine.Machine.{Machine}
+use Rattle.pg_mon_control.specs.declared.guest.Guest.{Guest}
+use Rattle.pg_mon_control.proofs.OwnLemmas.{owned-set}
 use Rattle.pg_monitor.proofs.TurnedLemmas.{Went-machine, Stands-some, Turned-some, Turned-zero}
 use Rattle.pg_monitor.proofs.monitor.Monitor.turns.Goals as goal
 

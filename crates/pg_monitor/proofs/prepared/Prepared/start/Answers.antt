@@ -1,12 +1,12 @@
 use Rattle.std.proofs.Common.{◌≡◌, ◌∙◌, ap, sym, subst, [], ◌∷◌, None, arith}
 use Rattle.pg_word.specs.Psw.{packed, power_on_psw}
-use Rattle.pg_machine.specs.declared.machine.Machine.{Machine}
-use Rattle.pg_valid.proofs.ValidFacts.{IsShape-of_valid}
-use Rattle.pg_meaning.specs.States.{IsState}
+use Rattle.pg_mach_ready.specs.declared.machine.Machine.{Machine}
+use Rattle.pg_lang_valid.proofs.ValidFacts.{IsShape-of_valid}
+use Rattle.pg_lang_meaning.specs.States.{IsState}
 use Rattle.pg_hw.specs.Machinery.{Machinery, poked_at}
 use Rattle.pg_hw.proofs.ServingLaws.{blank-state}
-use Rattle.pg_control.specs.Standing.{Stands}
-use Rattle.pg_control.proofs.AdmitLemmas.{put-stands, put-states}
+use Rattle.pg_mon_control.specs.Standing.{Stands}
+use Rattle.pg_mon_control.proofs.AdmitLemmas.{put-stands, put-states}
 use Rattle.pg_monitor.proofs.ReadyLemmas.{installed-size, dark, dark-is, started}
 use Rattle.pg_monitor.proofs.prepared.Prepared.start.Goals as goal
 

@@ -1,7 +1,7 @@
 use Rattle.std.proofs.Common.{◌≡◌, ◌∙◌, ap, sym, subst, []}
-use Rattle.pg_machine.specs.declared.machine.Machine.{Machine}
+use Rattle.pg_mach_ready.specs.declared.machine.Machine.{Machine}
 use Rattle.pg_hw.specs.Machinery.{Machinery}
-use Rattle.pg_control.specs.Standing.{Stands}
+use Rattle.pg_mon_control.specs.Standing.{Stands}
 use Rattle.pg_nest.specs.Presenting.{first_state, PresentsAny}
 use Rattle.pg_nest.proofs.LevelLemmas.{kept-served, kept-room, level-installed}
 use Rattle.pg_nest.proofs.PresentLemmas.{presents-of, started-alone, started-base, started-blank-of}

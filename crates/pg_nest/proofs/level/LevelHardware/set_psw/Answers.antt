@@ -1,6 +1,6 @@
 use Rattle.std.proofs.Common.{◌≡◌, slice_set, List}
-use Rattle.pg_control.specs.declared.guest.Guest.{Guest}
-use Rattle.pg_control.specs.Current.{with_psw}
+use Rattle.pg_mon_control.specs.declared.guest.Guest.{Guest}
+use Rattle.pg_mon_control.specs.Current.{with_psw}
 use Rattle.pg_monitor.proofs.ReachLemmas.{guest-known}
 use Rattle.pg_nest.specs.Presenting.{first_guest}
 use Rattle.pg_nest.proofs.AgreeingBursts.{served-same, psw-fits-same}

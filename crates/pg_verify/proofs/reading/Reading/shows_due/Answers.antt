@@ -1,5 +1,5 @@
 use Rattle.std.proofs.Common.{arith, ap, ◌∙◌, slice_get}
-use Rattle.pg_drawn.specs.Drawn.{drawn_of}
+use Rattle.pg_cert_drawn.specs.Drawn.{drawn_of}
 use Rattle.pg_verify.specs.Reader.{Progress}
 use Rattle.pg_verify.specs.Taking.{shows_at, due_kind, due_instr}
 use Rattle.pg_verify.proofs.NameLemmas.{some_at, told_shown}

@@ -1,7 +1,0 @@
--- The command `asm DESC SOURCE --grant G`.
-use Rattle.std.specs.Prelude.{[], ◌∷◌, codes}
-use Rattle.pg_asked.specs.Synopses.{Synopsis, File}
-use Rattle.pg_asked.specs.Running.{grant}
-
-abbrev pub asm : Synopsis
-asm = record { name = codes "asm"; arguments = File (codes "DESC") ∷ File (codes "SOURCE") ∷ grant ∷ [] }

@@ -1,7 +1,0 @@
--- The command `hcheck DESC --cert FILE [--budget K]`: the arguments of `check`, for the condition of hybrid machines.
-use Rattle.std.specs.Prelude.{codes}
-use Rattle.pg_asked.specs.Check.{check}
-use Rattle.pg_asked.specs.Synopses.{Synopsis}
-
-abbrev pub hcheck : Synopsis
-hcheck = record check { name = codes "hcheck" }

@@ -1,0 +1,21 @@
+//! What `replay` asks for.
+ghost use Rattle.std.specs.Prelude.{◌≡◌, IfOk};
+ghost use Rattle.clap.specs.Words.{found_of, rows_of};
+ghost use Rattle.pg_cli_table.specs.declared.names.CommandName.TheVariants as name;
+ghost use Rattle.pg_cli_parse.specs.Asked.{asked_of};
+ghost use Rattle.pg_cli_parse.specs.Entered.{HoldsRows};
+
+use crate::arguments::file_name;
+use clap::ArgMatches;
+use pg_cli_table::{ReplayWords, Request};
+use std::alloc::{AllocError, Global};
+
+/// What its arguments ask for.
+pub(crate) fn asked(alloc: Global, matches: &ArgMatches<'_>) -> Result<Option<Request>, AllocError>
+    requires { HoldsRows name.Replay (rows_of (found_of matches.now)) }
+    ensures { IfOk result (λ r. asked_of name.Replay (rows_of (found_of matches.now)) ≡ r) }
+{
+    let desc = file_name(alloc, matches, "DESC")?;
+    let cert = file_name(alloc, matches, "CERT")?;
+    Ok(Some(Request::Replay(ReplayWords { desc, cert })))
+}

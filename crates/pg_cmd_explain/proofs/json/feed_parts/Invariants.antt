@@ -1,5 +1,0 @@
-use Rattle.pg_steps.specs.Answering.{OnlyReads}
-use Rattle.pg_cmd_explain.proofs.json.feed_parts.Given as goal
-
-abbrev pub invariant-loop : goal.invariant-loop
-invariant-loop g l = OnlyReads g.F.Shelf l.initial.shelf l.shelf

@@ -1,4 +1,0 @@
-use Rattle.pg_cmd_going.proofs.run.Goals as goal
-
-pub returns-clause-goes : goal.returns-clause-goes
-returns-clause-goes g c = record { given = c.go.result; is = c.code.ensures; goes = c.go.ensures.goes }

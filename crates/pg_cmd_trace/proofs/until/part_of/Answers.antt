@@ -1,5 +1,0 @@
-use Rattle.std.proofs.Common.{refl}
-use Rattle.pg_cmd_trace.proofs.until.part_of.Goals as goal
-
-pub returns-clause-part : goal.returns-clause-part
-returns-clause-part g c = record { ends = c.in_ok-steps.ensures.ends; same = refl }

@@ -1,9 +1,0 @@
--- The command `replay DESC CERT`.
-use Rattle.std.specs.Prelude.{List, Option, Some, codes}
-use Rattle.clap.specs.Walk.{Row}
-use Rattle.pg_command.specs.Arguments.{with_text}
-use Rattle.pg_asked.specs.declared.replay.ReplayWords.{ReplayWords}
-
--- what the arguments ask for
-abbrev pub replay_of : List Row → Option ReplayWords
-replay_of rows = with_text (codes "DESC") rows (λ desc. with_text (codes "CERT") rows (λ cert. Some (record { desc = desc; cert = cert })))

@@ -1,6 +1,0 @@
-use Rattle.std.proofs.Common.{◌≡◌, map, take}
-use Rattle.pg_forget.specs.Held.{number_in}
-use Rattle.pg_forget.proofs.renumber.named.Given as goal
-
-abbrev pub invariant-loop-hint : goal.invariant-loop-hint
-invariant-loop-hint l = l.named.items ≡ map (number_in l.numbers) (take l.hint-index l.hints)

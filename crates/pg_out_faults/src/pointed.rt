@@ -1,0 +1,179 @@
+//! Where a refused file is at fault, for who wrote it.
+//!
+//! `point_out` finds the place of a refusal and says what is wrong in words; `three_lines` lays it out. Both take memory, and each
+//! error is want of it.
+
+ghost use Rattle.std.specs.Prelude.{◌≡◌, is_some, IfOk};
+ghost use Rattle.pg_out_faults.specs.Refusals.{is_of_file};
+
+use crate::description::description;
+use crate::found::{At, Found, Told, alone};
+use crate::held::Held;
+use crate::image::image;
+use crate::lines::{certificate, saved};
+use crate::sources::source;
+use pg_out_place::{Sentence, Shown, show, spot_at};
+use pg_report::RefusalLine;
+use pg_text::dec;
+use std::alloc::{AllocError, Global};
+
+/// A place of a file.
+#[derive(Clone, Copy)]
+pub struct Place {
+    /// The line, from 1.
+    pub line: u64,
+    /// The column, in characters, from 1.
+    pub column: u64,
+}
+
+/// What is wrong, and where.
+#[derive(Drop)]
+pub struct Point {
+    /// What is wrong.
+    pub what: Sentence,
+    /// Where; nothing where it is the file as a whole.
+    pub place: Option<Place>,
+    /// The line there, where it is held.
+    pub shown: Option<Shown>,
+}
+
+/// What is wrong with a file.
+#[derive(Drop)]
+pub struct Pointed {
+    /// What it is refused for.
+    pub first: Point,
+    /// What else is wrong with it of the same kind.
+    pub more: Vec<Point>,
+    /// How many more faults of that kind it has.
+    pub left: u64,
+}
+
+/// What is wrong with a refused file, and where, found from the bytes of it that are held. Nothing where no file is refused,
+/// which is so of room alone.
+pub fn point_out(
+    alloc: Global,
+    refusal: &RefusalLine,
+    held: &Held<'_>,
+) -> Result<Option<Pointed>, AllocError>
+    ensures told { IfOk result (λ pointed. is_some pointed ≡ is_of_file refusal.now) }
+{
+    let told = match refusal {
+        RefusalLine::Description(why) => description(alloc, why, held.bytes)?,
+        RefusalLine::Image(_, why) => alone(alloc, image(alloc, why, held)?),
+        RefusalLine::Certificate(why) => alone(alloc, certificate(alloc, why, held)?),
+        RefusalLine::Source(why) => alone(alloc, source(alloc, why, held)?),
+        RefusalLine::Saved(why) => alone(alloc, saved(alloc, why, held)?),
+        RefusalLine::Room(_, _) => return Ok(None),
+    };
+    Ok(Some(all_shown(alloc, told, held)?))
+}
+
+/// All that is told, with the lines.
+fn all_shown(alloc: Global, told: Told, held: &Held<'_>) -> Result<Pointed, AllocError> {
+    let first = shown_at(alloc, told.first, held)?;
+    let mut more = Vec::new(alloc);
+    for found in told.more {
+        more.push(shown_at(alloc, found, held)?)?;
+    }
+    Ok(Pointed {
+        first,
+        more,
+        left: told.left,
+    })
+}
+
+/// What is found, with its line.
+fn shown_at(alloc: Global, found: Found, held: &Held<'_>) -> Result<Point, AllocError> {
+    let what = found.what;
+    match found.at {
+        At::Whole => Ok(Point {
+            what,
+            place: None,
+            shown: None,
+        }),
+        At::Line(line) => Ok(Point {
+            what,
+            place: Some(Place { line, column: 1 }),
+            shown: None,
+        }),
+        At::Place(place) => {
+            let spot = spot_at(held.bytes, place);
+            let shown = show(alloc, &spot)?;
+            Ok(Point {
+                what,
+                place: Some(Place {
+                    line: spot.line.saturating_add(held.feeds),
+                    column: spot.column,
+                }),
+                shown: Some(shown),
+            })
+        }
+    }
+}
+
+/// Pushes a place between colons.
+fn push_place(text: &mut Vec<u8>, place: Place) -> Result<(), AllocError> {
+    text.push(b':')?;
+    text.extend_from_slice(dec(place.line).as_slice())?;
+    text.push(b':')?;
+    text.extend_from_slice(dec(place.column).as_slice())?;
+    Ok(())
+}
+
+/// Pushes a file's name, each control character of it as `?`.
+fn push_name(text: &mut Vec<u8>, name: &[u8]) -> Result<(), AllocError> {
+    for byte in name {
+        text.push(if byte.is_ascii_control() { b'?' } else { *byte })?;
+    }
+    Ok(())
+}
+
+/// Pushes a line and the caret below it.
+fn push_shown(text: &mut Vec<u8>, shown: &Shown) -> Result<(), AllocError> {
+    text.extend_from_slice(shown.line.as_slice())?;
+    text.push(b'\n')?;
+    text.extend_from_slice(shown.caret.as_slice())?;
+    text.push(b'\n')?;
+    Ok(())
+}
+
+/// Pushes what is wrong: `NAME:LINE:COLUMN: WHAT`, and where the line is held that line, and `^` below the place.
+fn push_point(text: &mut Vec<u8>, name: &[u8], point: &Point) -> Result<(), AllocError> {
+    push_name(text, name)?;
+    if let Some(place) = point.place {
+        push_place(text, place)?;
+    }
+    text.extend_from_slice(b": ")?;
+    text.extend_from_slice(point.what.as_bytes())?;
+    text.push(b'\n')?;
+    if let Some(shown) = &point.shown {
+        push_shown(text, shown)?;
+    }
+    Ok(())
+}
+
+/// Pushes how many more statements there are whose widths do not fit, which are the faults that are told of more than one.
+fn push_left(text: &mut Vec<u8>, name: &[u8], left: u64) -> Result<(), AllocError> {
+    push_name(text, name)?;
+    text.extend_from_slice(b": and ")?;
+    text.extend_from_slice(dec(left).as_slice())?;
+    text.extend_from_slice(if left == 1 {
+        b" more statement whose widths do not fit\n".as_slice()
+    } else {
+        b" more statements whose widths do not fit\n".as_slice()
+    })
+}
+
+/// The text for a file of this name, three lines for each fault whose line is held: `NAME:LINE:COLUMN: WHAT`, that line, and `^`
+/// below the place; and last how many more faults there are, if there are more.
+pub fn three_lines(alloc: Global, name: &[u8], pointed: &Pointed) -> Result<Vec<u8>, AllocError> {
+    let mut text = Vec::new(alloc);
+    push_point(&mut text, name, &pointed.first)?;
+    for point in pointed.more.as_slice() {
+        push_point(&mut text, name, point)?;
+    }
+    if pointed.left > 0 {
+        push_left(&mut text, name, pointed.left)?;
+    }
+    Ok(text)
+}

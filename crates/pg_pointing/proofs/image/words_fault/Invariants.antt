@@ -1,5 +1,0 @@
-use Rattle.std.proofs.Common.{length}
-use Rattle.pg_pointing.proofs.image.words_fault.Given as goal
-
-abbrev pub decreases-loop-part : goal.decreases-loop-part
-decreases-loop-part l = length l.left

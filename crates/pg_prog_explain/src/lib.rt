@@ -1,0 +1,28 @@
+//! Why a machine is refused, in words, for people who would mend it.
+//!
+//!     pg_explain DESC CERT [INSTR [KIND] | --json] [--budget K] [--mend FILE] [--readable]
+//!
+//! CERT is a certificate of the description in DESC, of either family, as `pgv check` and `pgv hcheck` write it. What is written
+//! is the verdict, for each instruction that is refused the states that show why, with one step from each, and what would mend the
+//! machine (`pg_out_reasons`). With INSTR that instruction alone is told, and with KIND that kind of it: `privileged`, `control`, `mode`,
+//! `location`, `bound`, `ucontrol`, `ulocation` or `ubound`. Under `--mend` the description with guards is saved, where it is
+//! accepted: its own text with the guards put in (`pg_out_mended`). Under `--readable` two states that are laid out for a reader are told
+//! beside each pair (`pg_out_readable`). With `--json` the machine, all findings and all of
+//! the text are one JSON object (`json`).
+//!
+//! The status is that of `pgv verify`, and so are refusals: 0 accepted, 1 refused, 2 open. What each leaves is a clause (`carry`). A file
+//! for the mended description that is one of those that are read is refused, before anything is read.
+//!
+//! - `explain`: the call. `request`: the words. `source`: whether a file that is read would be replaced. `load`: the files. `found`: what
+//!   there is to tell. `mend`: what is saved. `json`: the same as JSON.
+#![tactic(auto)]
+
+mod explain;
+mod found;
+mod json;
+mod load;
+mod mend;
+mod request;
+mod source;
+
+pub use explain::{USAGE, refused, run, say_layout};

@@ -1,0 +1,12 @@
+use Rattle.std.proofs.Common.{inl, inr, refl}
+use Rattle.pg_prog_go.proofs.go.Goals as goal
+
+pub returns-in-Err-clause-goes : goal.returns-in-Err-clause-goes
+returns-in-Err-clause-goes g c =
+    inr (inl (record { status = refl; before = record { silent = refl; untouched = record { files = refl; saves = refl; hw = refl } } }))
+
+pub returns-in-Ok-None-clause-goes : goal.returns-in-Ok-None-clause-goes
+returns-in-Ok-None-clause-goes g c = inl (record { told = c.put_usage.ensures.told; untouched = record { files = refl; saves = refl; hw = refl } })
+
+pub returns-in-Ok-Some-clause-goes : goal.returns-in-Ok-Some-clause-goes
+returns-in-Ok-Some-clause-goes g c = inr (inr (record { words = c.in-Ok-Some.words; carries = c.carry_go.ensures.carries }))

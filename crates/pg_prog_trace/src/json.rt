@@ -1,0 +1,151 @@
+//! A run as JSON: `docs/DATA.md` has its keys.
+
+ghost use Rattle.std.specs.Prelude.{◌≡◌, ◌*◌, ◌≤◌, All, OnOk, IfSome, length};
+ghost use Rattle.pg_ast.specs.declared.tree.Desc.{Desc};
+ghost use Rattle.pg_cert.specs.Verdicts.{kind_count};
+ghost use Rattle.pg_report.specs.Verdicts.{DoMarkWordsFit};
+ghost use Rattle.pg_cmd_base.specs.Able.{IsAble};
+ghost use Rattle.pg_cmd_base.specs.Answering.{OnlyReads};
+ghost use Rattle.pg_cmd_plain.specs.Bare.{reached};
+ghost use Rattle.pg_lang_valid.specs.Valid.{IsValid};
+ghost use Rattle.pg_prog_trace.specs.Plans.{planned_run};
+
+use crate::carry::{ended, tell_refused};
+use crate::monitor::monitor_of;
+use crate::plan::Plan;
+use crate::request::{TraceWords, Until};
+use crate::until::part_of;
+use crate::work::{Work, load_work};
+use pg_cert::Report;
+use pg_cli_version::VERSION;
+use pg_cmd_base::{Status, StopWatcher, stopped};
+use pg_cmd_certs::is_accepted;
+use pg_edge::{Shelf, Sink};
+use pg_hw::Hardware;
+use pg_out_json::{push, push_head, push_number, push_string, put_run};
+use pg_out_steps::{Monitor, TraceFault};
+use std::alloc::{AllocError, Global};
+
+/// Runs what the words ask for, and puts it as JSON; refusals are those of the text, and so is the verdict of a certificate that does
+/// not accept the machine. No file is saved.
+pub fn carry_json<F: Shelf, S: Sink, H: Hardware, W: StopWatcher>(
+    alloc: Global,
+    words: &TraceWords,
+    shelf: &mut F,
+    out: &mut S,
+    hw: &mut H,
+    watcher: &mut W,
+) -> Status
+    requires able { IsAble H.Hardware hw.old }
+    ensures reads { OnlyReads F.Shelf shelf.old shelf.new }
+{
+    match load_work(alloc, words, shelf) {
+        Ok(work) => put_work(alloc, work, words.until, hw, out),
+        Err(stop) => stopped(&stop, out, watcher),
+    }
+}
+
+/// Does the work, and puts it.
+fn put_work<S: Sink, H: Hardware>(
+    alloc: Global,
+    work: Work,
+    until: Option<Until>,
+    hw: &mut H,
+    out: &mut S,
+) -> Status
+    requires able { IsAble H.Hardware hw.old }
+    requires whole { IfSome work.report (λ r. length r.marks ≡ length work.plan.machine.desc.instrs * kind_count r.family) }
+    requires fit { IfSome work.report (λ r. All (DoMarkWordsFit work.plan.machine.desc.word) r.marks) }
+{
+    let Work { plan, report } = work;
+    match report {
+        None => ended(put_part(alloc, plan, until, hw, out, None)),
+        Some(report) => carry_accepted(alloc, plan, report, until, hw, out),
+    }
+}
+
+/// The same under a monitor, where a certificate says that one may run the machine.
+fn carry_accepted<S: Sink, H: Hardware>(
+    alloc: Global,
+    plan: Plan,
+    report: Report,
+    until: Option<Until>,
+    hw: &mut H,
+    out: &mut S,
+) -> Status
+    requires able { IsAble H.Hardware hw.old }
+    requires whole { length report.marks ≡ length plan.machine.desc.instrs * kind_count report.family }
+    requires fit { All (DoMarkWordsFit plan.machine.desc.word) report.marks }
+{
+    if !is_accepted(report.verdict()) {
+        return tell_refused(plan, report, out);
+    }
+    let monitor = monitor_of(report.family);
+    ended(put_part(alloc, plan, until, hw, out, Some(monitor)))
+}
+
+/// Runs a plan, up to where a condition first holds if one is named, and puts what was run.
+fn put_part<S: Sink, H: Hardware>(
+    alloc: Global,
+    plan: Plan,
+    until: Option<Until>,
+    hw: &mut H,
+    out: &mut S,
+    monitor: Option<Monitor>,
+) -> Result<(), TraceFault>
+    requires able { IsAble H.Hardware hw.old }
+{
+    let part = part_of(plan, until, hw)?;
+    put_json(alloc, &part, hw, out, monitor)
+}
+
+/// Runs a plan, and puts it.
+fn put_json<S: Sink, H: Hardware>(
+    alloc: Global,
+    plan: &Plan,
+    hw: &mut H,
+    out: &mut S,
+    monitor: Option<Monitor>,
+) -> Result<(), TraceFault>
+    requires serves { (d : Desc) → IsValid d → H.serves (H.fixed hw.old) d }
+    requires room { 1048575 ≤ H.room (H.fixed hw.old) }
+    ensures reached { OnOk result ((H.machinery hw.new).state ≡ reached (planned_run plan.now)) }
+{
+    let mut text = Vec::new(alloc);
+    push_begin(&mut text, plan, monitor)?;
+    let image = plan.image.as_slice();
+    put_run(
+        alloc,
+        &plan.machine,
+        image,
+        hw,
+        out,
+        &mut text,
+        plan.steps,
+        monitor,
+    )
+}
+
+/// Pushes what stands before the pieces of a run. The error is want of memory.
+fn push_begin(text: &mut Vec<u8>, plan: &Plan, monitor: Option<Monitor>) -> Result<(), AllocError> {
+    push_head(text, b"pg_trace", VERSION, &plan.machine)?;
+    push(text, b",\n\"grant\":")?;
+    push_number(text, u64::from(plan.grant))?;
+    push(text, b",\"steps\":")?;
+    push_number(text, plan.steps)?;
+    match monitor {
+        None => Ok(()),
+        Some(monitor) => {
+            push(text, b",\"monitor\":")?;
+            push_string(text, monitor_name(monitor))
+        }
+    }
+}
+
+/// The command of a monitor.
+fn monitor_name(monitor: Monitor) -> &'static [u8] {
+    match monitor {
+        Monitor::Plain => b"run",
+        Monitor::Hybrid => b"hybrid",
+    }
+}

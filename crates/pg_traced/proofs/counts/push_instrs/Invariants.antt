@@ -1,6 +1,0 @@
-use Rattle.std.proofs.Common.{◌≡◌, ◌++◌}
-use Rattle.pg_traced.specs.Lines.{instr_lines}
-use Rattle.pg_traced.proofs.counts.push_instrs.Given as goal
-
-abbrev pub invariant-loop-k : goal.invariant-loop-k
-invariant-loop-k l = l.text.items ≡ l.initial.text.items ++ instr_lines l.m.desc l.counts l.k
