@@ -96,7 +96,7 @@ impl<'m> Asked<'m> {
 /// The question of an instruction, of a number below `count()`, and a kind: clauses that can all be true exactly where two
 /// states of the machine, of sizes from 2 to q, show the kind (`Shows`, `pg_type`). It is the same at each call, and that of the
 /// same description with causes or without (`causes`). Linear in the body, but that touched cells are compared in pairs. The
-/// error is want of memory; a circuit of 2^29 nodes is more than there is room for.
+/// error is out of memory; a circuit of 2^29 nodes is more than there is room for.
 pub fn ask<'m>(
     alloc: Global,
     machine: &'m Machine,
@@ -139,7 +139,7 @@ struct Drawn {
     usable: Bits,
 }
 
-/// The question, over no touched cell, in a circuit of its own. The error is want of memory.
+/// The question, over no touched cell, in a circuit of its own.
 fn draw(
     alloc: Global,
     machine: &Machine,
@@ -157,7 +157,7 @@ fn draw(
     draw_in(alloc, machine, instr, kind, &mut circuit, touched)
 }
 
-/// The same in a circuit of the constant alone. The error is want of memory.
+/// The same in a circuit of the constant alone.
 fn draw_in(
     alloc: Global,
     machine: &Machine,
@@ -183,7 +183,7 @@ fn draw_in(
     })
 }
 
-/// The clauses, and how many cells are usable, of unknowns that are all that was made so far. The error is want of memory.
+/// The clauses, and how many cells are usable, of unknowns that are all that was made so far.
 fn show(
     alloc: Global,
     machine: &Machine,
@@ -209,7 +209,7 @@ fn show(
     Ok((cnf, usable))
 }
 
-/// The clauses, from the gate that all of it fits. The error is want of memory.
+/// The clauses, from the gate that all of it fits.
 fn clauses(
     alloc: Global,
     machine: &Machine,
@@ -237,7 +237,7 @@ fn clauses(
 /// How many nodes a circuit has at most whose clauses are written.
 const NODES_AT_MOST: usize = 1 << 29;
 
-/// The clauses that say that the root is true. The error is want of memory; a circuit of 2^29 nodes is more than there is room
+/// The clauses that say that the root is true. The error is out of memory; a circuit of 2^29 nodes is more than there is room
 /// for.
 fn written(alloc: Global, circuit: &Circuit, root: Gate) -> Result<Cnf, AllocError>
     requires { IsThere (length circuit.now.nodes) root }
@@ -250,7 +250,7 @@ fn written(alloc: Global, circuit: &Circuit, root: Gate) -> Result<Cnf, AllocErr
     encode(alloc, circuit, root)
 }
 
-/// What fits, with the word at P, whose cell is touched first of all. The error is want of memory.
+/// What fits, with the word at P, whose cell is touched first of all.
 fn fit_at_p(
     alloc: Global,
     machine: &Machine,
@@ -275,8 +275,8 @@ fn fit_at_p(
     fit(alloc, circuit, machine, &instrs[instr], kind, u, &word)
 }
 
-/// All of it, from what fits on: the gate that it does, that both runs end as the kind asks, and that the touched cells are
-/// those of one storage. The error is want of memory.
+/// All of it, from what fits on: the gate that it does, that both runs end as the kind asks, and that the touched cells are those of one
+/// storage.
 fn end_so(
     alloc: Global,
     machine: &Machine,
@@ -301,8 +301,7 @@ fn end_so(
     root(alloc, circuit, touched, kind, u, v, gate, &ended)
 }
 
-/// All of it: what fits, that both runs end as the kind asks, and that the touched cells are those of one storage. The error
-/// is want of memory.
+/// All of it: what fits, that both runs end as the kind asks, and that the touched cells are those of one storage.
 fn root(
     alloc: Global,
     circuit: &mut Circuit,

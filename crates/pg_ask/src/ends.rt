@@ -51,7 +51,7 @@ pub struct BothEnds {
     pub second: End,
 }
 
-/// Done: neither trap. The error is want of memory.
+/// Done: neither trap.
 fn done(circuit: &mut Circuit, end: &End) -> Result<Gate, AllocError>
     requires mem_trap { IsThere (length circuit.old.nodes) end.now.mem_trap }
     requires trap { IsThere (length circuit.old.nodes) end.now.trap }
@@ -61,7 +61,7 @@ fn done(circuit: &mut Circuit, end: &End) -> Result<Gate, AllocError>
     and(circuit, circuit.not(end.mem_trap), circuit.not(end.trap))
 }
 
-/// The first run is done, with another mode or another R than before. The error is want of memory.
+/// The first run is done, with another mode or another R than before.
 fn control(circuit: &mut Circuit, u: &Unknowns, first: &End) -> Result<Gate, AllocError>
     requires unknowns { AreUnknowns (length circuit.old.nodes) (length u.now.p) u.now }
     requires first { AreEnd (length circuit.old.nodes) (length first.now.word) (length u.now.p) first.now }
@@ -75,7 +75,7 @@ fn control(circuit: &mut Circuit, u: &Unknowns, first: &End) -> Result<Gate, All
     and(circuit, gate, circuit.not(b))
 }
 
-/// What two done runs leave differs: P, or the word at the compared address, where that is usable. The error is want of memory.
+/// What two done runs leave differs: P, or the word at the compared address, where that is usable.
 fn seen_apart(
     alloc: Global,
     circuit: &mut Circuit,
@@ -98,7 +98,7 @@ fn seen_apart(
     or(circuit, circuit.not(same_p), odd)
 }
 
-/// The second is done; or it does not memory trap, and the first traps. The error is want of memory.
+/// The second is done; or it does not memory trap, and the first traps.
 fn broken(circuit: &mut Circuit, first: &End, second: &End) -> Result<Gate, AllocError>
     requires trap { IsThere (length circuit.old.nodes) first.now.trap }
     requires second_mem_trap { IsThere (length circuit.old.nodes) second.now.mem_trap }
@@ -111,7 +111,7 @@ fn broken(circuit: &mut Circuit, first: &End, second: &End) -> Result<Gate, Allo
     or(circuit, second_done, odd)
 }
 
-/// The second is done, and the first is not, or leaves something else. The error is want of memory.
+/// The second is done, and the first is not, or leaves something else.
 fn mode(
     alloc: Global,
     circuit: &mut Circuit,
@@ -134,7 +134,7 @@ fn mode(
     and(circuit, second_done, differ)
 }
 
-/// One of both is done; or both are, and leave different things. The error is want of memory.
+/// One of both is done; or both are, and leave different things.
 fn either(
     alloc: Global,
     circuit: &mut Circuit,
@@ -159,7 +159,7 @@ fn either(
     or(circuit, one, differ)
 }
 
-/// Both runs end as the kind asks. The error is want of memory.
+/// Both runs end as the kind asks.
 pub fn ends(
     alloc: Global,
     circuit: &mut Circuit,
@@ -186,7 +186,7 @@ pub fn ends(
     }
 }
 
-/// How one run ends, over cells under no write, which it leaves so. The error is want of memory.
+/// How one run ends, over cells under no write, which it leaves so.
 fn end_of(
     alloc: Global,
     m: &Machine,
@@ -230,7 +230,7 @@ fn end_of(
     })
 }
 
-/// How both runs end, over cells under no write, which they leave so. The error is want of memory.
+/// How both runs end, over cells under no write, which they leave so.
 pub fn both(
     alloc: Global,
     m: &Machine,
@@ -256,7 +256,7 @@ pub fn both(
     Ok(BothEnds { first, second })
 }
 
-/// How the run from the first state ends, over cells under no write, which it leaves so. The error is want of memory.
+/// How the run from the first state ends, over cells under no write, which it leaves so.
 fn first_end(
     alloc: Global,
     m: &Machine,
@@ -281,7 +281,7 @@ fn first_end(
     end_of(alloc, m, instr, circuit, touched, &regs, &u.compared)
 }
 
-/// How the run from the second state ends, over cells under no write, which it leaves so. The error is want of memory.
+/// How the run from the second state ends, over cells under no write, which it leaves so.
 fn second_end(
     alloc: Global,
     m: &Machine,
@@ -306,21 +306,21 @@ fn second_end(
     end_of(alloc, m, instr, circuit, touched, &regs, &u.compared)
 }
 
-/// The registers of the first state. The error is want of memory.
+/// The registers of the first state.
 fn first_regs(alloc: Global, u: &Unknowns, v: &Bits) -> Result<Regs, AllocError>
     ensures { IfOk result (λ r. r ≡ first_regs u.now v.now) }
 {
     registers(alloc, &u.first_mode, &u.p, &u.first_l, &u.first_b, v)
 }
 
-/// The registers of the second. The error is want of memory.
+/// The registers of the second.
 fn second_regs(alloc: Global, u: &Unknowns, v: &Bits) -> Result<Regs, AllocError>
     ensures { IfOk result (λ r. r ≡ second_regs u.now v.now) }
 {
     registers(alloc, &u.second_mode, &u.p, &u.second_l, &u.second_b, v)
 }
 
-/// These registers once more. The error is want of memory.
+/// These registers once more.
 fn registers(
     alloc: Global,
     mode: &Bits,

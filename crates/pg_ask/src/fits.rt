@@ -36,7 +36,7 @@ pub fn bit_0(bits: &Bits) -> Gate
     bits.as_slice()[0]
 }
 
-/// How many cells are usable: min(b, max(0, n - l)). The error is want of memory.
+/// How many cells are usable: min(b, max(0, n - l)).
 fn usable(
     alloc: Global,
     circuit: &mut Circuit,
@@ -58,7 +58,7 @@ fn usable(
     ops::mux(alloc, circuit, bit_0(&less), b, &cells)
 }
 
-/// A gate, and that a size is 2 to q. The error is want of memory.
+/// A gate, and that a size is 2 to q.
 fn size(
     alloc: Global,
     circuit: &mut Circuit,
@@ -80,7 +80,7 @@ fn size(
     and(circuit, enough, circuit.not(bit_0(&many)))
 }
 
-/// A gate, and that two strings of one width are the same. The error is want of memory.
+/// A gate, and that two strings of one width are the same.
 pub fn alike(circuit: &mut Circuit, so_far: Gate, x: &Bits, y: &Bits) -> Result<Gate, AllocError>
     requires so_far { IsThere (length circuit.old.nodes) so_far }
     requires x { AreBits (length circuit.old.nodes) (length y.now) x.now }
@@ -92,7 +92,7 @@ pub fn alike(circuit: &mut Circuit, so_far: Gate, x: &Bits, y: &Bits) -> Result<
     and(circuit, so_far, together)
 }
 
-/// A gate, and that two strings of one width differ. The error is want of memory.
+/// A gate, and that two strings of one width differ.
 fn differ(circuit: &mut Circuit, so_far: Gate, x: &Bits, y: &Bits) -> Result<Gate, AllocError>
     requires so_far { IsThere (length circuit.old.nodes) so_far }
     requires x { AreBits (length circuit.old.nodes) (length y.now) x.now }
@@ -104,7 +104,7 @@ fn differ(circuit: &mut Circuit, so_far: Gate, x: &Bits, y: &Bits) -> Result<Gat
     and(circuit, so_far, circuit.not(alike))
 }
 
-/// A gate, and that what the kind makes differ does. The error is want of memory.
+/// A gate, and that what the kind makes differ does.
 fn apart(circuit: &mut Circuit, kind: Kind, so_far: Gate, u: &Unknowns) -> Result<Gate, AllocError>
     requires so_far { IsThere (length circuit.old.nodes) so_far }
     requires unknowns { AreUnknowns (length circuit.old.nodes) (length u.now.p) u.now }
@@ -118,7 +118,7 @@ fn apart(circuit: &mut Circuit, kind: Kind, so_far: Gate, u: &Unknowns) -> Resul
     }
 }
 
-/// A gate, and that a bit of the word is as its place in the pattern wants it. The error is want of memory.
+/// A gate, and that a bit of the word is as its place in the pattern wants it.
 fn place(circuit: &mut Circuit, so_far: Gate, byte: u8, bit: Gate) -> Result<Gate, AllocError>
     requires so_far { IsThere (length circuit.old.nodes) so_far }
     requires bit { IsThere (length circuit.old.nodes) bit }
@@ -132,8 +132,7 @@ fn place(circuit: &mut Circuit, so_far: Gate, byte: u8, bit: Gate) -> Result<Gat
     }
 }
 
-/// A gate, and that the pattern, which has a place for each bit and lists them from the highest, matches the word. The error
-/// is want of memory.
+/// A gate, and that the pattern, which has a place for each bit and lists them from the highest, matches the word.
 fn matches(
     circuit: &mut Circuit,
     so_far: Gate,
@@ -152,9 +151,8 @@ fn matches(
     Ok(gate)
 }
 
-/// The number of usable cells, and whether all of it fits: both sizes are sizes of the machine, both states have as many usable
-/// cells, P is usable, the registers differ as the kind asks, and the word at P matches the instruction's pattern. The error
-/// is want of memory.
+/// The number of usable cells, and whether all of it fits: both sizes are sizes of the machine, both states have as many usable cells, P is
+/// usable, the registers differ as the kind asks, and the word at P matches the instruction's pattern.
 pub fn fit(
     alloc: Global,
     circuit: &mut Circuit,

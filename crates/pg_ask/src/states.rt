@@ -50,7 +50,7 @@ fn address(assignment: &[bool], bits: &Bits) -> u32
     number(assignment, bits) as u32
 }
 
-/// The words of the touched cells, each beside its address. The error is want of memory.
+/// The words of the touched cells, each beside its address.
 fn named(alloc: Global, assignment: &[bool], cells: &[Cell]) -> Result<Vec<(u32, u64)>, AllocError>
     requires { All (λ c. length c.address ≤ 32) cells.now }
     ensures { IfOk result (λ v. v.items ≡ named_cells assignment.now cells.now) }
@@ -90,9 +90,8 @@ fn psw(assignment: &[bool], bit: &Bits, p: &Bits, l: &Bits, b: &Bits) -> Psw
     }
 }
 
-/// The two states that an assignment stands for which makes all clauses of a question true: they show the kind of the
-/// instruction. The assignment has a value for each variable in order, and variables past its end are false. In cells that no
-/// run touches there is zero. The error is want of memory.
+/// The two states that an assignment stands for which makes all clauses of a question true: they show the kind of the instruction. The
+/// assignment has a value for each variable in order, and variables past its end are false. In cells that no run touches there is zero.
 pub fn states_of(
     alloc: Global,
     asked: &Asked<'_>,

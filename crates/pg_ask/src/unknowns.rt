@@ -41,7 +41,7 @@ pub struct Unknowns {
     pub compared: Bits,
 }
 
-/// The unknowns of a kind, over addresses of so many bits. The error is want of memory.
+/// The unknowns of a kind, over addresses of so many bits.
 pub fn unknowns_of(
     alloc: Global,
     circuit: &mut Circuit,
@@ -77,7 +77,7 @@ pub fn unknowns_of(
     })
 }
 
-/// A string of new inputs. The error is want of memory.
+/// A string of new inputs.
 fn string(alloc: Global, circuit: &mut Circuit, width: u32) -> Result<Bits, AllocError>
     requires { IsWidth width }
     ensures made { IfOk result (λ bits. (bits, circuit.new.nodes) ≡ inputs_made circuit.old.nodes width) }
@@ -87,7 +87,7 @@ fn string(alloc: Global, circuit: &mut Circuit, width: u32) -> Result<Bits, Allo
     Ok(Bits::from_vec(gates))
 }
 
-/// The modes of both states: supervisor and user, the same input, or user. The error is want of memory.
+/// The modes of both states: supervisor and user, the same input, or user.
 fn modes(alloc: Global, circuit: &mut Circuit, kind: Kind) -> Result<(Bits, Bits), AllocError>
     ensures made { IfOk result (λ modes. (modes, circuit.new.nodes) ≡ modes_made kind circuit.old.nodes) }
     ensures first { IfOk result (λ modes. LeavesBits circuit.old.nodes circuit.new.nodes 1 modes.0) }
@@ -112,7 +112,7 @@ fn modes(alloc: Global, circuit: &mut Circuit, kind: Kind) -> Result<(Bits, Bits
     }
 }
 
-/// A constant bit. The error is want of memory.
+/// A constant bit.
 fn bit(alloc: Global, circuit: &Circuit, value: bool) -> Result<Bits, AllocError>
     ensures bit { IfOk result (λ bits. bits ≡ constant_gate value ∷ []) }
     ensures there { IfOk result (λ bits. AreBits (length circuit.now.nodes) 1 bits) }
@@ -120,7 +120,7 @@ fn bit(alloc: Global, circuit: &Circuit, value: bool) -> Result<Bits, AllocError
     Bits::from_slice(alloc, &[circuit.constant(value)])
 }
 
-/// What the second state has in the place of a string: inputs of its own, or the same gates. The error is want of memory.
+/// What the second state has in the place of a string: inputs of its own, or the same gates.
 fn other(alloc: Global, circuit: &mut Circuit, own: bool, same: &Bits) -> Result<Bits, AllocError>
     requires { AreBits (length circuit.old.nodes) (length same.now) same.now }
     ensures made { IfOk result (λ bits. (bits, circuit.new.nodes) ≡ other_made own (length same.now) circuit.old.nodes same.now) }

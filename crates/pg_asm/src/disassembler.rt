@@ -14,7 +14,7 @@ use pg_mach_ready::Machine;
 use pg_text::{dec, hex_word};
 use std::alloc::{AllocError, Global};
 
-/// Puts bytes at the end of a text. Here and below the error is want of memory.
+/// Puts bytes at the end of a text. Here and below the error is out of memory.
 fn put(text: &mut Vec<u8>, bytes: &[u8]) -> Result<(), AllocError>
     ensures { OnOk result (text.new.items ≡ text.old.items ++ bytes.now) }
 {
@@ -111,7 +111,7 @@ fn put_cell(text: &mut Vec<u8>, machine: &Machine, at: usize, cell: u64) -> Resu
 
 /// A source that gives an image: for each cell that is not zero, in order, the line `@ADDR` and the line of its word.
 ///
-/// The image has at most as many words as the greatest size of the machine, and each fits. The error is want of memory.
+/// The image has at most as many words as the greatest size of the machine, and each fits.
 #[tactic(auto, unfolding(crate::specs::Texts::source_text))]
 pub fn disassemble(alloc: Global, machine: &Machine, image: &Image) -> Result<Vec<u8>, AllocError>
     requires most { length image.now ≤ machine.now.desc.size }

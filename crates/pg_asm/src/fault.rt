@@ -9,7 +9,7 @@ ghost use Rattle.pg_asm.specs.declared.fault.AsmFault.TheVariants.{Memory};
 use std::alloc::AllocError;
 use thiserror::Error;
 
-/// Why the text of a source gave no image: its first fault, or want of memory. Lines are numbered from 1.
+/// Why the text of a source gave no image: its first fault, or out of memory. Lines are numbered from 1.
 ///
 /// `Long`, `Token` and `Grammar` come before the others, in this order, wherever they stand in the text. Of the others the
 /// first line at fault is told, and on one line they come in their order here.

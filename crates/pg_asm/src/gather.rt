@@ -32,7 +32,7 @@ pub fn place_behind(line: &Line, place: usize) -> usize
     }
 }
 
-/// Adds the label of line `n`, if it gives one. The error is want of memory.
+/// Adds the label of line `n`, if it gives one.
 fn add_line(
     alloc: Global,
     n: usize,

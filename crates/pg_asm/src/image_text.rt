@@ -11,7 +11,7 @@ use pg_mach_ready::Machine;
 use pg_word::Shape;
 use std::alloc::{AllocError, Global};
 
-/// Puts the line of a cell, unless the cell is zero. The error is want of memory.
+/// Puts the line of a cell, unless the cell is zero.
 fn put_cell(text: &mut Vec<u8>, shape: &Shape, at: u32, cell: u64) -> Result<(), AllocError>
     requires shape { IsShape shape.now }
     requires fits { cell < 2 ^ shape.now.w }
@@ -25,7 +25,7 @@ fn put_cell(text: &mut Vec<u8>, shape: &Shape, at: u32, cell: u64) -> Result<(),
 
 /// The text of an image: for each cell that is not zero, in order, the line `ADDR: WORD`.
 ///
-/// The image has at most as many words as the greatest size of the machine, and each fits. The error is want of memory.
+/// The image has at most as many words as the greatest size of the machine, and each fits.
 #[tactic(auto, unfolding(crate::specs::Texts::asm_text))]
 pub fn listing(alloc: Global, machine: &Machine, image: &Image) -> Result<Vec<u8>, AllocError>
     requires most { length image.now ≤ machine.now.desc.size }

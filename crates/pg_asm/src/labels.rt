@@ -47,7 +47,7 @@ impl LabelTable {
         }
     }
 
-    /// A label more, of line `n`, for a place, unless an earlier line gave it. The error is want of memory.
+    /// A label more, of line `n`, for a place, unless an earlier line gave it.
     pub fn give(
         &mut self,
         alloc: Global,

@@ -95,7 +95,7 @@ fn word_by(pattern: &[u8], values: &[u64]) -> u64
     word
 }
 
-/// The values of a word's fields. The error is want of memory.
+/// The values of a word's fields.
 fn values_in(alloc: Global, pattern: &[u8], word: u64) -> Result<ValueList, AllocError>
     requires { length pattern.now ≤ 64 }
     ensures { IfOk result (λ values. values ≡ values_in pattern.now word) }
@@ -120,8 +120,8 @@ pub fn word_of(machine: &Machine, number: usize, values: &[u64]) -> u64
     word_by(pattern_of(machine, number), values)
 }
 
-/// The number of the instruction whose pattern matches a word, and the values of its fields, from the highest. `None` where no
-/// pattern matches it. The error is want of memory.
+/// The number of the instruction whose pattern matches a word, and the values of its fields, from the highest. `None` where no pattern
+/// matches it.
 pub fn decode(
     alloc: Global,
     machine: &Machine,

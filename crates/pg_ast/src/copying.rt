@@ -2,7 +2,7 @@
 //!
 //! A copy is the same description once more, in storage of its own: equal trees are the same description. Each type of the
 //! tree has a function here, as `Boxed` and `Items` have no copies of their own. A body keeps the limits on levels, so the
-//! walk over it recurses no deeper. The error of each is want of memory.
+//! walk over it recurses no deeper. The error of each is out of memory.
 
 ghost use Rattle.std.specs.Prelude.{◌≡◌, IfOk};
 
@@ -15,7 +15,7 @@ impl Desc {
     /// The same description once more. Time and memory are linear in its size.
     ///
     /// # Errors
-    /// Only for want of memory.
+    /// Only for lack of memory.
     pub fn copied(&self, alloc: Global) -> Result<Desc, AllocError>
         ensures { IfOk result (λ copy. copy ≡ self.now) }
     {

@@ -18,7 +18,7 @@ use pg_vec::compare;
 use pg_vec::gate::and;
 use std::alloc::AllocError;
 
-/// A gate, and that two words are the same where the gate `at` is true. The error is want of memory.
+/// A gate, and that two words are the same where the gate `at` is true.
 fn alike(
     circuit: &mut Circuit,
     so_far: Gate,
@@ -42,7 +42,7 @@ fn alike(
     and(circuit, so_far, fine)
 }
 
-/// A gate, and that two cells agree. The error is want of memory.
+/// A gate, and that two cells agree.
 fn agree(circuit: &mut Circuit, so_far: Gate, c: &Cell, d: &Cell) -> Result<Gate, AllocError>
     requires so_far { so_far.number < length circuit.old.nodes }
     requires left { IsWhole (length circuit.old.nodes) (length c.now.word) (length c.now.address) c.now }
@@ -60,7 +60,7 @@ fn agree(circuit: &mut Circuit, so_far: Gate, c: &Cell, d: &Cell) -> Result<Gate
     }
 }
 
-/// A gate, and that a cell agrees with each of some others. The error is want of memory.
+/// A gate, and that a cell agrees with each of some others.
 pub fn agree_with_all(
     circuit: &mut Circuit,
     so_far: Gate,

@@ -19,7 +19,7 @@ use pg_vec::compare;
 use pg_vec::gate::and;
 use std::alloc::{AllocError, Global};
 
-/// Whether a write is done, and at this address. The error is want of memory.
+/// Whether a write is done, and at this address.
 fn hit(circuit: &mut Circuit, address: &[Gate], write: &Write) -> Result<Gate, AllocError>
     requires there { AreThere (length circuit.old.nodes) address.now }
     requires guard { write.now.guard.number < length circuit.old.nodes }
@@ -33,7 +33,7 @@ fn hit(circuit: &mut Circuit, address: &[Gate], write: &Write) -> Result<Gate, A
     and(circuit, write.guard, same)
 }
 
-/// A word after one more write. The error is want of memory.
+/// A word after one more write.
 fn over(
     alloc: Global,
     circuit: &mut Circuit,
@@ -53,7 +53,7 @@ fn over(
     choose_string(alloc, circuit, hit, write.value.as_slice(), word)
 }
 
-/// The writes laid over a word, from the oldest to the newest. The error is want of memory.
+/// The writes laid over a word, from the oldest to the newest.
 pub fn lay(
     alloc: Global,
     circuit: &mut Circuit,

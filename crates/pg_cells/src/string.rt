@@ -12,7 +12,7 @@ use pg_circuit::{Circuit, Gate};
 use pg_vec::gate::choose;
 use std::alloc::{AllocError, Global};
 
-/// `x` where the choice is true, else `y`: two strings of the same width. The error is want of memory.
+/// `x` where the choice is true, else `y`: two strings of the same width.
 pub fn choose_string(
     alloc: Global,
     circuit: &mut Circuit,

@@ -97,7 +97,7 @@ impl Touched {
     }
 
     /// The word at an address of `a` bits, after the writes that stand. Where no cell has the address, gate for gate, a new
-    /// one is named, with `w` new inputs as its word. The error is want of memory: cells and writes stay, and the circuit
+    /// one is named, with `w` new inputs as its word. The error is out of memory: cells and writes stay, and the circuit
     /// may hold further gates. The search is linear in the cells, what is built in the writes: while at most 72 stand, as many as
     /// 64 and what an instruction may write, at most 2^15 nodes are added (`few`).
     pub fn touch(&mut self, circuit: &mut Circuit, address: &Bits) -> Result<Bits, AllocError>
@@ -121,7 +121,7 @@ impl Touched {
         }
     }
 
-    /// The word at the address of a cell that was touched. The error is want of memory.
+    /// The word at the address of a cell that was touched.
     fn touch_again(
         &self,
         circuit: &mut Circuit,
@@ -147,7 +147,7 @@ impl Touched {
         Ok(Bits::from_vec(word))
     }
 
-    /// The word at an address that no cell has, which gets one. The error is want of memory, and the cells stay.
+    /// The word at an address that no cell has, which gets one. The error is out of memory, and the cells stay.
     fn touch_first(&mut self, circuit: &mut Circuit, address: &Bits) -> Result<Bits, AllocError>
         requires over { IsOver circuit.old.nodes self.old }
         requires there { AreThere (length circuit.old.nodes) address.now }
@@ -176,7 +176,7 @@ impl Touched {
     }
 
     /// A write that stands from here on: where the guard is true, the value, of `w` bits, is put at the address, of `a`. It
-    /// names no cell and makes no gate; the circuit is the one whose gates these are. The error is want of memory: cells
+    /// names no cell and makes no gate; the circuit is the one whose gates these are. The error is out of memory: cells
     /// and writes stay.
     pub fn write(
         &mut self,
@@ -214,7 +214,7 @@ impl Touched {
     }
 
     /// The gate that cells of equal addresses have equal words, of all pairs of cells. Ask for it after the last touch: cells
-    /// that are touched later are not compared. The error is want of memory, and the circuit may hold further gates. What is
+    /// that are touched later are not compared. The error is out of memory, and the circuit may hold further gates. What is
     /// built is quadratic in the cells; a pair whose addresses are equal for no values costs their comparison alone.
     pub fn consistent(&self, circuit: &mut Circuit) -> Result<Gate, AllocError>
         requires { IsOver circuit.old.nodes self.now }

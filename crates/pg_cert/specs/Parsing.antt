@@ -56,7 +56,7 @@ said_of_read shape bytes (Some line) = (if is_line shape line && bytes_eq bytes 
 unfoldable pub said : Shape → List ℕ → Said
 said shape bytes = (if list_any is_foreign (before_end bytes) then NoToken else said_of_read shape bytes (read_parts shape.w (parts_of bytes)))
 
--- what is answered of bytes: what they say. Want of memory says nothing
+-- what is answered of bytes: what they say. Lack of memory says nothing
 abbrev pub IsAnswer : Said → Result Line LineFault → Type 0
 IsAnswer s (Ok line) = s ≡ Says line
 IsAnswer s (Err fault.Token) = s ≡ NoToken

@@ -19,7 +19,7 @@ use pg_word::Shape;
 use std::alloc::{AllocError, Global};
 use thiserror::Error;
 
-/// Why bytes are no line of a certificate, or want of memory.
+/// Why bytes are no line of a certificate, or out of memory.
 #[derive(Clone, Copy, Debug, PartialEq, Eq, Error)]
 pub enum LineFault {
     /// A byte before the LF is none of those from hexadecimal 20 to 7e.
@@ -124,7 +124,7 @@ fn fault_of(bytes: &[u8], parts: &Parts<'_>) -> LineFault
     LineFault::Grammar
 }
 
-/// Whether a line is in range and these bytes are its text. The error is want of memory.
+/// Whether a line is in range and these bytes are its text.
 fn is_spelled(alloc: Global, shape: &Shape, line: &Line, bytes: &[u8]) -> Result<bool, AllocError>
     requires { IsShape shape.now }
     ensures { IfOk result (λ is. is ≡ (is_line shape.now line.now && bytes_eq bytes.now (line_text shape.now line.now))) }

@@ -8,7 +8,7 @@ ghost use Rattle.std.specs.List.{slice_split};
 use std::alloc::{AllocError, Global};
 use std::marker::Model;
 
-/// What stands between the spaces of a line. The error is want of memory.
+/// What stands between the spaces of a line.
 fn pieces(alloc: Global, line: &[u8]) -> Result<Vec<&[u8]>, AllocError>
     ensures { IfOk result (λ pieces. map (λ p. p.now) pieces.items ≡ slice_split (λ c. c == 32) line.now) }
 {
@@ -30,7 +30,7 @@ impl<'a> Model for Parts<'a> {
 }
 
 impl<'a> Parts<'a> {
-    /// The parts of a line. The error is want of memory.
+    /// The parts of a line.
     pub fn cut(alloc: Global, line: &'a [u8]) -> Result<Parts<'a>, AllocError>
         ensures { IfOk result (λ parts. parts ≡ slice_split (λ c. c == 32) line.now) }
     {

@@ -113,7 +113,7 @@ fn heading_bytes(heading: Heading) -> &'static [u8]
     }
 }
 
-/// Puts the first line of a certificate. The error is want of memory.
+/// Puts the first line of a certificate.
 pub fn put_first(heading: Heading, into: &mut Vec<u8>) -> Result<(), AllocError>
     ensures { OnOk result (into.new.items ≡ into.old.items ++ parts_text (heading_parts heading)) }
 {
@@ -151,7 +151,7 @@ fn put_found(found: Found, into: &mut Vec<u8>) -> Result<(), AllocError>
     }
 }
 
-/// Puts the header of a finding: of the instruction of this name, and this kind. The error is want of memory.
+/// Puts the header of a finding: of the instruction of this name, and this kind.
 pub fn put_header(
     name: &[u8],
     kind: Kind,
@@ -167,7 +167,7 @@ pub fn put_header(
     put_line_end(into)
 }
 
-/// Puts the line of a step. The error is want of memory.
+/// Puts the line of a step.
 pub fn put_step(step: &Step, into: &mut Vec<u8>) -> Result<(), AllocError>
     ensures { OnOk result (into.new.items ≡ into.old.items ++ parts_text (step_parts step.now.lits step.now.hints)) }
 {
@@ -179,7 +179,7 @@ pub fn put_step(step: &Step, into: &mut Vec<u8>) -> Result<(), AllocError>
     put_line_end(into)
 }
 
-/// Puts the line that takes clauses away. The error is want of memory.
+/// Puts the line that takes clauses away.
 pub fn put_removal(numbers: &[u32], into: &mut Vec<u8>) -> Result<(), AllocError>
     ensures { OnOk result (into.new.items ≡ into.old.items ++ parts_text (removal_parts numbers.now)) }
 {
@@ -189,7 +189,7 @@ pub fn put_removal(numbers: &[u32], into: &mut Vec<u8>) -> Result<(), AllocError
     put_line_end(into)
 }
 
-/// Puts the line of a size. The error is want of memory.
+/// Puts the line of a size.
 pub fn put_size(size: u32, into: &mut Vec<u8>) -> Result<(), AllocError>
     ensures { OnOk result (into.new.items ≡ into.old.items ++ parts_text (size_parts size)) }
 {
@@ -208,7 +208,7 @@ fn mode_letter(mode: Mode) -> &'static [u8; 1]
     }
 }
 
-/// Puts the line of a program status word. The error is want of memory.
+/// Puts the line of a program status word.
 pub fn put_psw(psw: &Psw, into: &mut Vec<u8>) -> Result<(), AllocError>
     ensures { OnOk result (into.new.items ≡ into.old.items ++ parts_text (psw_parts psw.now)) }
 {
@@ -220,7 +220,7 @@ pub fn put_psw(psw: &Psw, into: &mut Vec<u8>) -> Result<(), AllocError>
     put_line_end(into)
 }
 
-/// Puts the line of cells: these words of `w` bits from the cell `first` on. The error is want of memory.
+/// Puts the line of cells: these words of `w` bits from the cell `first` on.
 pub fn put_cells(w: u32, first: u32, words: &[u64], into: &mut Vec<u8>) -> Result<(), AllocError>
     requires bytes { w % 8 ≡ 0 }
     requires least { 16 ≤ w }
@@ -234,15 +234,14 @@ pub fn put_cells(w: u32, first: u32, words: &[u64], into: &mut Vec<u8>) -> Resul
     put_line_end(into)
 }
 
-/// Puts the last line of a certificate. The error is want of memory.
+/// Puts the last line of a certificate.
 pub fn put_end(into: &mut Vec<u8>) -> Result<(), AllocError>
     ensures { OnOk result (into.new.items ≡ into.old.items ++ parts_text end_parts) }
 {
     put(b"end\n", into)
 }
 
-/// Puts a line of a machine of this shape, whose words of cells have as many bits as the shape says. The error is want of
-/// memory.
+/// Puts a line of a machine of this shape, whose words of cells have as many bits as the shape says.
 #[tactic(auto, unfolding(crate::specs::Lines::line_text, crate::specs::Lines::line_parts))]
 pub fn put_line(shape: &Shape, line: &Line, into: &mut Vec<u8>) -> Result<(), AllocError>
     requires shape { IsShape shape.now }

@@ -67,7 +67,7 @@ pub fn literal(part: &[u8]) -> Option<i32>
     }
 }
 
-/// The numbers of the parts from a place on, up to a 0, which is the last part. The error is want of memory.
+/// The numbers of the parts from a place on, up to a 0, which is the last part.
 pub fn numbers(
     alloc: Global,
     parts: &Parts<'_>,
@@ -93,7 +93,7 @@ pub fn numbers(
     Ok(None)
 }
 
-/// The words of the parts from a place on. The error is want of memory.
+/// The words of the parts from a place on.
 pub fn words(
     alloc: Global,
     w: u32,
@@ -201,7 +201,7 @@ fn is_zero(lit: &i32) -> bool
     *lit == 0
 }
 
-/// The literals of the parts from a place on, up to a 0, and the place behind that. The error is want of memory.
+/// The literals of the parts from a place on, up to a 0, and the place behind that.
 pub fn lits(
     alloc: Global,
     parts: &Parts<'_>,
@@ -224,7 +224,7 @@ pub fn lits(
     Ok(None)
 }
 
-/// The line of a step. The error is want of memory.
+/// The line of a step.
 pub fn step(alloc: Global, parts: &Parts<'_>) -> Result<Option<Line>, AllocError>
     ensures { IfOk result (λ line. line ≡ read_step parts.now) }
 {
@@ -237,7 +237,7 @@ pub fn step(alloc: Global, parts: &Parts<'_>) -> Result<Option<Line>, AllocError
     }
 }
 
-/// The line that takes clauses away. The error is want of memory.
+/// The line that takes clauses away.
 pub fn removal(alloc: Global, parts: &Parts<'_>) -> Result<Option<Line>, AllocError>
     ensures { IfOk result (λ line. line ≡ then_read (read_numbers (drop 1 parts.now)) (λ numbers. Some (Remove numbers))) }
 {
@@ -247,7 +247,7 @@ pub fn removal(alloc: Global, parts: &Parts<'_>) -> Result<Option<Line>, AllocEr
     }
 }
 
-/// The header of a finding. The error is want of memory.
+/// The header of a finding.
 pub fn header(alloc: Global, parts: &Parts<'_>) -> Result<Option<Line>, AllocError>
     ensures { IfOk result (λ line. line ≡ read_header parts.now) }
 {
@@ -313,7 +313,7 @@ pub fn but_last(part: &[u8]) -> &[u8]
     &part[..part.len() - 1]
 }
 
-/// The line of cells. The error is want of memory.
+/// The line of cells.
 pub fn cells(alloc: Global, w: u32, parts: &Parts<'_>) -> Result<Option<Line>, AllocError>
     requires bytes { w % 8 ≡ 0 }
     requires most { w ≤ 64 }
@@ -328,8 +328,7 @@ pub fn cells(alloc: Global, w: u32, parts: &Parts<'_>) -> Result<Option<Line>, A
     }
 }
 
-/// What the parts of a line are read as, for words of `w` bits: the line whose parts they are, where there is one. The error
-/// is want of memory.
+/// What the parts of a line are read as, for words of `w` bits: the line whose parts they are, where there is one.
 #[tactic(auto, unfolding(crate::specs::Reading::read_parts))]
 pub fn line_of(alloc: Global, w: u32, parts: &Parts<'_>) -> Result<Option<Line>, AllocError>
     requires bytes { w % 8 ≡ 0 }

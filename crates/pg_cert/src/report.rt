@@ -45,7 +45,7 @@ pub enum Verdict {
     Unsettled(usize, Kind),
 }
 
-/// The same state once more. The error is want of memory.
+/// The same state once more.
 fn copied(alloc: Global, state: &Sparse) -> Result<Sparse, AllocError>
     ensures { IfOk result (λ copy. copy ≡ state.now) }
 {
@@ -53,7 +53,7 @@ fn copied(alloc: Global, state: &Sparse) -> Result<Sparse, AllocError>
     Ok(Sparse::new(state.size, state.psw, CellList::from_vec(cells)))
 }
 
-/// The mark of a finding. The error is want of memory.
+/// The mark of a finding.
 fn mark_of(alloc: Global, finding: &Finding) -> Result<Mark, AllocError>
     ensures { IfOk result (λ mark. mark ≡ mark_of finding.now) }
 {
@@ -67,8 +67,7 @@ fn mark_of(alloc: Global, finding: &Finding) -> Result<Mark, AllocError>
     }
 }
 
-/// The report of a certificate: each finding's mark, in order. It costs the number of findings and the length of their
-/// states. The error is want of memory.
+/// The report of a certificate: each finding's mark, in order. It costs the number of findings and the length of their states.
 pub fn report_of(alloc: Global, cert: &Cert) -> Result<Report, AllocError>
     ensures family { IfOk result (λ report. report.family ≡ cert.now.family) }
     ensures marks { IfOk result (λ report. report.marks ≡ map mark_of cert.now.findings) }

@@ -82,7 +82,7 @@ fn put_rows(
 
 /// Puts the lines of a state: its size, its program status word, and the rows that are not all zero.
 ///
-/// It costs the number of listed cells. Each word fits a word of the machine. The error is want of memory.
+/// It costs the number of listed cells. Each word fits a word of the machine.
 pub fn put_state(shape: &Shape, state: &Sparse, into: &mut Vec<u8>) -> Result<(), AllocError>
     requires shape { IsShape shape.now }
     requires fit { DoStateWordsFit shape.now.w state.now }
@@ -133,8 +133,7 @@ fn found_of(finding: &Finding) -> Found
     }
 }
 
-/// Puts the lines of the finding of an instruction of this name and this kind. Each word of its states fits a word of the
-/// machine. The error is want of memory.
+/// Puts the lines of the finding of an instruction of this name and this kind. Each word of its states fits a word of the machine.
 #[tactic(auto, unfolding(crate::specs::Texts::lines_text, crate::specs::Lines::line_text, crate::specs::Lines::line_parts))]
 pub fn put_finding(
     shape: &Shape,
@@ -195,10 +194,10 @@ fn heading_of(family: Family) -> Heading
     }
 }
 
-/// The text of a certificate of a machine, which has one finding for each of its instructions and each kind of the family.
-/// Each word of a state that is shown fits a word of the machine.
+/// The text of a certificate of a machine, which has one finding for each of its instructions and each kind of the family. Each word of a
+/// state that is shown fits a word of the machine.
 ///
-/// It costs the length of the text. The error is want of memory.
+/// It costs the length of the text.
 #[tactic(auto, unfolding(crate::specs::Texts::cert_lines))]
 pub fn write(alloc: Global, machine: &Machine, cert: &Cert) -> Result<Vec<u8>, AllocError>
     requires whole { length cert.now.findings ≡ length machine.now.desc.instrs * kind_count cert.now.family }

@@ -41,7 +41,7 @@ fn row_fits(state: &Sparse, first: u32, words: &[u64]) -> bool
     words.len() == LINE_CELLS.min(state.size.saturating_sub(first) as usize)
 }
 
-/// A word behind the cells of a state, unless it is zero. The error is want of memory.
+/// A word behind the cells of a state, unless it is zero.
 fn push_word(state: &mut Sparse, at: u32, word: u64) -> Result<(), AllocError>
     requires below { All (λ cell. cell.0 < at) state.old.cells }
     requires within { at < state.old.size }
@@ -55,7 +55,7 @@ fn push_word(state: &mut Sparse, at: u32, word: u64) -> Result<(), AllocError>
     state.push(at, word)
 }
 
-/// The cells of a row that are not zero, behind those of a state. The error is want of memory.
+/// The cells of a row that are not zero, behind those of a state.
 fn push_words(state: &mut Sparse, first: u32, words: &[u64]) -> Result<(), AllocError>
     requires below { All (λ cell. cell.0 < first) state.old.cells }
     requires within { length words.now ≤ state.old.size - first }
@@ -73,11 +73,11 @@ fn push_words(state: &mut Sparse, first: u32, words: &[u64]) -> Result<(), Alloc
     Ok(())
 }
 
-/// A state with a row more, of these words from cell `first` on: `None` where it does not fit, and else the state whose cells
-/// in the row are these words.
+/// A state with a row more, of these words from cell `first` on: `None` where it does not fit, and else the state whose cells in the row
+/// are these words.
 ///
-/// It fits where `first` lies above each cell that is not zero, and the words are as many as the storage has there, `LINE_CELLS`
-/// at most. It costs the number of words. The error is want of memory.
+/// It fits where `first` lies above each cell that is not zero, and the words are as many as the storage has there, `LINE_CELLS` at most.
+/// It costs the number of words.
 pub fn with_row(mut state: Sparse, first: u32, words: &[u64]) -> Result<Option<Sparse>, AllocError>
     ensures { IfOk result (λ next. IsStateDue (with_row first words.now (drawn_of state)) next) }
 {

@@ -22,7 +22,7 @@ fn place_of_lf(bytes: &[u8]) -> Option<usize>
     bytes.iter().position(|byte| *byte == b'\n')
 }
 
-/// An act more of the last log. The error is want of memory.
+/// An act more of the last log.
 fn add(logs: &mut LogList, act: Act) -> Result<(), AllocError>
     ensures { OnOk result (logs.new ≡ with_act logs.old act) }
 {
@@ -36,7 +36,7 @@ fn add(logs: &mut LogList, act: Act) -> Result<(), AllocError>
     }
 }
 
-/// What a line does to the logs above it. The error is want of memory.
+/// What a line does to the logs above it.
 fn take_form(alloc: Global, line: Line, logs: &mut LogList) -> Result<(), AllocError>
     ensures { OnOk result (logs.new ≡ with_line logs.old line) }
 {
@@ -52,7 +52,7 @@ fn take_form(alloc: Global, line: Line, logs: &mut LogList) -> Result<(), AllocE
     }
 }
 
-/// What bytes do that may be a line: where they say nothing, nothing. The error is want of memory.
+/// What bytes do that may be a line: where they say nothing, nothing.
 fn take_line(
     alloc: Global,
     shape: &Shape,
@@ -71,7 +71,7 @@ fn take_line(
     }
 }
 
-/// The logs of a text, one below each header. It costs the length of the bytes. The error is want of memory.
+/// The logs of a text, one below each header. It costs the length of the bytes.
 pub fn logs_of(alloc: Global, shape: &Shape, bytes: &[u8]) -> Result<LogList, AllocError>
     requires { IsShape shape.now }
     ensures { IfOk result (AreLogsOf shape.now bytes.now) }

@@ -17,7 +17,7 @@ use pg_type::Kind;
 use pg_word::{CellList, Sparse};
 use std::alloc::{AllocError, Global};
 
-/// The same state once more. The error is want of memory.
+/// The same state once more.
 fn copied(alloc: Global, state: &Sparse) -> Result<Sparse, AllocError>
     ensures { IfOk result (λ copy. copy ≡ state.now) }
 {
@@ -25,7 +25,7 @@ fn copied(alloc: Global, state: &Sparse) -> Result<Sparse, AllocError>
     Ok(Sparse::new(state.size, state.psw, CellList::from_vec(cells)))
 }
 
-/// The steps of a log. The error is want of memory.
+/// The steps of a log.
 fn steps_of(alloc: Global, log: ActList) -> Result<StepList, AllocError>
     ensures { IfOk result (λ steps. steps ≡ steps_of log) }
 {
@@ -41,21 +41,21 @@ fn steps_of(alloc: Global, log: ActList) -> Result<StepList, AllocError>
     Ok(StepList::from_vec(steps))
 }
 
-/// The two states that show a kind, as they are. The error is want of memory.
+/// The two states that show a kind, as they are.
 fn shown(alloc: Global, first: &Sparse, second: &Sparse) -> Result<Finding, AllocError>
     ensures { IfOk result (λ f. f ≡ finding.Shown first.now second.now) }
 {
     Ok(Finding::Shown(copied(alloc, first)?, copied(alloc, second)?))
 }
 
-/// The log that spends a budget, as it is. The error is want of memory.
+/// The log that spends a budget, as it is.
 fn spent(alloc: Global, budget: u32, log: ActList) -> Result<Finding, AllocError>
     ensures { IfOk result (λ f. f ≡ finding.Spent budget (steps_of log)) }
 {
     Ok(Finding::Spent(budget, steps_of(alloc, log)?))
 }
 
-/// The log that refutes the question of an instruction and a kind, trimmed. The error is want of memory.
+/// The log that refutes the question of an instruction and a kind, trimmed.
 fn refuted(
     alloc: Global,
     machine: &Machine,
@@ -73,8 +73,8 @@ fn refuted(
     Ok(Finding::Refuted(acts))
 }
 
-/// What becomes of the finding of an instruction, of a number below `count()`, and a kind, of which the mark and the log are
-/// there. Where it refutes the question, its log is closed. The error is want of memory.
+/// What becomes of the finding of an instruction, of a number below `count()`, and a kind, of which the mark and the log are there. Where
+/// it refutes the question, its log is closed.
 pub fn finding(
     alloc: Global,
     machine: &Machine,

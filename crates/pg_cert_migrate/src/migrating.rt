@@ -26,7 +26,7 @@ pub struct Migrated {
     pub cert: Cert,
 }
 
-/// What becomes of all findings of a family, in order, of which the marks and the logs are there. The error is want of memory.
+/// What becomes of all findings of a family, in order, of which the marks and the logs are there.
 fn findings(
     alloc: Global,
     machine: &Machine,
@@ -49,7 +49,7 @@ fn findings(
     Ok(FindingList::from_vec(made))
 }
 
-/// The certificate of a text of a family that was taken, with this report, made anew. The error is want of memory.
+/// The certificate of a text of a family that was taken, with this report, made anew.
 pub fn made_anew(
     alloc: Global,
     machine: &Machine,

@@ -11,13 +11,13 @@ use pg_replay::replay;
 use pg_word::{Sparse, window_len};
 use std::alloc::{AllocError, Global};
 
-/// The state of these numbers with these words in its window, and zeros elsewhere. The error is want of memory.
+/// The state of these numbers with these words in its window, and zeros elsewhere.
 fn state(alloc: Global, cells: &[(u32, u64)], extent: Extent) -> Result<Sparse, AllocError> {
     let usable = window_len(extent.psw, extent.size);
     placed(alloc, cells, usable, extent.size, extent.psw)
 }
 
-/// The two states of a change. The error is want of memory.
+/// The two states of a change.
 fn changed(alloc: Global, pair: &Pair, change: &Change) -> Result<Pair, AllocError> {
     let cells = words_after(alloc, &pair.first, change.words)?;
     let first = state(alloc, cells.as_slice(), change.extents.first)?;

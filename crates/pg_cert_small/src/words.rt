@@ -41,7 +41,7 @@ impl Words {
     }
 }
 
-/// The words of the window of a state after a change, beside their addresses. The error is want of memory.
+/// The words of the window of a state after a change, beside their addresses.
 pub fn words_after(
     alloc: Global,
     state: &Sparse,

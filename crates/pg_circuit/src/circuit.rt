@@ -23,7 +23,7 @@ use crate::value::node_value;
 use std::alloc::{AllocError, Global};
 
 /// Gates over inputs. Each node is there once, and a gate is known by the place of its node. There are fewer than 2^31
-/// nodes: one more is want of memory.
+/// nodes: one more is out of memory.
 #[derive(Drop)]
 pub struct Circuit {
     nodes: NodeTable,
@@ -34,7 +34,7 @@ pub struct Circuit {
 }
 
 impl Circuit {
-    /// A circuit of the constant alone. The error is want of memory.
+    /// A circuit of the constant alone.
     pub fn new(alloc: Global) -> Result<Circuit, AllocError>
         ensures { IfOk result (λ circuit. circuit.nodes ≡ Constant ∷ []) }
     {
@@ -79,7 +79,7 @@ impl Circuit {
         not_gate(x)
     }
 
-    /// One more input, whose number is that of the inputs before it. The error is want of memory, and the circuit stays.
+    /// One more input, whose number is that of the inputs before it. The error is out of memory, and the circuit stays.
     pub fn input(&mut self) -> Result<Gate, AllocError>
         ensures made { IfOk result (λ gate. (gate, self.new.nodes) ≡ input_made self.old.nodes) }
         ensures there { IfOk result (λ gate. gate.number < length self.new.nodes) }
@@ -91,7 +91,7 @@ impl Circuit {
         Ok(gate)
     }
 
-    /// The and of two gates of the circuit. The error is want of memory for a node that was not there, and the circuit
+    /// The and of two gates of the circuit. The error is out of memory for a node that was not there, and the circuit
     /// stays.
     pub fn and(&mut self, x: Gate, y: Gate) -> Result<Gate, AllocError>
         requires left { x.number < length self.old.nodes }
@@ -105,7 +105,7 @@ impl Circuit {
         self.gate_of(and_simplified(x, y), Node::And(x, y))
     }
 
-    /// The exclusive or of two gates of the circuit. The error is want of memory for a node that was not there, and the
+    /// The exclusive or of two gates of the circuit. The error is out of memory for a node that was not there, and the
     /// circuit stays.
     pub fn xor(&mut self, x: Gate, y: Gate) -> Result<Gate, AllocError>
         requires left { x.number < length self.old.nodes }
@@ -120,7 +120,7 @@ impl Circuit {
     }
 
     /// The gate of a node that may follow, or the gate of the circuit that stands for it where there is one. The error is
-    /// want of memory for a node that was not there, and the circuit stays.
+    /// out of memory for a node that was not there, and the circuit stays.
     fn gate_of(&mut self, simplified: Option<Gate>, node: Node) -> Result<Gate, AllocError>
         requires there { IfSome simplified (λ gate. gate.number < length self.old.nodes) }
         requires next { simplified ≡ None → IsNext self.old.nodes node }

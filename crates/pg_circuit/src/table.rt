@@ -59,7 +59,7 @@ impl NodeTable {
         self.nodes.as_slice()
     }
 
-    /// The gate of a node, which is added at the end if it is not there. The error is want of memory, and the nodes stay.
+    /// The gate of a node, which is added at the end if it is not there. The error is out of memory, and the nodes stay.
     pub fn place(&mut self, node: Node) -> Result<Gate, AllocError>
         requires { length self.old < 2 ^ 31 }
         ensures made { IfOk result (λ gate. (gate, self.new) ≡ node_made self.old node) }
@@ -76,7 +76,7 @@ impl NodeTable {
         }
     }
 
-    /// Adds a node at the end, which is not there yet. The error is want of memory, and the nodes stay.
+    /// Adds a node at the end, which is not there yet. The error is out of memory, and the nodes stay.
     pub fn add(&mut self, node: Node) -> Result<Gate, AllocError>
         requires bound { length self.old < 2 ^ 31 }
         requires absent { has_node self.old node ≡ false }

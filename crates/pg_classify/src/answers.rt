@@ -20,7 +20,7 @@ use pg_sat_search::solve_watched;
 use pg_word::Sparse;
 use std::alloc::{AllocError, Global};
 
-/// Steps as a log. The error is want of memory.
+/// Steps as a log.
 fn log_of(alloc: Global, steps: StepList) -> Result<ActList, AllocError>
     ensures { IfOk result (λ log. log ≡ map Add steps) }
 {
@@ -33,7 +33,7 @@ fn log_of(alloc: Global, steps: StepList) -> Result<ActList, AllocError>
     Ok(ActList::from_vec(made))
 }
 
-/// The finding of steps that refute a question: their log, trimmed. The error is want of memory.
+/// The finding of steps that refute a question: their log, trimmed.
 fn refuted(
     alloc: Global,
     asked: &Asked<'_>,
@@ -69,8 +69,7 @@ fn pair(first: Sparse, second: Sparse) -> Finding
     Finding::Shown(first, second)
 }
 
-/// The finding of an assignment that makes all clauses of a question true: the states that it stands for, made small. The error
-/// is want of memory.
+/// The finding of an assignment that makes all clauses of a question true: the states that it stands for, made small.
 fn shown(
     alloc: Global,
     asked: &Asked<'_>,
@@ -92,9 +91,9 @@ fn shown(
     Ok(pair(one, other))
 }
 
-/// What is found of a question within a budget, from 1 to 1,000,000: states that show the kind, where the solver finds an
-/// assignment; a trimmed log, where it refutes the clauses; else the log that spends the budget. The watcher is told at each turn how
-/// far the search has come. The error is want of memory.
+/// What is found of a question within a budget, from 1 to 1,000,000: states that show the kind, where the solver finds an assignment; a
+/// trimmed log, where it refutes the clauses; else the log that spends the budget. The watcher is told at each turn how far the search has
+/// come.
 pub fn found<W: SearchWatcher>(
     alloc: Global,
     asked: &Asked<'_>,

@@ -15,8 +15,7 @@ use pg_sat::{SearchWatcher, Silent};
 use pg_type::Kind;
 use std::alloc::{AllocError, Global};
 
-/// What is found of the question of an instruction, of a number below `count()`, and a kind. Nothing else is kept of the
-/// question. The error is want of memory.
+/// What is found of the question of an instruction, of a number below `count()`, and a kind. Nothing else is kept of the question.
 fn finding<W: SearchWatcher>(
     alloc: Global,
     machine: &Machine,
@@ -34,7 +33,7 @@ fn finding<W: SearchWatcher>(
     found(alloc, &asked, budget, watcher)
 }
 
-/// What is found of each instruction of a machine in order, and each kind of a family in order. The error is want of memory.
+/// What is found of each instruction of a machine in order, and each kind of a family in order.
 fn findings<W: Watcher>(
     alloc: Global,
     machine: &Machine,
@@ -58,17 +57,16 @@ fn findings<W: Watcher>(
     Ok(findings)
 }
 
-/// The certificate of a machine over a family of kinds: one finding for each instruction in order and each kind in order,
-/// for which the solver learns at most `budget` clauses, from 1 to 1,000,000. The watcher is told of each question, and at each turn of
-/// its search how far that has come.
+/// The certificate of a machine over a family of kinds: one finding for each instruction in order and each kind in order, for which the
+/// solver learns at most `budget` clauses, from 1 to 1,000,000. The watcher is told of each question, and at each turn of its search how
+/// far that has come.
 ///
-/// It is valid whatever the solver finds: each finding is a log that refutes its question, trimmed from at most `budget` steps
-/// and the empty clause, two states that show the kind, or a log of as many steps as the budget, each new. Its text can be
-/// written, and is taken where it is within the limit. Nothing that is said of the certificate rests on the watcher, and nothing
-/// is said of when it is told, or of what.
+/// It is valid whatever the solver finds: each finding is a log that refutes its question, trimmed from at most `budget` steps and the
+/// empty clause, two states that show the kind, or a log of as many steps as the budget, each new. Its text can be written, and is taken
+/// where it is within the limit. Nothing that is said of the certificate rests on the watcher, and nothing is said of when it is told, or
+/// of what.
 ///
-/// It costs what its questions cost, one at a time; nothing of a question is kept but its finding. The error is want of
-/// memory.
+/// It costs what its questions cost, one at a time; nothing of a question is kept but its finding.
 pub fn classify_watched<W: Watcher>(
     alloc: Global,
     machine: &Machine,

@@ -13,8 +13,7 @@ const MOST_CELLS: u64 = 1_048_575;
 /// How often options with cells may stand there, all together.
 const MOST_VIEWS: usize = 16;
 
-/// What is wrong with words that a program does not take, its name first, in a line; none where that cannot be said. The error is
-/// want of memory.
+/// What is wrong with words that a program does not take, its name first, in a line; none where that cannot be said.
 pub fn complaint(
     alloc: Global,
     side: Side,
@@ -180,7 +179,7 @@ fn missing(form: &Form, words: &[String], passed: usize) -> Option<&'static str>
         .map(|option| option.shown)
 }
 
-/// A line, and what is wrong. The error is want of memory.
+/// A line, and what is wrong.
 fn told(line: Line, wrong: Wrong<'_>) -> Result<Line, AllocError> {
     match wrong {
         Wrong::Unexpected(word) => line
@@ -217,7 +216,7 @@ fn told(line: Line, wrong: Wrong<'_>) -> Result<Line, AllocError> {
     }
 }
 
-/// A line, and what value is due. The error is want of memory.
+/// A line, and what value is due.
 fn due(line: Line, value: Value) -> Result<Line, AllocError> {
     match value {
         Value::Nothing | Value::File => Ok(line),

@@ -97,7 +97,7 @@ wants_memory (Ok asked) = false
 wants_memory (Err Memory) = true
 wants_memory (Err Refused) = false
 
--- a failure that is no want of memory has a fault
+-- a failure that is not out of memory has a fault
 pub refusal_has_fault : (kinds : Kinds) (kind : ErrorKind) (why : Fault) → (kind ≡ OutOfMemory) ⊎ IsAmong kind kinds → (kind ≡ OutOfMemory → why ≡ Memory)
     → IsErrOf {T = Request} (Err why) Refused → kinds ≢ []
 refusal_has_fault kinds kind why (inl ran_out) memory refused none =

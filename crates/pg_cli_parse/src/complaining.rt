@@ -12,7 +12,7 @@ use std::alloc::{AllocError, Global};
 /// end, in the words of `clap`: which word is not expected, which argument is missing, or why a value is none.
 ///
 /// # Errors
-/// Only for want of memory.
+/// Only for lack of memory.
 pub fn complaint(alloc: Global, words: &[String]) -> Result<Option<String>, AllocError>
     ensures { IfOk result (λ said. (is_some said ≡ true) ↔ (request_of (map string_bytes words.now) ≡ None)) }
 {

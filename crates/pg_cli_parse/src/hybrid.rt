@@ -14,7 +14,7 @@ use std::alloc::{AllocError, Global};
 pub(crate) fn asked(alloc: Global, matches: &ArgMatches<'_>) -> Result<Option<Request>, AllocError>
     requires { HoldsRows name.Hybrid (rows_of (found_of matches.now)) }
     ensures asked { IfOk result (λ r. asked_of name.Hybrid (rows_of (found_of matches.now)) ≡ r) }
-    // more images are refused, and never for want of memory
+    // more images are refused, and never for lack of memory
     ensures refused { asked_of name.Hybrid (rows_of (found_of matches.now)) ≡ None → result ≡ Ok None }
 {
     match few_words(alloc, matches) {

@@ -1,4 +1,4 @@
-//! What is to be done where a command ends so, in lines. Each error is want of memory.
+//! What is to be done where a command ends so, in lines. Each error is out of memory.
 
 use crate::line::Line;
 use crate::named::{Named, Room};

@@ -10,8 +10,7 @@ use std::{env, str};
 /// The most bytes of a word that is shown.
 const SHOWN_BYTES: usize = 200;
 
-/// The words, the program's name first. One that is not UTF-8 makes the line one without words, which no program takes. The error
-/// is want of memory.
+/// The words, the program's name first. One that is not UTF-8 makes the line one without words, which no program takes.
 pub fn words<R: Env + AllocGlobal>(rt: &R) -> Result<Vec<String>, AllocError> {
     match env::args(rt) {
         Ok(args) => args.collect(rt.alloc()),

@@ -1,4 +1,4 @@
-//! A line that is put together, part by part. Each error is want of memory.
+//! A line that is put together, part by part. Each error is out of memory.
 
 use crate::program::Program;
 use pg_text::dec;

@@ -219,7 +219,7 @@ fn buffer(alloc: Global) -> Vec<u8> {
     }
 }
 
-/// Makes the name of a question. The error is want of memory.
+/// Makes the name of a question.
 fn put_name(to: &mut Vec<u8>, name: &[u8], kind: Kind) -> Result<(), AllocError> {
     to.clear();
     to.extend_from_slice(name)?;
@@ -228,7 +228,7 @@ fn put_name(to: &mut Vec<u8>, name: &[u8], kind: Kind) -> Result<(), AllocError>
     Ok(())
 }
 
-/// Makes the text of a question: `question K of N, LEARNED of BUDGET clauses, S s: NAME`. The error is want of memory.
+/// Makes the text of a question: `question K of N, LEARNED of BUDGET clauses, S s: NAME`.
 fn put_question(to: &mut Vec<u8>, question: &Question, seconds: u64) -> Result<(), AllocError> {
     to.clear();
     to.extend_from_slice(b"question ")?;
@@ -246,7 +246,7 @@ fn put_question(to: &mut Vec<u8>, question: &Question, seconds: u64) -> Result<(
     Ok(())
 }
 
-/// Makes the text of a file that is read: `DONE of ALL bytes read, S s: NAME`. The error is want of memory.
+/// Makes the text of a file that is read: `DONE of ALL bytes read, S s: NAME`.
 fn put_read(
     to: &mut Vec<u8>,
     name: &str,
@@ -267,7 +267,7 @@ fn front(name: &[u8]) -> &[u8] {
     &name[..name.len().min(NAME_BYTES)]
 }
 
-/// Pushes `PART of WHOLE`. The error is want of memory.
+/// Pushes `PART of WHOLE`.
 fn put_share(to: &mut Vec<u8>, part: u64, whole: u64) -> Result<(), AllocError> {
     to.extend_from_slice(Buffer::new().format(part).as_bytes())?;
     to.extend_from_slice(b" of ")?;
@@ -275,7 +275,7 @@ fn put_share(to: &mut Vec<u8>, part: u64, whole: u64) -> Result<(), AllocError> 
     Ok(())
 }
 
-/// Pushes `S s: `. The error is want of memory.
+/// Pushes `S s: `.
 fn put_seconds(to: &mut Vec<u8>, seconds: u64) -> Result<(), AllocError> {
     to.extend_from_slice(Buffer::new().format(seconds).as_bytes())?;
     to.extend_from_slice(b" s: ")?;

@@ -128,7 +128,7 @@ answer_ok (Ok p) report h d family bytes e =
     record { progress = p; taken = sym e; kept = h; spelled = taken_texts_spell d family bytes p (sym e) }
 answer_ok (Err f) report h d family bytes e = absurd h
 
--- want of memory is not told
+-- lack of memory is not told
 pub told_known : (d : Desc) (f : VerifyFault) (line : CertificateLine) → told_of_verifying d f ≡ Some line → f ≢ fault.Memory
 told_known d f line e m = absurd (let no : None ≡ Some line = sym (ap (told_of_verifying d) m) ∙ e in cc)
 

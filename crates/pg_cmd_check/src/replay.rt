@@ -1,7 +1,7 @@
 //! `replay`: the states that a certificate shows, and what one step makes of each.
 //!
 //! The description is loaded, and then the certificate. Then the text is put, a state at a time: the state behind a step takes
-//! memory, so that want of memory may leave a front of the text.
+//! memory, so that lack of memory may leave a front of the text.
 
 ghost use Rattle.std.specs.Prelude.{None};
 ghost use Rattle.pg_cmd_base.specs.Commands.{Carries};

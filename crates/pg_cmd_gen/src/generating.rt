@@ -85,7 +85,7 @@ pub fn carry_gen<F: Shelf, S: Sink, H: Hardware, W: Watcher + VerdictWatcher>(
     }
 }
 
-/// The input of a number and a certificate of its description. The error is want of memory.
+/// The input of a number and a certificate of its description.
 fn prepare_gen<W: Watcher>(
     alloc: Global,
     words: &GenWords,
@@ -108,7 +108,7 @@ fn prepare_gen<W: Watcher>(
     })
 }
 
-/// The guests of an input, behind their last turn, where the verdict lets them run. The error is want of memory, and then no
+/// The guests of an input, behind their last turn, where the verdict lets them run. The error is out of memory, and then no
 /// turn was made.
 fn run_plan<'m, H: Hardware>(
     alloc: Global,

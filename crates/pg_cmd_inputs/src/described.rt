@@ -2,7 +2,7 @@
 //!
 //! `load_machine` calls `machine_of` with the bytes of a file. They are read (`pg_read`), and what is read is checked
 //! (`pg_mach_ready`); the first fault of either becomes the line that tells of it, each the one of its name. The bytes are known
-//! to keep the reader's limit, so its `Long` never comes. Want of memory is no fault of the text, and has no line.
+//! to keep the reader's limit, so its `Long` never comes. Lack of memory is no fault of the text, and has no line.
 
 ghost use Rattle.std.specs.Prelude.{◌≡◌, ◌≤◌, length, IfOk, IfErr, IfSome, Ok, Err};
 ghost use Rattle.pg_read.specs.Answer.{most_desc_bytes};

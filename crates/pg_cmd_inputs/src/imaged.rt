@@ -1,7 +1,7 @@
 //! Bytes to images.
 //!
 //! `load_image` calls `image_of` with the bytes of a file. A fault of the text becomes the line that tells of it, each the
-//! one of its name. Want of memory is no fault of the text, and has no line.
+//! one of its name. Lack of memory is no fault of the text, and has no line.
 
 ghost use Rattle.std.specs.Prelude.{◌≡◌, ◌≤◌, ◌<◌, ◌^◌, length, All, IfOk, IfErr, IfSome, Ok, Err};
 ghost use Rattle.pg_word.specs.Shape.{IsShape};

@@ -6,8 +6,8 @@ ghost use Rattle.pg_cnf.specs.Truth.{literal_true, clause_true, clauses_true};
 use pg_cnf::Clause;
 use std::alloc::{AllocError, Global};
 
-/// The values of so many variables in order, where these literals are true. Variables that they do not name are false, and others
-/// are passed over. The error is want of memory.
+/// The values of so many variables in order, where these literals are true. Variables that they do not name are false, and others are
+/// passed over.
 pub fn assignment_of(
     alloc: Global,
     variables: u32,

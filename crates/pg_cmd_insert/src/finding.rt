@@ -16,8 +16,7 @@ use pg_proof::{ActList, trim};
 use pg_word::Sparse;
 use std::alloc::{AllocError, Global};
 
-/// The finding of a closed log of a question, of at most as many acts as a certificate has bytes: the log, trimmed. It costs the
-/// trimming. The error is want of memory.
+/// The finding of a closed log of a question, of at most as many acts as a certificate has bytes: the log, trimmed. It costs the trimming.
 pub fn refuted(alloc: Global, asked: &Asked<'_>, log: &ActList) -> Result<Finding, AllocError>
     requires closed { IsClosedLog asked.now.cnf.clauses log.now }
     requires few { length log.now ≤ most_bytes }
@@ -38,8 +37,7 @@ fn pair(first: Sparse, second: Sparse) -> Finding
     Finding::Shown(first, second)
 }
 
-/// The finding of an assignment that makes all clauses of a question true: the states that it stands for, made small. The error
-/// is want of memory.
+/// The finding of an assignment that makes all clauses of a question true: the states that it stands for, made small.
 pub fn shown(alloc: Global, asked: &Asked<'_>, assignment: &[bool]) -> Result<Finding, AllocError>
     requires { clauses_true assignment.now asked.now.cnf.clauses ≡ true }
     ensures { IfOk result (λ f. (i : Instr) → slice_get asked.now.machine.now.desc.instrs asked.now.instr ≡ Some i → IsRight asked.now.cnf.clauses asked.now.machine.now.desc i asked.now.kind f) }

@@ -21,11 +21,11 @@ pub struct Imported {
     pub text: Vec<u8>,
 }
 
-/// A certificate that was made anew of a text, with a finding at a place: the same family, and all other findings as they were.
-/// The finding is right for the question of its place. The new certificate is valid under the heading that is written today, so
-/// `verify` takes its text, where that is not too long.
+/// A certificate that was made anew of a text, with a finding at a place: the same family, and all other findings as they were. The finding
+/// is right for the question of its place. The new certificate is valid under the heading that is written today, so `verify` takes its
+/// text, where that is not too long.
 ///
-/// It costs the length of the new text. The error is want of memory.
+/// It costs the length of the new text.
 pub fn replaced(
     alloc: Global,
     machine: &Machine,

@@ -13,7 +13,7 @@ use std::alloc::{AllocError, Global};
 /// A certificate of a machine, found within a budget from 1 to 1,000,000: its text, and what is kept of it.
 ///
 /// # Errors
-/// Only for want of memory.
+/// Only for lack of memory.
 pub fn checked<W: Watcher>(
     alloc: Global,
     machine: Machine,

@@ -85,7 +85,7 @@ pub fn carry_save<F: Shelf, S: Sink, H: Hardware, W: StopWatcher>(
 }
 
 /// The guest of a plan, behind its last turn, and its saved text, for which there was room before its first turn. The error is
-/// want of memory, and then no turn was made.
+/// out of memory, and then no turn was made.
 fn run_plan<'m, H: Hardware>(
     alloc: Global,
     plan: &'m SavePlan,

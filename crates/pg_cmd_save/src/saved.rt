@@ -1,7 +1,7 @@
 //! Files to saved guests.
 //!
 //! The whole of a file is loaded, within the limit of saved texts, and read. A fault of the text becomes the line that tells of
-//! it, each the one of its name. Want of memory is no fault of the text, and has no line.
+//! it, each the one of its name. Lack of memory is no fault of the text, and has no line.
 
 ghost use Rattle.std.specs.Prelude.{◌≡◌, ◌≤◌, IfOk, IfErr, IfSome, Ok, Err};
 ghost use Rattle.pg_lang_meaning.specs.States.{shape_of};

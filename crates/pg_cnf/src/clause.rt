@@ -77,7 +77,7 @@ impl Cnf {
     }
 
     /// A clause more, at the end: its variables are among those that there are, and there are fewer than 2^31 clauses with
-    /// it. The error is want of memory, and the clauses stay.
+    /// it. The error is out of memory, and the clauses stay.
     pub fn push(&mut self, clause: Clause) -> Result<(), AllocError>
         requires room { length self.old.clauses + 1 < 2 ^ 31 }
         requires clause { IsClause self.old.variables clause }

@@ -18,9 +18,9 @@ use pg_circuit::{Circuit, Gate, Node};
 use smallvec::SmallVec;
 use std::alloc::{AllocError, Global};
 
-/// The clauses that say that a gate of the circuit, the root, is true: they are all true exactly on the values of the
-/// circuit's nodes where the root is. Variable k + 1 stands for node k. The circuit has fewer than 2^29 nodes, and there are
-/// at most 4 clauses a node and 2 more. This is Tseitin's encoding (1968). The error is want of memory.
+/// The clauses that say that a gate of the circuit, the root, is true: they are all true exactly on the values of the circuit's nodes where
+/// the root is. Variable k + 1 stands for node k. The circuit has fewer than 2^29 nodes, and there are at most 4 clauses a node and 2 more.
+/// This is Tseitin's encoding (1968).
 pub fn encode(alloc: Global, circuit: &Circuit, root: Gate) -> Result<Cnf, AllocError>
     requires root { root.number < length circuit.now.nodes }
     requires small { length circuit.now.nodes < 2 ^ 29 }
@@ -37,7 +37,7 @@ pub fn encode(alloc: Global, circuit: &Circuit, root: Gate) -> Result<Cnf, Alloc
     Ok(cnf)
 }
 
-/// Adds the clauses of the node with a number. The error is want of memory.
+/// Adds the clauses of the node with a number.
 fn add_node(alloc: Global, cnf: &mut Cnf, number: u32, node: Node) -> Result<(), AllocError>
     requires there { number < cnf.old.variables }
     requires room { length cnf.old.clauses + 4 < 2 ^ 31 }
@@ -57,7 +57,7 @@ fn add_node(alloc: Global, cnf: &mut Cnf, number: u32, node: Node) -> Result<(),
     }
 }
 
-/// Adds that v is true exactly where x and y both are. The error is want of memory.
+/// Adds that v is true exactly where x and y both are.
 fn add_and(alloc: Global, cnf: &mut Cnf, v: Gate, x: Gate, y: Gate) -> Result<(), AllocError>
     requires room { length cnf.old.clauses + 4 < 2 ^ 31 }
     requires apart { AreApart cnf.old.variables (v ∷ x ∷ y ∷ []) }
@@ -70,7 +70,7 @@ fn add_and(alloc: Global, cnf: &mut Cnf, v: Gate, x: Gate, y: Gate) -> Result<()
     Ok(())
 }
 
-/// Adds that v is true exactly where one of x and y is. The error is want of memory.
+/// Adds that v is true exactly where one of x and y is.
 fn add_xor(alloc: Global, cnf: &mut Cnf, v: Gate, x: Gate, y: Gate) -> Result<(), AllocError>
     requires room { length cnf.old.clauses + 4 < 2 ^ 31 }
     requires apart { AreApart cnf.old.variables (v ∷ x ∷ y ∷ []) }
@@ -84,7 +84,7 @@ fn add_xor(alloc: Global, cnf: &mut Cnf, v: Gate, x: Gate, y: Gate) -> Result<()
     Ok(())
 }
 
-/// Adds that one of some gates is true. The error is want of memory.
+/// Adds that one of some gates is true.
 fn add(alloc: Global, cnf: &mut Cnf, gates: &[Gate]) -> Result<(), AllocError>
     requires room { length cnf.old.clauses + 1 < 2 ^ 31 }
     requires apart { AreApart cnf.old.variables gates.now }
@@ -95,7 +95,7 @@ fn add(alloc: Global, cnf: &mut Cnf, gates: &[Gate]) -> Result<(), AllocError>
     cnf.push(Clause::new(literals))
 }
 
-/// The literals of gates. The error is want of memory.
+/// The literals of gates.
 fn literals_of(
     alloc: Global,
     gates: &[Gate],

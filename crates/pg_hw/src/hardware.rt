@@ -47,7 +47,7 @@ pub trait Hardware {
     /// rises.
     ///
     /// # Errors
-    /// Only for want of memory, and then all is as before.
+    /// Only for lack of memory, and then all is as before.
     fn install(&mut self, size: u32) -> Result<(), AllocError>
         requires least { 2 ≤ size }
         requires most { size ≤ room (fixed self.old) }

@@ -9,7 +9,7 @@ ghost use Rattle.pg_image.specs.declared.fault.ImageFault.TheVariants.{Memory};
 use std::alloc::AllocError;
 use thiserror::Error;
 
-/// Why the bytes of an image gave no image: its first fault, or want of memory. Lines are numbered from 1.
+/// Why the bytes of an image gave no image: its first fault, or out of memory. Lines are numbered from 1.
 #[derive(Debug, PartialEq, Eq, Drop, Error)]
 pub enum ImageFault {
     /// There are more than `IMAGE_BYTES` bytes.

@@ -65,7 +65,7 @@ impl<'a, R: Files> DirShelf<'a, R> {
     }
 
     /// The last call that was refused because the file is missing or the system failed, if there was one. A call that
-    /// succeeds leaves it, and so does one that is refused for the length of a file or for want of memory.
+    /// succeeds leaves it, and so does one that is refused for the length of a file or for lack of memory.
     pub fn refused(&self) -> Option<&Refused>
         ensures { option_copied result ≡ self.now.refused }
     {

@@ -26,7 +26,7 @@ pub struct Generated {
 /// count.
 ///
 /// # Errors
-/// Only for want of memory.
+/// Only for lack of memory.
 pub fn generate(alloc: Global, number: u64, count: u32) -> Result<Generated, AllocError>
     requires least { 1 ≤ count }
     requires most { count ≤ most_instructions }

@@ -20,7 +20,7 @@ use pg_ast::Desc;
 use std::alloc::Global;
 
 /// Tests each class of validity over the whole description before the next, and gives the names of the instructions. The
-/// error is the fault of the first class that has one, or want of memory.
+/// error is the fault of the first class that has one, or out of memory.
 pub fn test_all(alloc: Global, desc: &Desc) -> Result<NameTable, TypeFault>
     ensures valid { OnOk result (IsValid desc.now) }
     ensures names { IfOk result (λ names. names ≡ instr_names desc.now.instrs) }
@@ -45,7 +45,7 @@ pub fn test_all(alloc: Global, desc: &Desc) -> Result<NameTable, TypeFault>
     Ok(names)
 }
 
-/// Tests the last four classes, of patterns and of bodies. The error is the fault of the first of them that has one, or want
+/// Tests the last four classes, of patterns and of bodies. The error is the fault of the first of them that has one, or out
 /// of memory.
 fn test_parts(alloc: Global, desc: &Desc) -> Result<(), TypeFault>
     ensures ok { OnOk result (part_fault desc.now ≡ None) }

@@ -55,7 +55,7 @@ impl<'m> NameList<'m> {
         self.names.as_slice()
     }
 
-    /// A name more, at the end. The error is want of memory.
+    /// A name more, at the end.
     pub fn push(&mut self, name: &'m [u8]) -> Result<(), AllocError>
         ensures { OnOk result (self.new ≡ self.old ++ name.now ∷ []) }
     {

@@ -61,8 +61,7 @@ fn unknown_name<'m>(pattern: &[u8], expr: &'m Expr, scope: &NameList<'_>) -> Opt
     }
 }
 
-/// The first name of a statement that is neither a field nor a visible let. A let is visible after it. The error is want of
-/// memory.
+/// The first name of a statement that is neither a field nor a visible let. A let is visible after it.
 #[cycle(sight)]
 #[tactic(auto, using(crate::proofs::CheckStmtEquations::sight_of_rules))]
 fn unknown_in_stmt<'m>(
@@ -146,7 +145,7 @@ fn unknown_in_order<'m>(
     Ok(None)
 }
 
-/// The first name of an instruction that is neither a field nor a visible let. The error is want of memory.
+/// The first name of an instruction that is neither a field nor a visible let.
 fn unknown_in(alloc: Global, instr: &Instr) -> Result<Option<&[u8]>, AllocError>
     ensures { IfOk result (λ found. option_copied found ≡ unknown_in instr.now) }
 {
@@ -158,7 +157,7 @@ fn unknown_in(alloc: Global, instr: &Instr) -> Result<Option<&[u8]>, AllocError>
     )
 }
 
-/// The first instruction with such a name, and its first such name. The error is want of memory.
+/// The first instruction with such a name, and its first such name.
 #[tactic(auto, unfolding(crate::specs::Scopes::name_unknown))]
 pub fn name_unknown(alloc: Global, instrs: &[Instr]) -> Result<Option<(usize, &[u8])>, AllocError>
     ensures { IfOk result (λ found. option_map (λ f. (f.0, f.1.now)) found ≡ name_unknown 0 instrs.now) }

@@ -58,7 +58,7 @@ impl NameTable {
         self.names.get_index_of(name)
     }
 
-    /// Adds a name at the end, if it is not there, and says whether it was not. The error is want of memory, and the names
+    /// Adds a name at the end, if it is not there, and says whether it was not. The error is out of memory, and the names
     /// stay.
     pub fn insert(&mut self, alloc: Global, name: &[u8]) -> Result<bool, AllocError>
         ensures added { IfOk result (λ added. added ≡ not (is_among self.old name.now)) }

@@ -21,7 +21,7 @@ pub fn is_field(pattern: &[u8], name: &[u8]) -> bool
     field_of(pattern, name).is_some()
 }
 
-/// Adds the names of the lets of a statement, in the order of the text. The error is want of memory.
+/// Adds the names of the lets of a statement, in the order of the text.
 #[cycle(lets)]
 #[tactic(auto, using(crate::proofs::CheckStmtEquations::let_names_rules, crate::proofs::NameLemmas::name_rules))]
 fn add_lets<'m>(stmt: &'m Stmt, names: &mut NameList<'m>) -> Result<(), AllocError>
@@ -48,7 +48,7 @@ fn add_lets<'m>(stmt: &'m Stmt, names: &mut NameList<'m>) -> Result<(), AllocErr
     }
 }
 
-/// Adds the names of the lets of some statements, in the order of the text. The error is want of memory.
+/// Adds the names of the lets of some statements, in the order of the text.
 #[cycle(lets)]
 #[tactic(auto, using(crate::proofs::CheckStmtEquations::let_names_rules, crate::proofs::NameLemmas::name_rules))]
 fn add_all_lets<'m>(stmts: &'m [Stmt], names: &mut NameList<'m>) -> Result<(), AllocError>
@@ -63,7 +63,7 @@ fn add_all_lets<'m>(stmts: &'m [Stmt], names: &mut NameList<'m>) -> Result<(), A
     Ok(())
 }
 
-/// The first of these let names that an earlier one, or a field of the pattern, has. The error is want of memory.
+/// The first of these let names that an earlier one, or a field of the pattern, has.
 #[tactic(auto, unfolding(crate::specs::Twice::let_twice))]
 fn let_twice<'m>(
     alloc: Global,
@@ -85,7 +85,7 @@ fn let_twice<'m>(
     Ok(None)
 }
 
-/// The first let name of an instruction that an earlier let, or a field, has. The error is want of memory.
+/// The first let name of an instruction that an earlier let, or a field, has.
 fn let_twice_in(alloc: Global, instr: &Instr) -> Result<Option<&[u8]>, AllocError>
     ensures { IfOk result (λ found. option_copied found ≡ let_twice_in instr.now) }
 {
@@ -96,7 +96,7 @@ fn let_twice_in(alloc: Global, instr: &Instr) -> Result<Option<&[u8]>, AllocErro
     }
 }
 
-/// The first let name that is given twice, in the first of the instructions that has one. The error is want of memory.
+/// The first let name that is given twice, in the first of the instructions that has one.
 #[tactic(auto, unfolding(crate::specs::Twice::let_twice_among))]
 pub fn let_twice_among(alloc: Global, instrs: &[Instr]) -> Result<Option<&[u8]>, AllocError>
     ensures { IfOk result (λ found. option_copied found ≡ let_twice_among instrs.now) }

@@ -228,7 +228,7 @@ enum Fare {
     Keeps(usize),
 }
 
-/// The place after this one. The error is want of memory, which would have come before so many statements.
+/// The place after this one. The error is out of memory, which would have come before so many statements.
 fn next_place(place: usize) -> Result<usize, AllocError>
     ensures { IfOk result (λ next. next ≡ place + 1) }
 {
@@ -256,7 +256,7 @@ fn wants(wanted: u64, width: Judged, place: usize) -> Result<Fare, AllocError>
     }
 }
 
-/// How a let fares, which may have any width and is visible after it. The error is want of memory.
+/// How a let fares, which may have any width and is visible after it.
 #[tactic(auto, using(crate::proofs::GrowLemmas::grow_rules))]
 fn binds<'m>(
     name: &'m Name,
@@ -293,7 +293,7 @@ fn store_fare(desc: &Desc, address: Judged, cell: Judged, place: usize) -> Resul
     }
 }
 
-/// How a statement at a place fares. A let is visible after it. The error is want of memory.
+/// How a statement at a place fares. A let is visible after it.
 #[cycle(fare)]
 #[tactic(auto, using(crate::proofs::FareEquations::fare_rules, crate::proofs::GrowLemmas::grow_rules))]
 fn fare_of<'m>(
@@ -343,7 +343,7 @@ fn fare_of<'m>(
     }
 }
 
-/// How the statements of a block fare, whose lets end with it. The error is want of memory.
+/// How the statements of a block fare, whose lets end with it.
 #[cycle(fare)]
 #[tactic(auto, using(crate::proofs::GrowLemmas::grow_rules))]
 fn fares_in_block<'m>(
@@ -366,7 +366,7 @@ fn fares_in_block<'m>(
     }
 }
 
-/// How statements fare in the order of the text. The error is want of memory.
+/// How statements fare in the order of the text.
 #[cycle(fare)]
 #[tactic(auto, using(crate::proofs::GrowLemmas::grow_rules), unfolding(crate::specs::Widths::fares_in_order))]
 fn fares_in_order<'m>(
@@ -390,7 +390,7 @@ fn fares_in_order<'m>(
     Ok(Fare::Keeps(next))
 }
 
-/// The first statement of an instruction whose own expressions break the table of widths, and how. The error is want of memory.
+/// The first statement of an instruction whose own expressions break the table of widths, and how.
 fn width_broken_in(
     alloc: Global,
     desc: &Desc,
@@ -406,8 +406,7 @@ fn width_broken_in(
     }
 }
 
-/// The first instruction with such a statement, its first such statement, and how that breaks the table. The error is want
-/// of memory.
+/// The first instruction with such a statement, its first such statement, and how that breaks the table.
 #[tactic(auto, unfolding(crate::specs::Widths::width_broken))]
 pub fn width_broken(
     alloc: Global,

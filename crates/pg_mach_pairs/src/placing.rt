@@ -15,7 +15,7 @@ ghost use Rattle.pg_mach_pairs.specs.Placing.{window_of, zeros_around, state_aro
 use pg_word::{CellList, Psw, Sparse};
 use std::alloc::{AllocError, Global};
 
-/// Lists a word past the last cell, unless it is zero. The error is want of memory.
+/// Lists a word past the last cell, unless it is zero.
 fn push_word(state: &mut Sparse, at: u32, word: u64) -> Result<(), AllocError>
     requires within { at < state.old.size }
     requires past_last { IsPastLast state.old.cells at }
@@ -29,7 +29,7 @@ fn push_word(state: &mut Sparse, at: u32, word: u64) -> Result<(), AllocError>
     state.push(at, word)
 }
 
-/// The words in the order of their addresses. Those of one address keep theirs. The error is want of memory.
+/// The words in the order of their addresses. Those of one address keep theirs.
 fn sorted(alloc: Global, cells: &[(u32, u64)]) -> Result<Vec<(u32, u64)>, AllocError>
     ensures ascending { IfOk result (λ v. IsNonDecreasingBy (λ cell. cell.0) v.items) }
     ensures stable { IfOk result (λ v. IsStableByKey (λ cell. cell.0) nat_cmp cells.now v.items) }
@@ -65,9 +65,8 @@ fn in_order(
     Ok(state)
 }
 
-/// The state of a size under a program status word with these words in its window, each beside its address there, and zeros
-/// in all other cells. Of two words at one address the first one counts. A word at an address from `usable` on, the length
-/// of the window, is left out. The error is want of memory.
+/// The state of a size under a program status word with these words in its window, each beside its address there, and zeros in all other
+/// cells. Of two words at one address the first one counts. A word at an address from `usable` on, the length of the window, is left out.
 pub fn placed(
     alloc: Global,
     cells: &[(u32, u64)],

@@ -22,7 +22,7 @@ reader_of (reader.Sized steps size) = Sized steps size
 reader_of (reader.Drawing steps s) = Drawing steps (drawn_of s)
 reader_of (reader.Over steps s) = Over steps (drawn_of s)
 
--- what is answered where a reader is due or a refusal. Want of memory says nothing of the text
+-- what is answered where a reader is due or a refusal. Lack of memory says nothing of the text
 abbrev pub IsNext : Result SavedReader SavedFault → Result Reader SavedFault → Type 0
 IsNext due (Ok r) = due ≡ Ok (reader_of r)
 IsNext due (Err f) = f ≢ Memory → due ≡ Err f

@@ -54,7 +54,7 @@ fn ends_in_lf(bytes: &[u8]) -> bool
     bytes[bytes.len() - 1] == b'\n'
 }
 
-/// Whether these bytes are the first line of a saved text of any version. The error is want of memory.
+/// Whether these bytes are the first line of a saved text of any version.
 #[tactic(auto, unfolding(crate::specs::Reading::is_version))]
 pub(crate) fn is_version(alloc: Global, bytes: &[u8]) -> Result<bool, AllocError>
     ensures { IfOk result (λ is. is ≡ is_version bytes.now) }

@@ -18,7 +18,7 @@ use pg_monitor::Monitor;
 use pg_word::Sparse;
 use std::alloc::{AllocError, Global};
 
-/// The state at which a guest stands: its cells that are not zero are listed. The error is want of memory.
+/// The state at which a guest stands: its cells that are not zero are listed.
 fn state_at<H: Hardware>(alloc: Global, hw: &H, guest: Guest) -> Result<Sparse, AllocError>
     requires within { guest.base + guest.size ≤ length (H.machinery hw.now).state.cells }
     ensures { IfOk result (λ state. state_of state ≡ virtual (H.machinery hw.now).state.cells guest) }

@@ -28,7 +28,7 @@ pub fn saved_room(shape: &Shape, size: u32) -> usize
 
 /// The text of what is saved of a guest: its steps are `MOST_STEPS` at most, and its state is one of a machine of the shape.
 ///
-/// It costs the length of the text. The error is want of memory.
+/// It costs the length of the text.
 pub fn write_saved(alloc: Global, shape: &Shape, saved: &Saved) -> Result<Vec<u8>, AllocError>
     requires shape { IsShape shape.now }
     requires saved { IsSaved shape.now (guest_of saved.now) }

@@ -4,7 +4,7 @@
 //! guest's, which lies in the hardware's from cell 2 on, and its program status word is the guest's own, and never the composed
 //! one that the hardware has. The counts are its own, counted from 0; those at the bottom are those at the bottom of its hardware.
 //!
-//! `install` first takes all memory for a monitor, then installs the hardware below, then starts the monitor on it. So want of memory
+//! `install` first takes all memory for a monitor, then installs the hardware below, then starts the monitor on it. So lack of memory
 //! leaves everything as it was, at every depth, and no other call takes any.
 
 ghost use Rattle.std.specs.Prelude.{◌≡◌, ℕ, ◌+◌, ◌-◌, ◌<◌, ◌≤◌, length, None, Some};

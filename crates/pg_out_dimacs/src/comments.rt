@@ -14,7 +14,7 @@ use pg_circuit::Gate;
 use pg_vec::Bits;
 use std::alloc::{AllocError, Global};
 
-/// Pushes all lines of comment. The error is want of memory.
+/// Pushes all lines of comment.
 pub fn push_comments(
     alloc: Global,
     text: &mut Vec<u8>,
@@ -37,7 +37,7 @@ pub fn push_comments(
     Ok(())
 }
 
-/// Pushes the lines of registers, sizes and the address that is compared. The error is want of memory.
+/// Pushes the lines of registers, sizes and the address that is compared.
 fn push_unknowns(alloc: Global, text: &mut Vec<u8>, unknowns: &Unknowns) -> Result<(), AllocError>
     requires { AreComments text.old.items }
     ensures { OnOk result (AreComments text.new.items) }
@@ -54,7 +54,7 @@ fn push_unknowns(alloc: Global, text: &mut Vec<u8>, unknowns: &Unknowns) -> Resu
     push_line(alloc, text, "compared", &unknowns.compared)
 }
 
-/// Pushes a line that names a thing. A control character in the name is written as `?`. The error is want of memory.
+/// Pushes a line that names a thing. A control character in the name is written as `?`.
 fn push_name(alloc: Global, text: &mut Vec<u8>, what: &str, name: &str) -> Result<(), AllocError>
     requires { AreComments text.old.items }
     ensures { OnOk result (AreComments text.new.items) }
@@ -63,7 +63,7 @@ fn push_name(alloc: Global, text: &mut Vec<u8>, what: &str, name: &str) -> Resul
     push_comment(text, said.as_slice())
 }
 
-/// Pushes the line of a string of gates. The error is want of memory.
+/// Pushes the line of a string of gates.
 fn push_line(alloc: Global, text: &mut Vec<u8>, what: &str, bits: &Bits) -> Result<(), AllocError>
     requires { AreComments text.old.items }
     ensures { OnOk result (AreComments text.new.items) }
@@ -72,7 +72,7 @@ fn push_line(alloc: Global, text: &mut Vec<u8>, what: &str, bits: &Bits) -> Resu
     push_comment(text, said.as_slice())
 }
 
-/// Pushes the line of a touched cell: its address and its word. The error is want of memory.
+/// Pushes the line of a touched cell: its address and its word.
 fn push_cell(alloc: Global, text: &mut Vec<u8>, number: u64, cell: &Cell) -> Result<(), AllocError>
     requires { AreComments text.old.items }
     ensures { OnOk result (AreComments text.new.items) }
@@ -81,8 +81,7 @@ fn push_cell(alloc: Global, text: &mut Vec<u8>, number: u64, cell: &Cell) -> Res
     push_comment(text, said.as_slice())
 }
 
-/// Pushes a line of comment that says these bytes. A LF among them is written as `?`, so that the line stays one. The error is
-/// want of memory.
+/// Pushes a line of comment that says these bytes. A LF among them is written as `?`, so that the line stays one.
 fn push_comment(text: &mut Vec<u8>, said: &[u8]) -> Result<(), AllocError>
     requires { AreComments text.old.items }
     ensures { OnOk result (AreComments text.new.items) }
@@ -93,7 +92,7 @@ fn push_comment(text: &mut Vec<u8>, said: &[u8]) -> Result<(), AllocError>
     Ok(())
 }
 
-/// Pushes these bytes, a LF as `?`. The error is want of memory.
+/// Pushes these bytes, a LF as `?`.
 fn push_said(text: &mut Vec<u8>, said: &[u8]) -> Result<(), AllocError>
     ensures { OnOk result (GoesOn text.old.items text.new.items) }
 {
@@ -110,7 +109,7 @@ fn within_a_line(byte: u8) -> u8
     if byte == b'\n' { b'?' } else { byte }
 }
 
-/// What the line of a name says. The error is want of memory.
+/// What the line of a name says.
 fn of_name(alloc: Global, what: &str, name: &str) -> Result<Vec<u8>, AllocError> {
     let mut said = begun(alloc, what)?;
     said.push(b' ')?;
@@ -120,14 +119,14 @@ fn of_name(alloc: Global, what: &str, name: &str) -> Result<Vec<u8>, AllocError>
     Ok(said)
 }
 
-/// What the line of a string of gates says. The error is want of memory.
+/// What the line of a string of gates says.
 fn of_bits(alloc: Global, what: &str, bits: &Bits) -> Result<Vec<u8>, AllocError> {
     let mut said = begun(alloc, what)?;
     push_gates(&mut said, bits.as_slice())?;
     Ok(said)
 }
 
-/// What the line of a touched cell says. The error is want of memory.
+/// What the line of a touched cell says.
 fn of_cell(alloc: Global, number: u64, cell: &Cell) -> Result<Vec<u8>, AllocError> {
     let mut said = begun(alloc, "cell ")?;
     push_number(&mut said, number)?;
@@ -138,7 +137,7 @@ fn of_cell(alloc: Global, number: u64, cell: &Cell) -> Result<Vec<u8>, AllocErro
     Ok(said)
 }
 
-/// A space, and what a line is about. The error is want of memory.
+/// A space, and what a line is about.
 fn begun(alloc: Global, what: &str) -> Result<Vec<u8>, AllocError> {
     let mut said = Vec::new(alloc);
     said.push(b' ')?;
@@ -146,7 +145,7 @@ fn begun(alloc: Global, what: &str) -> Result<Vec<u8>, AllocError> {
     Ok(said)
 }
 
-/// Pushes gates, with a space before each. The error is want of memory.
+/// Pushes gates, with a space before each.
 fn push_gates(text: &mut Vec<u8>, gates: &[Gate]) -> Result<(), AllocError> {
     for gate in gates {
         text.push(b' ')?;
@@ -155,7 +154,7 @@ fn push_gates(text: &mut Vec<u8>, gates: &[Gate]) -> Result<(), AllocError> {
     Ok(())
 }
 
-/// Pushes a gate: a constant, which is node 0, or the literal of its node's variable. The error is want of memory.
+/// Pushes a gate: a constant, which is node 0, or the literal of its node's variable.
 fn push_gate(text: &mut Vec<u8>, gate: Gate) -> Result<(), AllocError> {
     if gate.number == 0 {
         return push_number(text, u64::from(gate.negated));

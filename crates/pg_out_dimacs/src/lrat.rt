@@ -12,8 +12,7 @@ use pg_cnf::Cnf;
 use pg_proof::{Act, ActList, Step};
 use std::alloc::{AllocError, Global};
 
-/// The text of a closed log of a question's clauses, of fewer than 2^32 acts. It costs the length of the text. The error is want of
-/// memory.
+/// The text of a closed log of a question's clauses, of fewer than 2^32 acts. It costs the length of the text.
 pub fn lrat_of(alloc: Global, cnf: &Cnf, acts: &ActList) -> Result<Vec<u8>, AllocError>
     requires closed { IsClosedLog cnf.now.clauses acts.now }
     requires few { length acts.now < 2 ^ 32 }
@@ -25,7 +24,7 @@ pub fn lrat_of(alloc: Global, cnf: &Cnf, acts: &ActList) -> Result<Vec<u8>, Allo
     Ok(text)
 }
 
-/// Pushes the lines of acts, behind the clause with a number. The error is want of memory.
+/// Pushes the lines of acts, behind the clause with a number.
 #[tactic(auto, unfolding(crate::specs::Lrat::acts_text))]
 fn push_acts(text: &mut Vec<u8>, clauses: u64, acts: &[Act]) -> Result<(), AllocError>
     requires few { clauses + length acts.now < 2 ^ 64 }
@@ -44,7 +43,7 @@ fn push_acts(text: &mut Vec<u8>, clauses: u64, acts: &[Act]) -> Result<(), Alloc
     Ok(())
 }
 
-/// Pushes the line of a step. The error is want of memory.
+/// Pushes the line of a step.
 #[tactic(auto, unfolding(crate::specs::Lrat::step_text))]
 fn push_step(text: &mut Vec<u8>, number: u64, step: &Step) -> Result<(), AllocError>
     ensures { OnOk result (text.new.items ≡ text.old.items ++ step_text number step.now.lits step.now.hints) }
@@ -60,7 +59,7 @@ fn push_step(text: &mut Vec<u8>, number: u64, step: &Step) -> Result<(), AllocEr
     Ok(())
 }
 
-/// Pushes the line of a removal. The error is want of memory.
+/// Pushes the line of a removal.
 #[tactic(auto, unfolding(crate::specs::Lrat::removal_text))]
 fn push_removal(text: &mut Vec<u8>, number: u64, numbers: &[u32]) -> Result<(), AllocError>
     ensures { OnOk result (text.new.items ≡ text.old.items ++ removal_text number numbers.now) }
@@ -75,7 +74,7 @@ fn push_removal(text: &mut Vec<u8>, number: u64, numbers: &[u32]) -> Result<(), 
     Ok(())
 }
 
-/// Pushes numbers, with a space behind each. The error is want of memory.
+/// Pushes numbers, with a space behind each.
 #[tactic(auto, unfolding(crate::specs::Lrat::numbers_text))]
 fn push_numbers(text: &mut Vec<u8>, numbers: &[u32]) -> Result<(), AllocError>
     ensures { OnOk result (text.new.items ≡ text.old.items ++ numbers_text numbers.now) }

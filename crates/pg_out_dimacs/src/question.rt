@@ -19,7 +19,7 @@ pub struct Names<'a> {
     pub word: &'a str,
 }
 
-/// A question as text: lines of comment, and its clauses. It costs the length of the text. The error is want of memory.
+/// A question as text: lines of comment, and its clauses. It costs the length of the text.
 pub fn text_of(alloc: Global, names: &Names<'_>, asked: &Asked<'_>) -> Result<Vec<u8>, AllocError>
     ensures { IfOk result (λ text. IsQuestionText asked.now.cnf.clauses text.items) }
 {

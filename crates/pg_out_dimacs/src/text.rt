@@ -11,7 +11,7 @@ use pg_cnf::{Clause, Cnf};
 use pg_text::dec;
 use std::alloc::AllocError;
 
-/// Pushes the text of a formula. The error is want of memory.
+/// Pushes the text of a formula.
 #[tactic(auto, unfolding(crate::specs::Dimacs::dimacs_text))]
 pub fn push_formula(text: &mut Vec<u8>, cnf: &Cnf) -> Result<(), AllocError>
     ensures { OnOk result (text.new.items ≡ text.old.items ++ dimacs_text cnf.now.clauses) }
@@ -21,14 +21,14 @@ pub fn push_formula(text: &mut Vec<u8>, cnf: &Cnf) -> Result<(), AllocError>
     push_clauses(text, clauses)
 }
 
-/// Pushes a number, as decimal digits. The error is want of memory.
+/// Pushes a number, as decimal digits.
 pub fn push_number(text: &mut Vec<u8>, number: u64) -> Result<(), AllocError>
     ensures { OnOk result (text.new.items ≡ text.old.items ++ decimal number) }
 {
     text.extend_from_slice(dec(number).as_slice())
 }
 
-/// Pushes the head. The error is want of memory.
+/// Pushes the head.
 #[tactic(auto, unfolding(crate::specs::Dimacs::head_text))]
 fn push_head(text: &mut Vec<u8>, variables: u32, clauses: usize) -> Result<(), AllocError>
     ensures { OnOk result (text.new.items ≡ text.old.items ++ head_text variables clauses) }
@@ -41,7 +41,7 @@ fn push_head(text: &mut Vec<u8>, variables: u32, clauses: usize) -> Result<(), A
     Ok(())
 }
 
-/// Pushes the lines of clauses. The error is want of memory.
+/// Pushes the lines of clauses.
 #[tactic(auto, unfolding(crate::specs::Dimacs::clauses_text))]
 fn push_clauses(text: &mut Vec<u8>, clauses: &[Clause]) -> Result<(), AllocError>
     ensures { OnOk result (text.new.items ≡ text.old.items ++ clauses_text clauses.now) }
@@ -54,7 +54,7 @@ fn push_clauses(text: &mut Vec<u8>, clauses: &[Clause]) -> Result<(), AllocError
     Ok(())
 }
 
-/// Pushes literals, with a space behind each. The error is want of memory.
+/// Pushes literals, with a space behind each.
 #[tactic(auto, unfolding(crate::specs::Dimacs::literals_text))]
 pub fn push_literals(text: &mut Vec<u8>, literals: &[i32]) -> Result<(), AllocError>
     ensures { OnOk result (text.new.items ≡ text.old.items ++ literals_text literals.now) }
@@ -66,7 +66,7 @@ pub fn push_literals(text: &mut Vec<u8>, literals: &[i32]) -> Result<(), AllocEr
     Ok(())
 }
 
-/// Pushes a literal. The error is want of memory.
+/// Pushes a literal.
 fn push_literal(text: &mut Vec<u8>, literal: i32) -> Result<(), AllocError>
     ensures { OnOk result (text.new.items ≡ text.old.items ++ signed_decimal literal) }
 {

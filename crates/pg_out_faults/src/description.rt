@@ -1,7 +1,7 @@
 //! What is wrong with a description.
 //!
 //! A refusal with a place is told there. One that names an instruction, a name or a number is found anew in the tokens. Each
-//! error is want of memory.
+//! error is out of memory.
 
 use crate::found::{At, Found, Told, alone, at_place, plain};
 use crate::grammar::grammar;

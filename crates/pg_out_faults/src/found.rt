@@ -23,7 +23,7 @@ pub struct Found {
     pub what: Sentence,
 }
 
-/// These words, said of a place. The error is want of memory.
+/// These words, said of a place.
 pub fn plain(alloc: Global, at: At, words: &str) -> Result<Found, AllocError> {
     Ok(Found {
         at,

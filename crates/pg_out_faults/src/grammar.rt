@@ -1,7 +1,7 @@
 //! Why a token cannot stand where it does, and what to write.
 //!
 //! It is told by the tokens before the wrong one and those behind it; where nothing is known, it is said that this cannot stand
-//! here. Each error is want of memory.
+//! here. Each error is out of memory.
 
 use crate::found::{At, Found, plain};
 use crate::near::{Near, near_of, opened};

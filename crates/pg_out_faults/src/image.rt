@@ -9,7 +9,7 @@ use pg_out_place::Sentence;
 use pg_report::ImageLine;
 use std::alloc::{AllocError, Global};
 
-/// What is wrong with an image, and where. The error is want of memory.
+/// What is wrong with an image, and where.
 pub fn image(alloc: Global, why: &ImageLine, held: &Held<'_>) -> Result<Found, AllocError> {
     match why {
         ImageLine::Long => plain(alloc, At::Whole, "an image has at most 33,554,432 bytes"),

@@ -2,7 +2,7 @@
 //! in words, the line, and a caret below the place.
 //!
 //! The refusals are those of `pg_report`, whose lines stay what a program reads. Here is what a person reads, beside them.
-//! Nothing is refused here, and no byte is believed: whatever the refusal and the bytes are, there is an answer, or want of
+//! Nothing is refused here, and no byte is believed: whatever the refusal and the bytes are, there is an answer, or out of
 //! memory. That the place is the one that the refusal means is tested; lines and columns are proved where they are counted
 //! (`pg_out_place`).
 //!

@@ -69,7 +69,7 @@ pub fn head_of(toks: &[Placed]) -> Option<Head> {
     }
 }
 
-/// Which number of the head is none of a machine. The error is want of memory.
+/// Which number of the head is none of a machine.
 pub fn shape(alloc: Global, toks: &[Placed]) -> Result<Found, AllocError> {
     let head = match head_of(toks) {
         None => return plain(alloc, At::Whole, "the numbers of the head fit no machine"),
@@ -148,7 +148,7 @@ struct Over {
     at: At,
 }
 
-/// A limit that an instruction breaks. The error is want of memory.
+/// A limit that an instruction breaks.
 pub fn limit_found(
     alloc: Global,
     toks: &[Placed],

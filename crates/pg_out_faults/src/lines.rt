@@ -7,7 +7,7 @@ use pg_report::{CertificateLine, SavedLine};
 use pg_type::Kind;
 use std::alloc::{AllocError, Global};
 
-/// What is wrong with a certificate, and where. The error is want of memory.
+/// What is wrong with a certificate, and where.
 pub fn certificate(
     alloc: Global,
     why: &CertificateLine,
@@ -191,7 +191,7 @@ fn no_line(alloc: Global, held: &Held<'_>, line: u64) -> Result<Found, AllocErro
     plain(alloc, start_of(held, line), words)
 }
 
-/// What is wrong with a saved guest, and where. The error is want of memory.
+/// What is wrong with a saved guest, and where.
 pub fn saved(alloc: Global, why: &SavedLine, held: &Held<'_>) -> Result<Found, AllocError> {
     match why {
         SavedLine::Long => plain(

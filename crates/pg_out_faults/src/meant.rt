@@ -1,6 +1,6 @@
 //! What the names, fields, labels and values of a line of a source mean for a machine, and what is wrong with them.
 //!
-//! The machine is known by the tokens of its description, which was read before the source. Each error is want of memory.
+//! The machine is known by the tokens of its description, which was read before the source. Each error is out of memory.
 
 use crate::description::cut;
 use crate::found::{At, Found, plain};

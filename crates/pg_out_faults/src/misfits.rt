@@ -2,7 +2,7 @@
 //!
 //! The table of widths is that of `pg_lang_valid`, which is asked for each expression. All statements are gone over in the order of the
 //! text, also behind one that breaks the table: a let that breaks it has no width, and what needs that width is passed over. Each
-//! error is want of memory.
+//! error is out of memory.
 
 ghost use Rattle.std.specs.Prelude.{◌≤◌, length};
 

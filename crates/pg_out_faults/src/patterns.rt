@@ -52,7 +52,7 @@ fn split_letter(pattern: &[u8]) -> Option<u8> {
     None
 }
 
-/// What is wrong with the pattern of an instruction. The error is want of memory.
+/// What is wrong with the pattern of an instruction.
 pub fn pattern(alloc: Global, toks: &[Placed], number: usize) -> Result<Found, AllocError> {
     let (given, head) = match (pattern_at(toks, number), head_of(toks)) {
         (Some(given), Some(head)) => (given, head),
@@ -79,7 +79,7 @@ pub fn pattern(alloc: Global, toks: &[Placed], number: usize) -> Result<Found, A
     }
 }
 
-/// Two patterns that match one word. The error is want of memory.
+/// Two patterns that match one word.
 pub fn overlap(
     alloc: Global,
     bytes: &[u8],

@@ -1,6 +1,6 @@
 //! Why no token begins at a place of a description: signs and numbers of other languages, and bytes of a pattern.
 //!
-//! Each error is want of memory.
+//! Each error is out of memory.
 
 use crate::found::{At, Found, plain};
 use crate::held::bytes_from;

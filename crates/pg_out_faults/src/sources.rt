@@ -1,7 +1,7 @@
 //! What is wrong with a source of the assembler: with its bytes, and with the form of a line. What its names and values mean for
 //! a machine is in `meant`.
 //!
-//! Each error is want of memory.
+//! Each error is out of memory.
 
 use crate::found::{At, Found, plain};
 use crate::held::{Held, behind_part, bytes_from, first_part, line_of};

@@ -15,7 +15,7 @@ use std::alloc::{AllocError, Global};
 /// The most statements that are told: the first, and 20 more.
 const MOST_TOLD: usize = 21;
 
-/// The statements of a description that break the table of widths; none where it cannot be read. The error is want of memory.
+/// The statements of a description that break the table of widths; none where it cannot be read.
 pub fn misfits_of(alloc: Global, bytes: &[u8]) -> Result<Misfits, AllocError> {
     match read_desc(alloc, bytes) {
         Ok(desc) => find_misfits(alloc, &desc, MOST_TOLD),
@@ -46,8 +46,7 @@ fn part_of<'t>(toks: &'t [Placed], misfit: &Misfit) -> &'t [Placed] {
     }
 }
 
-/// Where a statement breaks the table of widths, where it is the one of this number in this instruction. The error is want of
-/// memory.
+/// Where a statement breaks the table of widths, where it is the one of this number in this instruction.
 pub fn misfit_found(alloc: Global, toks: &[Placed], misfit: &Misfit) -> Result<Found, AllocError> {
     let part = part_of(toks, misfit);
     let what = Sentence::new(alloc);
@@ -63,7 +62,7 @@ pub fn misfit_found(alloc: Global, toks: &[Placed], misfit: &Misfit) -> Result<F
     }
 }
 
-/// A statement that breaks the table in a way that is not found anew. The error is want of memory.
+/// A statement that breaks the table in a way that is not found anew.
 pub fn broken_at(
     alloc: Global,
     toks: &[Placed],

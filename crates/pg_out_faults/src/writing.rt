@@ -1,6 +1,6 @@
 //! What to write in place of forms of other languages: bits of a value, and assignments to a name.
 //!
-//! Each error is want of memory.
+//! Each error is out of memory.
 
 use crate::grammar::{ends_expression, last_instr};
 use crate::near::Near;

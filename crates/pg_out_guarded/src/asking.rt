@@ -25,7 +25,7 @@ pub struct GuardedMachine {
 /// What is found of a machine over a family of kinds, with a budget of learned clauses for each question, from 1 to 1,000,000.
 ///
 /// # Errors
-/// Only for want of memory.
+/// Only for lack of memory.
 pub fn find(
     alloc: Global,
     machine: &Machine,
@@ -48,7 +48,7 @@ pub fn find(
 /// instruction, and the budget is that of `find`.
 ///
 /// # Errors
-/// Only for want of memory.
+/// Only for lack of memory.
 pub fn ask_guarded(
     alloc: Global,
     machine: &Machine,

@@ -58,7 +58,7 @@ fn breaks(marks: &[Mark]) -> bool
     }
 }
 
-/// For each instruction, whether it is shown not to be privileged and shown to be sensitive. The error is want of memory.
+/// For each instruction, whether it is shown not to be privileged and shown to be sensitive.
 pub fn broken_instrs(alloc: Global, m: &Machine, report: &Report) -> Result<Vec<bool>, AllocError>
     requires { length report.now.marks ≡ length m.now.desc.instrs * kind_count report.now.family }
     ensures { IfOk result (λ list. AreBroken report.now (length m.now.desc.instrs) list.items) }

@@ -6,7 +6,7 @@ ghost use Rattle.pg_out_guarded.specs.Guards.{guard, IsGuarded, IsGuardedIf, Are
 use pg_ast::{Desc, Expr, Instr, InstrList, Stmt, StmtList};
 use std::alloc::{AllocError, Global};
 
-/// `if mode { trap; }`. The error is want of memory.
+/// `if mode { trap; }`.
 fn guard(alloc: Global) -> Result<Stmt, AllocError>
     ensures { IfOk result (λ stmt. stmt ≡ guard) }
 {
@@ -15,7 +15,7 @@ fn guard(alloc: Global) -> Result<Stmt, AllocError>
     Ok(Stmt::If(Expr::Mode, held, None))
 }
 
-/// The statements of a body with the guard put first. The error is want of memory.
+/// The statements of a body with the guard put first.
 fn body_with_guard(alloc: Global, body: StmtList) -> Result<StmtList, AllocError>
     ensures { IfOk result (λ longer. longer ≡ guard ∷ body) }
 {
@@ -25,7 +25,7 @@ fn body_with_guard(alloc: Global, body: StmtList) -> Result<StmtList, AllocError
     Ok(longer)
 }
 
-/// An instruction with the guard put first. The error is want of memory.
+/// An instruction with the guard put first.
 fn with_guard(alloc: Global, instr: Instr) -> Result<Instr, AllocError>
     ensures { IfOk result (IsGuarded instr) }
 {
@@ -38,7 +38,7 @@ fn with_guard(alloc: Global, instr: Instr) -> Result<Instr, AllocError>
     Ok(Instr::new(name, pattern, longer))
 }
 
-/// An instruction, with the guard put first where it is to be. The error is want of memory.
+/// An instruction, with the guard put first where it is to be.
 fn with_guard_if(alloc: Global, is_marked: bool, instr: Instr) -> Result<Instr, AllocError>
     ensures { IfOk result (IsGuardedIf is_marked instr) }
 {
@@ -49,8 +49,7 @@ fn with_guard_if(alloc: Global, is_marked: bool, instr: Instr) -> Result<Instr, 
     }
 }
 
-/// The same description, but that the instructions with a mark begin with `if mode { trap; }`; there is a mark for each
-/// instruction. The error is want of memory.
+/// The same description, but that the instructions with a mark begin with `if mode { trap; }`; there is a mark for each instruction.
 pub fn guarded(alloc: Global, desc: &Desc, marks: &[bool]) -> Result<Desc, AllocError>
     requires { length marks.now ≡ length desc.now.instrs }
     ensures { IfOk result (IsGuardedDesc marks.now desc.now) }
@@ -66,8 +65,7 @@ pub fn guarded(alloc: Global, desc: &Desc, marks: &[bool]) -> Result<Desc, Alloc
     })
 }
 
-/// These instructions, those with a mark with the guard put first. There are few, so each is taken from the front. The error is
-/// want of memory.
+/// These instructions, those with a mark with the guard put first. There are few, so each is taken from the front.
 fn instrs_guarded(alloc: Global, instrs: InstrList, marks: &[bool]) -> Result<InstrList, AllocError>
     requires { length marks.now ≡ length instrs }
     ensures { IfOk result (AreGuarded marks.now instrs) }

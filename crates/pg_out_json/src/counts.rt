@@ -1,4 +1,4 @@
-//! Counts of steps. Each error is want of memory.
+//! Counts of steps. Each error is out of memory.
 
 use crate::value::{Text, push, push_number, push_string};
 use pg_mach_ready::Machine;

@@ -1,4 +1,4 @@
-//! Findings. Each error is want of memory.
+//! Findings. Each error is out of memory.
 
 use crate::list::push_lines;
 use crate::log::LogLen;

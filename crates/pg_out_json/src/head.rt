@@ -1,4 +1,4 @@
-//! How a text begins. The error is want of memory.
+//! How a text begins. The error is out of memory.
 
 use crate::value::{Text, push, push_flag, push_number, push_string};
 use pg_mach_ready::Machine;

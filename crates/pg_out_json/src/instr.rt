@@ -1,4 +1,4 @@
-//! An instruction. Each error is want of memory.
+//! An instruction. Each error is out of memory.
 
 use crate::list::push_marked;
 use crate::source::Source;

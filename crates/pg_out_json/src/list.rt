@@ -1,4 +1,4 @@
-//! Lists of strings. Each error is want of memory.
+//! Lists of strings. Each error is out of memory.
 
 use crate::value::{Text, push, push_in_string, push_string};
 use std::alloc::AllocError;

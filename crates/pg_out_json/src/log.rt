@@ -42,7 +42,7 @@ impl Logs {
         }
     }
 
-    /// Takes more of the text. The error is want of memory.
+    /// Takes more of the text.
     pub fn feed(&mut self, bytes: &[u8]) -> Result<(), AllocError> {
         for byte in bytes {
             self.take(*byte)?;
@@ -50,7 +50,7 @@ impl Logs {
         Ok(())
     }
 
-    /// Ends the text. The error is want of memory.
+    /// Ends the text.
     pub fn end(&mut self) -> Result<(), AllocError> {
         if self.is_in_finding {
             self.lens.push(self.now)?;

@@ -35,7 +35,7 @@ struct Reader {
     is_behind_head: bool,
 }
 
-/// The instructions in the text of a description. The error is want of memory.
+/// The instructions in the text of a description.
 pub fn read_sources(alloc: Global, bytes: &[u8]) -> Result<SourceList, AllocError> {
     let mut reader = Reader {
         list: Items::new(alloc),

@@ -1,4 +1,4 @@
-//! States. Each error is want of memory.
+//! States. Each error is out of memory.
 
 use crate::value::{Text, push, push_number, push_word};
 use pg_mach_ready::Machine;

@@ -30,7 +30,7 @@ impl Parts {
     }
 }
 
-/// What a body does with the mode and the window, by its text. What is no text of a body does nothing. The error is want of memory.
+/// What a body does with the mode and the window, by its text. What is no text of a body does nothing.
 pub(crate) fn touches_of(alloc: Global, body: &[u8]) -> Result<Touched, AllocError> {
     let list = match tokens(alloc, body) {
         Ok(list) => list,

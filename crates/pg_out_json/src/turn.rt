@@ -1,4 +1,4 @@
-//! One step of a run. Each error is want of memory.
+//! One step of a run. Each error is out of memory.
 
 use crate::state::push_psw;
 use crate::value::{Text, push, push_number, push_string, push_word};

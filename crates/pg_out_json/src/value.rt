@@ -1,4 +1,4 @@
-//! Values, pushed at the end of a text. Each error is want of memory.
+//! Values, pushed at the end of a text. Each error is out of memory.
 
 use pg_mach_ready::Machine;
 use pg_text::{dec, hex_word};

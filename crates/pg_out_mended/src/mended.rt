@@ -38,7 +38,7 @@ fn is_same(x: &[u8], y: &[u8]) -> bool
     x == y
 }
 
-/// That a text is not read. The error is want of memory.
+/// That a text is not read.
 fn not_read(fault: DescFault) -> Result<bool, AllocError>
     ensures { IfOk result (λ is. (is ≡ false) × (fault ≢ DescFault.Memory)) }
 {
@@ -50,7 +50,7 @@ fn not_read(fault: DescFault) -> Result<bool, AllocError>
     }
 }
 
-/// Whether a text reads as a description that is printed so, within the reader's limit. The error is want of memory.
+/// Whether a text reads as a description that is printed so, within the reader's limit.
 fn reads_as(alloc: Global, text: &[u8], desc: &Desc, laid_out: &[u8]) -> Result<bool, AllocError>
     requires printed { laid_out.now ≡ printed desc.now }
     requires reads { tokens_in laid_out.now ≡ Some (tokens_of desc.now) }
@@ -70,7 +70,7 @@ fn reads_as(alloc: Global, text: &[u8], desc: &Desc, laid_out: &[u8]) -> Result<
 /// `desc` is the mended one.
 ///
 /// # Errors
-/// Only for want of memory.
+/// Only for lack of memory.
 pub fn mended_text(
     alloc: Global,
     text: &[u8],

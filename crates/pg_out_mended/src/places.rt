@@ -17,7 +17,7 @@ fn is_pattern(tok: &Tok) -> bool
     }
 }
 
-/// Pushes the place behind a token, where that token stands behind a pattern. The error is want of memory.
+/// Pushes the place behind a token, where that token stands behind a pattern.
 fn push_place(places: &mut Vec<usize>, behind: bool, at: Span) -> Result<(), AllocError>
     ensures { OnOk result (places.new.items ≡ places.old.items ++ place_here behind at) }
 {
@@ -27,8 +27,7 @@ fn push_place(places: &mut Vec<usize>, behind: bool, at: Span) -> Result<(), All
     Ok(())
 }
 
-/// The places behind the braces that open bodies, in order: of each pattern, behind the token that follows it. The error is want of
-/// memory.
+/// The places behind the braces that open bodies, in order: of each pattern, behind the token that follows it.
 #[tactic(auto, unfolding(crate::specs::Places::body_places))]
 pub(crate) fn body_places(alloc: Global, toks: &[(Tok, Span)]) -> Result<Vec<usize>, AllocError>
     ensures { IfOk result (λ places. places.items ≡ body_places false toks.now) }
@@ -43,7 +42,7 @@ pub(crate) fn body_places(alloc: Global, toks: &[(Tok, Span)]) -> Result<Vec<usi
 }
 
 /// Pushes those of the places whose body has a mark: there are as many of both, or the shorter list ends it. A machine has few
-/// instructions. The error is want of memory.
+/// instructions.
 #[tactic(auto, unfolding(crate::specs::Places::chosen))]
 pub(crate) fn push_chosen(
     list: &mut Vec<usize>,

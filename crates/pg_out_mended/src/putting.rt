@@ -38,7 +38,7 @@ fn byte_at(text: &[u8], place: usize) -> Option<u8>
     }
 }
 
-/// Pushes the guard that is put at a place of a text. The error is want of memory.
+/// Pushes the guard that is put at a place of a text.
 #[tactic(auto, using(crate::proofs::PuttingLemmas::guard_put))]
 fn push_guard(new: &mut Vec<u8>, text: &[u8], place: usize) -> Result<(), AllocError>
     ensures { OnOk result (new.new.items ≡ new.old.items ++ guard_at text.now place) }
@@ -62,7 +62,7 @@ fn between(text: &[u8], at: usize, to: usize) -> &[u8]
     &bytes[..to.saturating_sub(at).min(bytes.len())]
 }
 
-/// A text with guards put in at these places. The error is want of memory.
+/// A text with guards put in at these places.
 #[tactic(auto, unfolding(crate::specs::Texts::with_guards))]
 fn put_guards(alloc: Global, text: &[u8], places: &[usize]) -> Result<Vec<u8>, AllocError>
     ensures { IfOk result (λ new. new.items ≡ with_guards text.now 0 places.now) }
@@ -78,8 +78,7 @@ fn put_guards(alloc: Global, text: &[u8], places: &[usize]) -> Result<Vec<u8>, A
     Ok(new)
 }
 
-/// The text of a description with guards behind the braces of the bodies with a mark; `None` where it has no tokens. The error is
-/// want of memory.
+/// The text of a description with guards behind the braces of the bodies with a mark; `None` where it has no tokens.
 pub(crate) fn with_guards(
     alloc: Global,
     text: &[u8],

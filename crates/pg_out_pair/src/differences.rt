@@ -45,7 +45,7 @@ fn differing_at(x: &Seen<'_>, y: &Seen<'_>, a: u32) -> Option<Difference>
     })
 }
 
-/// Pushes the difference at an address, if there is one. The error is want of memory.
+/// Pushes the difference at an address, if there is one.
 fn push_at(list: &mut Vec<Difference>, x: &Seen<'_>, y: &Seen<'_>, a: u32) -> Result<(), AllocError>
     requires same_length { length (seen_window x.now) ≡ length (seen_window y.now) }
     requires each { All (IsDifference (seen_window x.now) (seen_window y.now)) list.old.items }
@@ -63,7 +63,7 @@ fn push_at(list: &mut Vec<Difference>, x: &Seen<'_>, y: &Seen<'_>, a: u32) -> Re
     }
 }
 
-/// Pushes the difference at the address of a cell of the first storage, where it lies in the window. The error is want of memory.
+/// Pushes the difference at the address of a cell of the first storage, where it lies in the window.
 fn push_cell_first(
     list: &mut Vec<Difference>,
     x: &Seen<'_>,
@@ -83,7 +83,7 @@ fn push_cell_first(
     push_at(list, x, y, at - x.psw.l)
 }
 
-/// Pushes the differences at the addresses of the cells that are listed of the first storage. The error is want of memory.
+/// Pushes the differences at the addresses of the cells that are listed of the first storage.
 fn push_first(list: &mut Vec<Difference>, x: &Seen<'_>, y: &Seen<'_>) -> Result<(), AllocError>
     requires same_length { length (seen_window x.now) ≡ length (seen_window y.now) }
     requires each { All (IsDifference (seen_window x.now) (seen_window y.now)) list.old.items }
@@ -103,8 +103,7 @@ fn is_zero(x: &Seen<'_>, a: u32) -> bool
     word_at(x, a) == Some(0)
 }
 
-/// Pushes the difference at the address of a cell of the second storage, where it lies in the window and the first window holds
-/// zero there. The error is want of memory.
+/// Pushes the difference at the address of a cell of the second storage, where it lies in the window and the first window holds zero there.
 fn push_cell_second(
     list: &mut Vec<Difference>,
     x: &Seen<'_>,
@@ -128,8 +127,7 @@ fn push_cell_second(
     push_at(list, x, y, at - y.psw.l)
 }
 
-/// Pushes the differences at the addresses of the cells that are listed of the second storage, where the first window holds
-/// zero. The error is want of memory.
+/// Pushes the differences at the addresses of the cells that are listed of the second storage, where the first window holds zero.
 fn push_second(list: &mut Vec<Difference>, x: &Seen<'_>, y: &Seen<'_>) -> Result<(), AllocError>
     requires same_length { length (seen_window x.now) ≡ length (seen_window y.now) }
     requires each { All (IsDifference (seen_window x.now) (seen_window y.now)) list.old.items }
@@ -145,8 +143,8 @@ fn push_second(list: &mut Vec<Difference>, x: &Seen<'_>, y: &Seen<'_>) -> Result
     Ok(())
 }
 
-/// Where two windows of one length hold different words: first, by addresses upwards, where the first window holds a word that
-/// is not zero, and then where it holds zero. The error is want of memory.
+/// Where two windows of one length hold different words: first, by addresses upwards, where the first window holds a word that is not zero,
+/// and then where it holds zero.
 pub(crate) fn differences(
     alloc: Global,
     x: &Seen<'_>,

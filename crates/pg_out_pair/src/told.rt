@@ -39,7 +39,7 @@ pub struct Explained {
     pub differences: Vec<Difference>,
 }
 
-/// What one step makes of a state whose P is usable. The error is want of memory.
+/// What one step makes of a state whose P is usable.
 fn tell(alloc: Global, m: &Machine, s: &Sparse) -> Result<Told, AllocError>
     requires state { IsState m.now.desc (state_of s.now) }
     requires usable { IsSome (slice_get (window (state_of s.now)) s.now.psw.p) }
@@ -71,7 +71,7 @@ fn word_of(s: &Sparse) -> u64
     }
 }
 
-/// The same state in user mode. The error is want of memory.
+/// The same state in user mode.
 fn in_user(alloc: Global, s: &Sparse) -> Result<Sparse, AllocError>
     ensures { IfOk result (λ u. state_of u ≡ in_user (state_of s.now)) }
 {
@@ -96,7 +96,7 @@ fn seen<'a>(s: &Sparse, told: &'a Told) -> Seen<'a>
     }
 }
 
-/// Both states of a pair, told. The error is want of memory.
+/// Both states of a pair, told.
 fn tell_both(alloc: Global, m: &Machine, s: &Sparse, t: &Sparse) -> Result<Explained, AllocError>
     requires { IsShownPair m.now.desc (state_of s.now) (state_of t.now) }
     ensures { IfOk result (IsExplained m.now.desc (state_of s.now) (state_of t.now)) }
@@ -117,7 +117,7 @@ fn tell_both(alloc: Global, m: &Machine, s: &Sparse, t: &Sparse) -> Result<Expla
 /// they do not show it. Nothing is asked of the states, which may be of no machine; then they show nothing.
 ///
 /// # Errors
-/// Only for want of memory.
+/// Only for lack of memory.
 pub fn explain(
     alloc: Global,
     m: &Machine,

@@ -3,7 +3,7 @@
 //! A line of at most `MOST` characters is shown whole. Of a longer one at most `BEFORE` characters before the place are shown,
 //! and with those from it on `MOST`; `...` stands for what is cut off. A control character, and a byte that is of no character,
 //! is shown as `?`, and a tab as a tab, in the line of the caret too, so that the caret stands below the place. Each error is
-//! want of memory.
+//! out of memory.
 
 ghost use Rattle.std.specs.Prelude.{IsTrue};
 ghost use Rattle.pg_out_place.specs.Shown.{is_shown};

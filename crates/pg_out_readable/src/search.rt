@@ -50,7 +50,7 @@ struct Found {
 /// states that show the kind; nothing is asked of it.
 ///
 /// # Errors
-/// Only for want of memory.
+/// Only for lack of memory.
 pub fn readable(
     alloc: Global,
     machine: &Machine,
@@ -74,7 +74,7 @@ pub fn readable(
     }
 }
 
-/// The best plan that is found, made plain. The error is want of memory.
+/// The best plan that is found, made plain.
 fn best(aim: &Aim<'_>, first: &Sparse) -> Result<Option<Plan>, AllocError> {
     let Some(found) = aim.machine.desc.instrs.as_slice().get(aim.instr) else {
         return Ok(None);
@@ -101,7 +101,7 @@ fn mask(w: u32) -> u64 {
         .unwrap_or(u64::MAX)
 }
 
-/// The best of the plans that are tried. The error is want of memory.
+/// The best of the plans that are tried.
 fn searched(aim: &Aim<'_>, hint: &Hint<'_>) -> Result<Option<Found>, AllocError> {
     let mut dice = Dice::new();
     let mut best: Option<Found> = None;
@@ -220,7 +220,7 @@ fn word_of_hint(hint: &Hint<'_>, dice: &mut Dice) -> u64 {
     }
 }
 
-/// A plan made plain: shorter, with fewer words and bits, as long as it touches as many cells. The error is want of memory.
+/// A plan made plain: shorter, with fewer words and bits, as long as it touches as many cells.
 fn plainer(aim: &Aim<'_>, found: Found) -> Result<Plan, AllocError> {
     let mut plan = shorter(aim, found)?;
     for at in (0..CELLS).rev() {
@@ -229,7 +229,7 @@ fn plainer(aim: &Aim<'_>, found: Found) -> Result<Plan, AllocError> {
     Ok(plan)
 }
 
-/// The plan with the shortest window that is tried. The error is want of memory.
+/// The plan with the shortest window that is tried.
 fn shorter(aim: &Aim<'_>, found: Found) -> Result<Plan, AllocError> {
     let first = found.plan.frame.first.psw;
     let begin = first.l.min(found.plan.frame.second.psw.l);
@@ -247,7 +247,7 @@ fn shorter(aim: &Aim<'_>, found: Found) -> Result<Plan, AllocError> {
     Ok(found.plan)
 }
 
-/// Whether a plan shows the kind, and touches at least so many cells. The error is want of memory.
+/// Whether a plan shows the kind, and touches at least so many cells.
 fn keeps(aim: &Aim<'_>, least: u32, plan: &Plan) -> Result<bool, AllocError> {
     match score(aim, plan)? {
         None => Ok(false),
@@ -255,7 +255,7 @@ fn keeps(aim: &Aim<'_>, least: u32, plan: &Plan) -> Result<bool, AllocError> {
     }
 }
 
-/// The plan with the bits of a word cleared that are not wanted, the highest first. The error is want of memory.
+/// The plan with the bits of a word cleared that are not wanted, the highest first.
 fn cleared(aim: &Aim<'_>, least: u32, plan: Plan, at: usize) -> Result<Plan, AllocError>
     requires { at < 24 }
 {

@@ -48,7 +48,7 @@ pub struct ReadablePair {
     pub second: Sparse,
 }
 
-/// The words of a window that are not zero, beside their addresses. The error is want of memory.
+/// The words of a window that are not zero, beside their addresses.
 fn listed(alloc: Global, words: &Words) -> Result<Vec<(u32, u64)>, AllocError> {
     let mut cells = Vec::new(alloc);
     for (at, word) in words.iter().enumerate() {
@@ -59,7 +59,7 @@ fn listed(alloc: Global, words: &Words) -> Result<Vec<(u32, u64)>, AllocError> {
     Ok(cells)
 }
 
-/// The state of these numbers with these words in its window. The error is want of memory.
+/// The state of these numbers with these words in its window.
 fn state(alloc: Global, cells: &[(u32, u64)], extent: Extent) -> Result<Sparse, AllocError> {
     let usable = window_len(extent.psw, extent.size);
     placed(alloc, cells, usable, extent.size, extent.psw)
@@ -103,7 +103,7 @@ fn is_readable(aim: &Aim<'_>, first: &Sparse, second: &Sparse) -> bool
     replay(aim.machine, aim.instr, aim.kind, first, second)
 }
 
-/// The two states of a plan, where they show the kind and are plain. The error is want of memory.
+/// The two states of a plan, where they show the kind and are plain.
 pub(crate) fn pair_of(aim: &Aim<'_>, plan: &Plan) -> Result<Option<ReadablePair>, AllocError>
     ensures { IfOk result (λ found. IfSome found (λ pair. (i : Instr) → slice_get aim.now.machine.now.desc.instrs aim.now.instr ≡ Some i →
         IsReadable aim.now.machine.now.desc i aim.now.kind (state_of pair.first) (state_of pair.second))) }
@@ -119,7 +119,7 @@ pub(crate) fn pair_of(aim: &Aim<'_>, plan: &Plan) -> Result<Option<ReadablePair>
 }
 
 /// How many cells both steps touch, beside those of the instruction; none where the plan does not show the kind, or these cells are not
-/// others than those of the instruction and of status words. The error is want of memory.
+/// others than those of the instruction and of status words.
 pub(crate) fn score(aim: &Aim<'_>, plan: &Plan) -> Result<Option<u32>, AllocError> {
     match pair_of(aim, plan)? {
         None => Ok(None),

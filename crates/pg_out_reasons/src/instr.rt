@@ -1,4 +1,4 @@
-//! One instruction of a report. Each error is want of memory.
+//! One instruction of a report. Each error is out of memory.
 
 ghost use Rattle.std.specs.Prelude.{◌≡◌, ◌*◌, ◌<◌, length};
 ghost use Rattle.pg_cert.specs.Verdicts.{kind_count};

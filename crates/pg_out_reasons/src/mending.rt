@@ -1,4 +1,4 @@
-//! What would mend a machine. Each error is want of memory.
+//! What would mend a machine. Each error is out of memory.
 
 ghost use Rattle.std.specs.Prelude.{◌≡◌, ◌*◌, ◌≤◌, length, IfOk, IfSome};
 ghost use Rattle.pg_cert.specs.Lines.{most_budget};

@@ -1,4 +1,4 @@
-//! How two steps end, and what they leave. Each error is want of memory.
+//! How two steps end, and what they leave. Each error is out of memory.
 
 use crate::push::{Text, push, push_number, push_word};
 use crate::state::mode_name;

@@ -1,4 +1,4 @@
-//! Two states that show a kind, and what is left behind a step from each. Each error is want of memory.
+//! Two states that show a kind, and what is left behind a step from each. Each error is out of memory.
 
 use crate::outcome::{push_control, push_outcome};
 use crate::push::{Text, push, push_name};

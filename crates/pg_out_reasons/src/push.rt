@@ -1,4 +1,4 @@
-//! Pieces of a line, pushed at the end of a text. Each error is want of memory.
+//! Pieces of a line, pushed at the end of a text. Each error is out of memory.
 
 ghost use Rattle.std.specs.Prelude.{◌≤◌};
 

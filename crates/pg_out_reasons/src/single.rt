@@ -19,7 +19,7 @@ pub struct Single {
     pub says: Vec<u8>,
 }
 
-/// What two states show of a kind of an instruction; none where they do not show it. The error is want of memory.
+/// What two states show of a kind of an instruction; none where they do not show it.
 pub fn tell_single(
     alloc: Global,
     m: &Machine,

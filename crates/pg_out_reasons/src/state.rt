@@ -1,4 +1,4 @@
-//! One state, in a line or two. Each error is want of memory.
+//! One state, in a line or two. Each error is out of memory.
 
 use crate::push::{Text, push, push_name, push_number, push_word};
 use pg_asm::{decode, fields_of};

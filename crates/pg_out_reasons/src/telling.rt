@@ -38,7 +38,7 @@ pub struct Mended {
 /// where a kind alone is told.
 ///
 /// # Errors
-/// Only for want of memory.
+/// Only for lack of memory.
 pub fn tell_reasons(
     alloc: Global,
     m: &Machine,
@@ -100,8 +100,7 @@ fn is_wanted(part: Part, instr: usize, is_broken: bool) -> bool
     if is_broken { part.takes(instr) } else { false }
 }
 
-/// For each instruction, whether it is of the part, shown not to be privileged, and shown to be sensitive. The error is want of
-/// memory.
+/// For each instruction, whether it is of the part, shown not to be privileged, and shown to be sensitive.
 fn wanted(alloc: Global, m: &Machine, report: &Report, part: Part) -> Result<Vec<bool>, AllocError>
     requires { length report.now.marks ≡ length m.now.desc.instrs * kind_count report.now.family }
     ensures { IfOk result (λ marks. AreWanted report.now (length m.now.desc.instrs) marks.items) }

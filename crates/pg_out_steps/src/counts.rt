@@ -9,8 +9,8 @@ use pg_mach_ready::Machine;
 use pg_text::dec;
 use std::alloc::AllocError;
 
-/// Pushes the lines of the counts of a machine: `instr NAME N` for each instruction that was met, `no instr N` where steps fetched
-/// none, `trap (CAUSE) N` for each cause, and `steps N`. The error is want of memory.
+/// Pushes the lines of the counts of a machine: `instr NAME N` for each instruction that was met, `no instr N` where steps fetched none,
+/// `trap (CAUSE) N` for each cause, and `steps N`.
 #[tactic(auto, unfolding(crate::specs::Lines::counts_text))]
 pub fn push_counts(text: &mut Vec<u8>, m: &Machine, tally: &Tally) -> Result<(), AllocError>
     requires { length tally.now.instrs.items ≡ length m.now.desc.instrs }

@@ -1,6 +1,6 @@
 //! The line of a step.
 //!
-//! It is pushed behind what a buffer holds; `specs/Lines.antt` says its bytes. Here and below the error is want of memory.
+//! It is pushed behind what a buffer holds; `specs/Lines.antt` says its bytes. Here and below the error is out of memory.
 
 ghost use Rattle.std.specs.Prelude.{◌≡◌, ◌+◌, ◌%◌, ◌^◌, ◌<◌, ◌≤◌, ◌++◌, ◌∷◌, [], List, ℕ, length, slice_get, All, OnOk, IfSome, None, Some};
 ghost use Rattle.pg_asm.specs.Texts.{field_text, fields_text};

@@ -45,7 +45,7 @@ impl Shares {
     }
 }
 
-/// Pushes the lines of shares, `direct N` and `emulated N`. The error is want of memory.
+/// Pushes the lines of shares, `direct N` and `emulated N`.
 pub fn push_shares(text: &mut Vec<u8>, shares: &Shares) -> Result<(), AllocError>
     ensures { OnOk result (text.new.items ≡ text.old.items ++ shares_text shares.now) }
 {

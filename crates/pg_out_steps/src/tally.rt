@@ -34,7 +34,7 @@ pub struct Tally {
 }
 
 impl Tally {
-    /// The counts of no steps of a machine. The error is want of memory.
+    /// The counts of no steps of a machine.
     pub fn new(alloc: Global, m: &Machine) -> Result<Tally, AllocError>
         ensures balanced { IfOk result IsBalanced }
         ensures none { IfOk result (λ t. (s : State) → IsTally m.now.desc 0 s t) }

@@ -1,4 +1,4 @@
-//! What stands before the times. Each error is want of memory.
+//! What stands before the times. Each error is out of memory.
 
 ghost use Rattle.std.specs.Prelude.{◌≡◌, ◌<◌, ◌++◌, length, OnOk};
 ghost use Rattle.pg_out_steps.specs.Lines.{name_at};

@@ -1,4 +1,4 @@
-//! The text of a time. Each error is want of memory.
+//! The text of a time. Each error is out of memory.
 
 ghost use Rattle.std.specs.Prelude.{◌≡◌, [], ◌∷◌, ◌++◌, OnOk};
 ghost use Rattle.pg_out_vcd.specs.Values.{bits_text, change_text, changes_text, digits_text, sample_text, value_text};

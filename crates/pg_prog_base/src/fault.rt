@@ -19,7 +19,7 @@ pub enum ProofFault {
 }
 
 impl ProofFault {
-    /// The line that tells it. The error is want of memory.
+    /// The line that tells it.
     pub fn line(&self, alloc: Global) -> Result<String, AllocError> {
         match self {
             ProofFault::Long => whole(alloc, "too long"),
@@ -51,12 +51,12 @@ impl ProofFault {
     }
 }
 
-/// The line of a fault of the whole file. The error is want of memory.
+/// The line of a fault of the whole file.
 fn whole(alloc: Global, why: &str) -> Result<String, AllocError> {
     format!(in alloc; "proof: {why}\n")
 }
 
-/// The line of a fault at a place. The error is want of memory.
+/// The line of a fault at a place.
 fn at(alloc: Global, place: Place, why: &str) -> Result<String, AllocError> {
     match place {
         Place::Line(number) => format!(in alloc; "proof: line {number}: {why}\n"),

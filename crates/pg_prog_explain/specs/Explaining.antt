@@ -62,7 +62,7 @@ abbrev pub MendsOnly : Option (List ℕ) → Judged → Option Files → Option 
 MendsOnly None j was now = now ≡ was
 MendsOnly (Some name) j was now = (now ≡ was) ⊎ BothTold was now (λ old new. HoldsMended j.desc j.report name new × SameBut name old new)
 
--- by why it is not saved: nothing is touched for want of memory; else the save is counted, and may have left something under its name
+-- by why it is not saved: nothing is touched for lack of memory; else the save is counted, and may have left something under its name
 abbrev pub UnsavedAt : Option (List ℕ) → (was now : Option Files) → (saves after : ℕ) → MendFault → Type 0
 UnsavedAt mend was now saves after fault.Memory = (now ≡ was) × (after ≡ saves)
 UnsavedAt mend was now saves after fault.Unsaved = (name : List ℕ) × (mend ≡ Some name) × BothTold was now (SameBut name) × Rose saves after

@@ -109,7 +109,7 @@ fn wished(alloc: Global, request: &Request<'_>, machine: &JudgedMachine) -> Resu
     }
 }
 
-/// What is told of a machine and what is kept of its certificate. The error is want of memory.
+/// What is told of a machine and what is kept of its certificate.
 fn reasons(
     alloc: Global,
     request: &Request<'_>,

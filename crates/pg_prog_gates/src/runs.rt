@@ -27,7 +27,7 @@ pub struct Counts {
     pub cells: usize,
 }
 
-/// The counts of the circuit of an instruction, of a number below `count()`. The error is want of memory.
+/// The counts of the circuit of an instruction, of a number below `count()`.
 pub fn counted(alloc: Global, machine: &Machine, instr: usize) -> Result<Counts, AllocError>
     requires { instr < length machine.now.desc.instrs }
 {
@@ -54,8 +54,8 @@ pub fn counted(alloc: Global, machine: &Machine, instr: usize) -> Result<Counts,
     })
 }
 
-/// One run of an instruction, over cells of its machine without a write; they stay such. The error is want of memory. That
-/// registers have the widths of the machine is tested, since no type says it, and answered the same way where they have not.
+/// One run of an instruction, over cells of its machine without a write; they stay such. That registers have the widths of the machine is
+/// tested, since no type says it, and answered the same way where they have not.
 fn run(
     alloc: Global,
     machine: &Machine,

@@ -7,7 +7,7 @@ use pg_circuit::Circuit;
 use pg_vec::Bits;
 use std::alloc::{AllocError, Global};
 
-/// A string of so many new inputs, 1 to 64. The error is want of memory.
+/// A string of so many new inputs, 1 to 64.
 pub fn inputs(alloc: Global, circuit: &mut Circuit, count: u32) -> Result<Bits, AllocError> {
     let mut gates = Vec::new(alloc);
     for _ in 0..count {

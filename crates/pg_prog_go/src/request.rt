@@ -73,7 +73,7 @@ impl From<AllocError> for Untaken {
     }
 }
 
-/// What the words ask for, the program's name first; none where they are others. The error is want of memory.
+/// What the words ask for, the program's name first; none where they are others.
 pub fn asked_by(alloc: Global, words: &[String]) -> Result<Option<GoWords>, AllocError> {
     match words_of(alloc, words) {
         Ok(words) => Ok(Some(words)),
@@ -195,7 +195,7 @@ impl<'a> Draft<'a> {
         Ok(behind)
     }
 
-    /// Takes the name of a file. The error is want of memory.
+    /// Takes the name of a file.
     fn take_file(&mut self, name: &'a str) -> Result<(), AllocError> {
         self.files.push(name)?;
         Ok(())

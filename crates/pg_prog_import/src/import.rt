@@ -91,7 +91,7 @@ fn import<F: Shelf, S: Sink>(
     }
 }
 
-/// The names of the files that are read. The error is want of memory.
+/// The names of the files that are read.
 fn sources_of(alloc: Global, request: &Request<'_>) -> Result<Sources, AllocError>
     ensures desc { IfOk result (λ s. s.desc ≡ request.now.desc.now) }
     ensures cert { IfOk result (λ s. s.cert ≡ request.now.cert.now) }

@@ -119,7 +119,7 @@ fn right_finding(
     }
 }
 
-/// The line that tells what was imported. The error is want of memory.
+/// The line that tells what was imported.
 fn line_of(alloc: Global, request: &Request<'_>, finding: &Finding) -> Result<String, AllocError>
     ensures { IfOk result (λ line. string_bytes line ≡ import_line request.now.instr.now request.now.word.now finding.now) }
 {
@@ -134,14 +134,14 @@ fn line_of(alloc: Global, request: &Request<'_>, finding: &Finding) -> Result<St
     }
 }
 
-/// The line of a log of so many steps. The error is want of memory.
+/// The line of a log of so many steps.
 fn refuted_line(alloc: Global, instr: &str, word: &str, steps: usize) -> Result<String, AllocError>
     ensures { IfOk result (λ line. string_bytes line ≡ refuted_line instr.now word.now steps) }
 {
     format!(in alloc; "imported {instr} {word} refuted {steps} steps\n")
 }
 
-/// The line of two states. The error is want of memory.
+/// The line of two states.
 fn shown_line(alloc: Global, instr: &str, word: &str) -> Result<String, AllocError>
     ensures { IfOk result (λ line. string_bytes line ≡ shown_line instr.now word.now) }
 {

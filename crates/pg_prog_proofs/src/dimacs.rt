@@ -89,7 +89,7 @@ fn written_of(alloc: Global, machine: &Machine, request: &Request<'_>) -> Result
     }
 }
 
-/// The question of an instruction as text: lines of comment, and its clauses. The error is want of memory.
+/// The question of an instruction as text: lines of comment, and its clauses.
 fn written(
     alloc: Global,
     machine: &Machine,

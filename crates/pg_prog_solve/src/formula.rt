@@ -172,7 +172,7 @@ fn literal_of(code: u32) -> i32
     if code % 2 == 1 { -variable } else { variable }
 }
 
-/// One literal more. The error is want of memory.
+/// One literal more.
 fn push(literals: &mut SmallVec<i32, 3>, literal: i32) -> Result<(), AllocError>
     ensures { OnOk result (literals.new.items ≡ literals.old.items ++ literal ∷ []) }
 {

@@ -4,7 +4,7 @@ use pg_cnf::Cnf;
 use pg_proof::{Checker, ProofFault, Step};
 use std::alloc::{AllocError, Global};
 
-/// Whether a checker takes all steps, and then is closed by them or not, as it has to be. The error is want of memory.
+/// Whether a checker takes all steps, and then is closed by them or not, as it has to be.
 pub fn is_taken(
     alloc: Global,
     cnf: &Cnf,

@@ -196,7 +196,7 @@ fn put_counts<S: Sink>(
     Ok(())
 }
 
-/// Pushes the shares of a monitor, where one is named. The error is want of memory.
+/// Pushes the shares of a monitor, where one is named.
 fn push_handled(
     text: &mut Vec<u8>,
     monitor: Option<Monitor>,

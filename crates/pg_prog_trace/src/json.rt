@@ -126,7 +126,7 @@ fn put_json<S: Sink, H: Hardware>(
     )
 }
 
-/// Pushes what stands before the pieces of a run. The error is want of memory.
+/// Pushes what stands before the pieces of a run.
 fn push_begin(text: &mut Vec<u8>, plan: &Plan, monitor: Option<Monitor>) -> Result<(), AllocError> {
     push_head(text, b"pg_trace", VERSION, &plan.machine)?;
     push(text, b",\n\"grant\":")?;

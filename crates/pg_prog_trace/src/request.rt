@@ -58,7 +58,7 @@ struct Draft<'a> {
     form: Option<Written>,
 }
 
-/// What the words ask for, the program's name first; none where they are others. The error is want of memory.
+/// What the words ask for, the program's name first; none where they are others.
 pub fn asked_by(alloc: Global, words: &[String]) -> Result<Option<TraceWords>, AllocError> {
     match draft_of(words) {
         Some(draft) => whole(alloc, draft),

@@ -23,7 +23,7 @@ use pg_routine::emulate_seen;
 use std::alloc::AllocError;
 
 /// The part of a planned run that is done, where something ends it; all of it where nothing does. What the hardware holds then means
-/// nothing. The error is want of memory for its cells, and then no step was done.
+/// nothing. The error is out of memory for its cells, and then no step was done.
 pub fn part_of<H: Hardware>(
     plan: Plan,
     until: Option<Until>,
@@ -49,7 +49,7 @@ pub fn part_of<H: Hardware>(
     })
 }
 
-/// How many steps of a planned run are done. The error is want of memory for its cells.
+/// How many steps of a planned run are done. The error is out of memory for its cells.
 fn steps_of<H: Hardware>(plan: &Plan, until: Option<Until>, hw: &mut H) -> Result<u64, AllocError>
     requires serves { (d : Desc) → IsValid d → H.serves (H.fixed hw.old) d }
     requires room { 1048575 ≤ H.room (H.fixed hw.old) }
@@ -63,7 +63,7 @@ fn steps_of<H: Hardware>(plan: &Plan, until: Option<Until>, hw: &mut H) -> Resul
     }
 }
 
-/// How many are done until something ends it. The error is want of memory for its cells.
+/// How many are done until something ends it. The error is out of memory for its cells.
 fn steps_until<H: Hardware>(plan: &Plan, until: Until, hw: &mut H) -> Result<u64, AllocError>
     requires serves { (d : Desc) → IsValid d → H.serves (H.fixed hw.old) d }
     requires room { 1048575 ≤ H.room (H.fixed hw.old) }

@@ -204,7 +204,7 @@ unfolding fault_of
 valid_within variables held step valid =
     AreWithin-ascending variables 0 step.lits (checked (are_ascending variables 0 step.lits) (walk held (negations step.lits) step.hints) valid).0
 
--- no step is at fault for want of memory
+-- no step is at fault for lack of memory
 told_reading : (r : Reading) (last : Bool) (go : ℤ → Option ProofFault) (f : ProofFault) →
     ((z : ℤ) → go z ≡ Some f → told {A = ℕ} (Err f) ≡ Some f) → at_reading r last go ≡ Some f → told {A = ℕ} (Err f) ≡ Some f
 told_reading Falsified true go f down e = cc

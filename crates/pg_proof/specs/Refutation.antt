@@ -41,7 +41,7 @@ unfoldable pub fault_of : ℕ → List (Option (List ℤ)) → Step → Option P
 fault_of variables held step =
     (if are_ascending variables 0 step.lits then walk held (negations step.lits) step.hints else Some UnknownLit)
 
--- the fault that an answer tells of a step. Want of memory comes to valid steps alone, and tells none
+-- the fault that an answer tells of a step. Lack of memory comes to valid steps alone, and tells none
 abbrev pub told : {A : Type 0} → Result A ProofFault → Option ProofFault
 told (Ok a) = None
 told (Err UnknownLit) = Some UnknownLit

@@ -51,8 +51,8 @@ impl Model for Checker {
 }
 
 impl Checker {
-    /// A checker of a question: its clauses are held, in order, under the numbers from 1 on. Steps may use the variables up
-    /// to the greatest that stands in one of them. The clauses are copied. The error is want of memory.
+    /// A checker of a question: its clauses are held, in order, under the numbers from 1 on. Steps may use the variables up to the greatest
+    /// that stands in one of them. The clauses are copied.
     pub fn new(alloc: Global, cnf: &Cnf) -> Result<Checker, AllocError>
         ensures state { IfOk result (λ checker. checker ≡ begun cnf.now.clauses) }
         ensures sound { IfOk result (λ checker. IsSound cnf.now.clauses checker) }

@@ -32,7 +32,7 @@ pub struct Hung {
     pub made: bool,
 }
 
-/// So many lists, which are not made yet, with room for so many clauses. The error is want of memory.
+/// So many lists, which are not made yet, with room for so many clauses.
 pub fn no_lists(alloc: Global, places: usize, clauses: usize) -> Result<Hung, AllocError>
     ensures heads { IfOk result (λ hung. hung.heads.items ≡ replicate places 0) }
     ensures links { IfOk result (λ hung. hung.links.items ≡ replicate clauses 0) }
@@ -47,7 +47,7 @@ pub fn no_lists(alloc: Global, places: usize, clauses: usize) -> Result<Hung, Al
     })
 }
 
-/// So many zeros. The error is want of memory.
+/// So many zeros.
 fn zeros(alloc: Global, places: usize) -> Result<Vec<u32>, AllocError>
     ensures { IfOk result (λ numbers. numbers.items ≡ replicate places 0) }
 {
@@ -77,7 +77,7 @@ fn hang(hung: &mut Hung, place: usize, number: u32)
     hung.heads[place] = number;
 }
 
-/// Sees to it that there is a link for one clause more than there are. The error is want of memory, and the lists stay.
+/// Sees to it that there is a link for one clause more than there are. The error is out of memory, and the lists stay.
 fn make_link(hung: &mut Hung, clauses: usize) -> Result<(), AllocError>
     requires { clauses ≤ length hung.old.links.items }
     ensures room { OnOk result (clauses < length hung.new.links.items) }
@@ -93,7 +93,7 @@ fn make_link(hung: &mut Hung, clauses: usize) -> Result<(), AllocError>
     Ok(())
 }
 
-/// A clause of these literals more, at the end, which hangs at its home. The error is want of memory, and the clauses stay.
+/// A clause of these literals more, at the end, which hangs at its home. The error is out of memory, and the clauses stay.
 pub fn hold(clauses: &mut Store, hung: &mut Hung, literals: &[i32]) -> Result<(), AllocError>
     requires room { length clauses.old + 1 < 2 ^ 32 }
     requires home { home literals.now < length hung.old.heads.items }

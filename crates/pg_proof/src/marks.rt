@@ -28,7 +28,7 @@ impl Model for Marks {
 }
 
 impl Marks {
-    /// So many flags, all down. The error is want of memory.
+    /// So many flags, all down.
     pub fn new(alloc: Global, places: usize) -> Result<Marks, AllocError>
         ensures { IfOk result (λ marks. marks ≡ replicate places false) }
     {
@@ -72,7 +72,7 @@ impl Marks {
         self.stamps[place] = self.stamp;
     }
 
-    /// A flag more, which is down. The error is want of memory, and the flags stay.
+    /// A flag more, which is down. The error is out of memory, and the flags stay.
     pub fn grow(&mut self) -> Result<(), AllocError>
         ensures ok { OnOk result (self.new ≡ self.old ++ false ∷ []) }
         ensures err { OnErr result (self.new ≡ self.old) }
@@ -92,7 +92,7 @@ pub fn is_up(flags: &Marks, place: usize) -> bool
     false
 }
 
-/// So many zeros. The error is want of memory.
+/// So many zeros.
 fn zeros(alloc: Global, places: usize) -> Result<Vec<u64>, AllocError>
     ensures { IfOk result (λ stamps. stamps.items ≡ replicate places 0) }
 {

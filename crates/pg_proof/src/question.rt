@@ -7,7 +7,7 @@ use crate::store::Store;
 use pg_cnf::Clause;
 use std::alloc::{AllocError, Global};
 
-/// A copy of each clause. The error is want of memory.
+/// A copy of each clause.
 pub fn copies(alloc: Global, clauses: &[Clause]) -> Result<Store, AllocError>
     ensures { IfOk result (λ made. made ≡ map Some clauses.now) }
 {

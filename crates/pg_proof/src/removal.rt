@@ -11,7 +11,7 @@ use crate::marks::Marks;
 use crate::store::{Store, clause_at};
 use std::alloc::AllocError;
 
-/// Sees to it that there is a flag for one clause more than there are. The error is want of memory; no flag is lost.
+/// Sees to it that there is a flag for one clause more than there are. The error is out of memory; no flag is lost.
 pub fn make_room(flags: &mut Marks, clauses: usize) -> Result<(), AllocError>
     requires { clauses ≤ length flags.old }
     ensures room { OnOk result (clauses < length flags.new) }

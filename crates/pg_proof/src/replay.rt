@@ -13,7 +13,7 @@ use pg_cnf::Cnf;
 use std::alloc::{AllocError, Global};
 
 /// Whether a log is closed: every act is accepted, and a step has the empty clause. Then no assignment makes all clauses of
-/// the question true. The error is want of memory, and says nothing of the log.
+/// the question true. The error is out of memory, and says nothing of the log.
 ///
 /// It costs the length of the question, and of the log with its hints' clauses.
 pub fn is_refutation(alloc: Global, cnf: &Cnf, acts: &[Act]) -> Result<bool, AllocError>

@@ -31,7 +31,7 @@ pub enum Act {
     Remove(HintList),
 }
 
-/// Why a step is refused, or a removal: the first fault in the order in which they are looked at, or want of memory.
+/// Why a step is refused, or a removal: the first fault in the order in which they are looked at, or out of memory.
 #[derive(Debug, PartialEq, Eq, Drop, Error)]
 pub enum ProofFault {
     /// A literal of the step is 0, of a variable that no clause of the question has, or does not ascend.

@@ -67,7 +67,7 @@ impl Store {
         self.spans.len()
     }
 
-    /// A clause of these literals more, at the end. The error is want of memory, and all stays.
+    /// A clause of these literals more, at the end. The error is out of memory, and all stays.
     pub fn push(&mut self, literals: &[i32]) -> Result<(), AllocError>
         ensures ok { OnOk result (self.new ≡ self.old ++ Some literals.now ∷ []) }
         ensures err { OnErr result (self.new ≡ self.old) }
@@ -87,8 +87,7 @@ impl Store {
         self.spans[place] = None;
     }
 
-    /// Frees what clauses that were taken away leave, where that is more than all else. The error is want of memory. The clauses
-    /// stay.
+    /// Frees what clauses that were taken away leave, where that is more than all else. The clauses stay.
     fn squeeze(&mut self) -> Result<(), AllocError>
         ensures { self.new ≡ self.old }
     {
@@ -101,7 +100,7 @@ impl Store {
         Ok(())
     }
 
-    /// A clause of these literals more, whatever is spare. The error is want of memory, and all stays.
+    /// A clause of these literals more, whatever is spare. The error is out of memory, and all stays.
     fn append(&mut self, literals: &[i32]) -> Result<(), AllocError>
         ensures ok { OnOk result (self.new ≡ self.old ++ Some literals.now ∷ []) }
         ensures err { OnErr result (self.new ≡ self.old) }
@@ -116,7 +115,7 @@ impl Store {
         }
     }
 
-    /// A clause of these literals more, or a number whose clause is not held. The error is want of memory, and all stays.
+    /// A clause of these literals more, or a number whose clause is not held. The error is out of memory, and all stays.
     fn append_held(&mut self, clause: Option<&[i32]>) -> Result<(), AllocError>
         ensures ok { OnOk result (self.new ≡ self.old ++ option_copied clause.entry ∷ []) }
         ensures err { OnErr result (self.new ≡ self.old) }
@@ -127,7 +126,7 @@ impl Store {
         }
     }
 
-    /// A number more, whose clause is not held. The error is want of memory, and all stays.
+    /// A number more, whose clause is not held. The error is out of memory, and all stays.
     fn append_none(&mut self) -> Result<(), AllocError>
         ensures ok { OnOk result (self.new ≡ self.old ++ None ∷ []) }
         ensures err { OnErr result (self.new ≡ self.old) }
@@ -147,7 +146,7 @@ fn length_of(span: Option<Span>) -> usize
     }
 }
 
-/// The same clauses, in a list that has no others. The error is want of memory.
+/// The same clauses, in a list that has no others.
 fn copy_of(alloc: Global, store: &Store) -> Result<Store, AllocError>
     ensures { IfOk result (λ made. made ≡ store.now) }
 {

@@ -26,8 +26,7 @@ fn name(flags: &mut Marks, question: usize, hint: u32) -> bool
     question < place && !known
 }
 
-/// The hints that name a step's clause and whose flags are down, each once; after it the flags of all hints are up. The
-/// error is want of memory.
+/// The hints that name a step's clause and whose flags are down, each once; after it the flags of all hints are up.
 fn fresh_hints(
     alloc: Global,
     question: usize,
@@ -62,7 +61,7 @@ fn ascending(mut numbers: Vec<u32>) -> HintList
     HintList::from_vec(numbers)
 }
 
-/// Adds a removal to acts that are made backward, if there are acts and numbers. The error is want of memory.
+/// Adds a removal to acts that are made backward, if there are acts and numbers.
 fn push_removal(made: &mut Vec<Act>, gone: HintList) -> Result<(), AllocError>
     ensures { OnOk result (made.new.items ≡ with_removal made.old.items gone) }
 {
@@ -73,8 +72,7 @@ fn push_removal(made: &mut Vec<Act>, gone: HintList) -> Result<(), AllocError>
     Ok(())
 }
 
-/// Adds an act to acts that are made backward, and a removal between of what it is the last to name. The error is want of
-/// memory.
+/// Adds an act to acts that are made backward, and a removal between of what it is the last to name.
 fn push_act(
     alloc: Global,
     question: usize,
@@ -93,10 +91,8 @@ fn push_act(
     Ok(())
 }
 
-/// Acts with each step's clause taken away behind the act that names it last, but none behind the last act. The error is
-/// want of memory.
-///
-/// It costs the length of the log, and the sorting of what each act is the last to name.
+/// Acts with each step's clause taken away behind the act that names it last, but none behind the last act. It costs the length of the log,
+/// and the sorting of what each act is the last to name.
 pub fn tidied(alloc: Global, question: usize, acts: Vec<Act>) -> Result<Vec<Act>, AllocError>
     requires { question + length acts.items + 1 < 2 ^ 32 }
     ensures { IfOk result (λ made. made.items ≡ tidied question (question + length acts.items + 1) acts.items) }

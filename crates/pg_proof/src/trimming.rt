@@ -67,7 +67,7 @@ fn new_number(question: usize, numbers: &[u32], hint: u32) -> u32
     }
 }
 
-/// Hints under the numbers of the log that is kept. The error is want of memory.
+/// Hints under the numbers of the log that is kept.
 fn renumbered_hints(
     alloc: Global,
     question: usize,
@@ -83,7 +83,7 @@ fn renumbered_hints(
     Ok(made)
 }
 
-/// A step with such hints. The error is want of memory.
+/// A step with such hints.
 fn renumbered(
     alloc: Global,
     question: usize,
@@ -130,8 +130,7 @@ fn raise_hints(flags: &mut Marks, number: usize, step: &Step)
     raise(flags, step.hints.as_slice());
 }
 
-/// The clauses, by their numbers, that the last step of some acts is made of: its own, and each that a hint of one of them
-/// names. The error is want of memory.
+/// The clauses, by their numbers, that the last step of some acts is made of: its own, and each that a hint of one of them names.
 fn used_clauses(alloc: Global, question: usize, acts: &[Act]) -> Result<Marks, AllocError>
     requires few { question + length acts.now + 1 < 2 ^ 32 }
     requires earlier { AreEarlier question acts.now }
@@ -156,8 +155,7 @@ fn used_clauses(alloc: Global, question: usize, acts: &[Act]) -> Result<Marks, A
     Ok(flags)
 }
 
-/// Keeps an act, if it is a step whose clause is used, with its hints under the new numbers; what it was given as a number is
-/// noted. The error is want of memory.
+/// Keeps an act, if it is a step whose clause is used, with its hints under the new numbers; what it was given as a number is noted.
 fn keep(
     alloc: Global,
     question: usize,
@@ -202,7 +200,7 @@ struct Draft {
     numbers: Vec<u32>,
 }
 
-/// What is kept of the acts of a log before the one at a place. The error is want of memory.
+/// What is kept of the acts of a log before the one at a place.
 fn kept_before(
     alloc: Global,
     cnf: &Cnf,
@@ -227,8 +225,7 @@ fn kept_before(
     Ok(Draft { made, numbers })
 }
 
-/// The steps of a closed log that its empty clause is made of, with their hints under the numbers that are left. The error is
-/// want of memory.
+/// The steps of a closed log that its empty clause is made of, with their hints under the numbers that are left.
 fn picked(alloc: Global, cnf: &Cnf, acts: &[Act]) -> Result<Vec<Act>, AllocError>
     requires closed { IsClosedLog cnf.now.clauses acts.now }
     requires few { length cnf.now.clauses + length acts.now + 1 < 2 ^ 32 }
@@ -246,14 +243,11 @@ fn picked(alloc: Global, cnf: &Cnf, acts: &[Act]) -> Result<Vec<Act>, AllocError
     Ok(made)
 }
 
-/// A closed log without the steps that its empty clause is not made of. Each step that is kept has the same literals, and its
-/// hints name the same clauses under the numbers that are left. The last act adds the empty clause, and each other step is a
-/// hint of a later one. Behind the step that names it last its clause is taken away, so that where a step is added, those
-/// clauses of steps are held that are hints of it or of a later one; the hints of the last act stay. A removal has a number at
-/// least, its numbers ascend, and none is that of a clause of the question. It is a closed log of this question too. The error
-/// is want of memory.
-///
-/// It costs the length of the log, and the sorting of each removal.
+/// A closed log without the steps that its empty clause is not made of. Each step that is kept has the same literals, and its hints name
+/// the same clauses under the numbers that are left. The last act adds the empty clause, and each other step is a hint of a later one.
+/// Behind the step that names it last its clause is taken away, so that where a step is added, those clauses of steps are held that are
+/// hints of it or of a later one; the hints of the last act stay. A removal has a number at least, its numbers ascend, and none is that of
+/// a clause of the question. It is a closed log of this question too. It costs the length of the log, and the sorting of each removal.
 pub fn trim(alloc: Global, cnf: &Cnf, acts: &[Act]) -> Result<ActList, AllocError>
     requires closed { IsClosedLog cnf.now.clauses acts.now }
     requires few { length cnf.now.clauses + length acts.now + 1 < 2 ^ 32 }

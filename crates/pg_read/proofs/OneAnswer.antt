@@ -216,7 +216,7 @@ deep-due (Err f) end place h = absurd h
 short : (text : List ℕ) (x : Result Desc DescFault) → length text ≤ most_desc_bytes → x ≡ cut_due (cut text) (length text) → x ≡ answer_due text
 short text x h e = rw (le-ltb most_desc_bytes (length text) h) e
 
--- an answer that is not for want of memory is the one that is due
+-- an answer that is not for lack of memory is the one that is due
 pub answer_is_due : (text : List ℕ) (x : Result Desc DescFault) → x ≢ Err Memory → IsAnswer text x → x ≡ answer_due text
 answer_is_due text (Ok d) known h = short text (Ok d) h.0 (ok-due (cut text) (length text) d h.1)
 answer_is_due text (Err Long) known h = rw (lt-ltb most_desc_bytes (length text) h) refl

@@ -1,7 +1,7 @@
 //! Why a description was not read.
 //!
 //! `DescFault` goes out to the caller of `read_desc`, with the place. `Stop` is what the functions that make trees answer
-//! each other: whether the tokens begin with the part that is asked for, and no place, which `judge` finds. In both, want of
+//! each other: whether the tokens begin with the part that is asked for, and no place, which `judge` finds. In both, lack of
 //! memory has a variant of its own, so that it is never taken for a fault of the text.
 
 ghost use Rattle.std.specs.Prelude.{◌≡◌};

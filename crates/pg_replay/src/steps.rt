@@ -15,7 +15,7 @@ use pg_mach_ready::Machine;
 use pg_word::{Cause, NEW_PSW_CELL, OLD_PSW_CELL, Sparse, pack_trap, unpack};
 use std::alloc::{AllocError, Global};
 
-/// One step of a machine: why it trapped, none where it was done, and the state that follows. The error is want of memory.
+/// One step of a machine: why it trapped, none where it was done, and the state that follows.
 pub fn after(alloc: Global, m: &Machine, s: &Sparse) -> Result<(Option<Cause>, Sparse), AllocError>
     requires { IsState m.now.desc (state_of s.now) }
     ensures cause { IfOk result (λ r. r.0 ≡ cause_of (ending m.now.desc (window (state_of s.now)) s.now.psw)) }
@@ -29,7 +29,7 @@ pub fn after(alloc: Global, m: &Machine, s: &Sparse) -> Result<(Option<Cause>, S
     }
 }
 
-/// A step that traps. The error is want of memory.
+/// A step that traps.
 fn trap(
     alloc: Global,
     m: &Machine,
@@ -47,7 +47,7 @@ fn trap(
     Ok((Some(cause), state))
 }
 
-/// A step that is done. The error is want of memory.
+/// A step that is done.
 fn done(alloc: Global, s: &Sparse, effect: &Effect) -> Result<(Option<Cause>, Sparse), AllocError>
     requires { All (λ w. w.at < length (window (state_of s.now))) effect.now.writes }
     ensures cause { IfOk result (λ r. r.0 ≡ None) }

@@ -14,7 +14,7 @@ use pg_interp::Write;
 use pg_word::{CellList, Sparse};
 use std::alloc::{AllocError, Global};
 
-/// Pushes a cell, or does not. The error is want of memory.
+/// Pushes a cell, or does not.
 fn push_if(state: &mut Sparse, kept: bool, at: u32, word: u64) -> Result<(), AllocError>
     requires within { at < state.old.size }
     requires past_last { IsTrue kept → IsPastLast state.old.cells at }
@@ -33,7 +33,7 @@ fn is_between(from: u64, to: u64, at: u32) -> bool
     from <= u64::from(at) && u64::from(at) < to
 }
 
-/// Pushes the cells of a list whose addresses are from the first on, and below the second. The error is want of memory.
+/// Pushes the cells of a list whose addresses are from the first on, and below the second.
 fn push_between(
     state: &mut Sparse,
     cells: &[(u32, u64)],
@@ -56,7 +56,7 @@ fn push_between(
 /// The addresses of all cells are below it.
 const PAST_ALL: u64 = 1 << 32;
 
-/// A state with a word at an address, and all else as it was. The error is want of memory.
+/// A state with a word at an address, and all else as it was.
 pub fn stored(alloc: Global, s: &Sparse, at: u32, word: u64) -> Result<Sparse, AllocError>
     requires { at < s.now.size }
     ensures cells { IfOk result (λ t. (state_of t).cells ≡ slice_set (state_of s.now).cells at word) }
@@ -70,7 +70,7 @@ pub fn stored(alloc: Global, s: &Sparse, at: u32, word: u64) -> Result<Sparse, A
     Ok(state)
 }
 
-/// The same state once more. The error is want of memory.
+/// The same state once more.
 fn copied(alloc: Global, s: &Sparse) -> Result<Sparse, AllocError>
     ensures same { IfOk result (λ t. t ≡ s.now) }
     ensures size { OnOk result (s.now.size < 2 ^ 32) }
@@ -79,7 +79,7 @@ fn copied(alloc: Global, s: &Sparse) -> Result<Sparse, AllocError>
     Ok(Sparse::new(s.size, s.psw, CellList::from_vec(cells)))
 }
 
-/// A state after stores into its window, made in order. The error is want of memory.
+/// A state after stores into its window, made in order.
 pub fn after_stores(alloc: Global, s: &Sparse, writes: &[Write]) -> Result<Sparse, AllocError>
     requires { All (λ w. w.at < length (window (state_of s.now))) writes.now }
     ensures cells { IfOk result (λ t. (state_of t).cells ≡ put_back (state_of s.now) (written writes.now (window (state_of s.now)))) }

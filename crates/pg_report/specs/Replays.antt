@@ -78,7 +78,7 @@ AreMarkStates d (Shown s t) = IsState d (state_of s) × IsState d (state_of t)
 AreMarkStates d (Spent k) = ⊤
 
 -- what a call that puts this piece and takes memory for it does to the bytes so far and to the count of faults: as *Puts*,
--- but that want of memory is no fault of the sink
+-- but that lack of memory is no fault of the sink
 pub record PutsOrStarves {T : Type 0} (was now : Option (List ℕ)) (before after : ℕ) (piece : List ℕ) (result : Result T ReplayFault) : Type 0 where
   pub whole : OnOk result (BothTold was now (Adds piece))
   pub front : OnErr result (BothTold was now (AddsFront piece))

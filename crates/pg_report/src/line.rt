@@ -1,7 +1,7 @@
 //! Why a command is refused, as it is told.
 //!
 //! `pg_tool` makes these of the faults of the readers and of `check`, and of what it finds itself. They hold what a line
-//! says; how it is written is in `refusal` and in `specs/Texts.antt`. Want of memory has no line, and is no variant here. A
+//! says; how it is written is in `refusal` and in `specs/Texts.antt`. Lack of memory has no line, and is no variant here. A
 //! name is owned, since the description that it comes from is gone when the line is put: the one part that takes memory.
 
 use pg_lang_valid::{Limit, WidthClash};

@@ -70,7 +70,7 @@ impl<'m> Ran<'m> {
 /// shorter where need be. A slice is one burst of the hardware as long as its steps are direct.
 ///
 /// # Errors
-/// Only for want of memory, and then no turn was made: the hardware is as it was, installed, or some images are loaded.
+/// Only for lack of memory, and then no turn was made: the hardware is as it was, installed, or some images are loaded.
 pub fn run_guests<'m, H: Hardware>(
     alloc: Global,
     accepted: Accepted<'m>,
@@ -104,7 +104,7 @@ pub fn run_guests<'m, H: Hardware>(
 /// is touched. A slice is one burst of the hardware as long as its steps are direct.
 ///
 /// # Errors
-/// Only for want of memory, and then no turn was made: the hardware is as it was, installed, or the state is loaded.
+/// Only for lack of memory, and then no turn was made: the hardware is as it was, installed, or the state is loaded.
 pub fn run_state<'m, H: Hardware>(
     alloc: Global,
     accepted: Accepted<'m>,

@@ -22,7 +22,7 @@ use std::alloc::{AllocError, Global};
 /// and none has had a turn.
 ///
 /// # Errors
-/// Only for want of memory: the hardware is as it was, installed, or some images are loaded.
+/// Only for lack of memory: the hardware is as it was, installed, or some images are loaded.
 pub fn start<'m, H: Hardware>(
     alloc: Global,
     accepted: Accepted<'m>,

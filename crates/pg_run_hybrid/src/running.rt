@@ -62,7 +62,7 @@ impl<'m> HybridRan<'m> {
 /// the hardware.
 ///
 /// # Errors
-/// Only for want of memory, and then no turn was made: the hardware is as it was, installed, or some images are loaded.
+/// Only for lack of memory, and then no turn was made: the hardware is as it was, installed, or some images are loaded.
 pub fn run_hybrid<'m, H: Hardware>(
     alloc: Global,
     accepted: HybridAccepted<'m>,

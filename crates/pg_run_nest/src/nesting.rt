@@ -216,7 +216,7 @@ fn in_depth<K: Hardware>(
 /// each other on the guest of the one below it, and the image is the guest of the innermost, of as many cells as it has words.
 ///
 /// # Errors
-/// Only for want of memory, and then no step was done: the hardware's counts of steps are as they were. Its state may have been
+/// Only for lack of memory, and then no step was done: the hardware's counts of steps are as they were. Its state may have been
 /// set up, for some of the monitors.
 pub fn nest<H: Hardware>(
     alloc: Global,

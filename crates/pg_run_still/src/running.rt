@@ -63,7 +63,7 @@ impl<'m> Rested<'m> {
 /// 2 on, and is switched on in it. A slice is one burst of the hardware as long as its steps are direct.
 ///
 /// # Errors
-/// Only for want of memory, and then no turn was made: the hardware is as it was, installed, or some images are loaded.
+/// Only for lack of memory, and then no turn was made: the hardware is as it was, installed, or some images are loaded.
 pub fn run_until_still<'m, H: Settling>(
     alloc: Global,
     accepted: Accepted<'m>,

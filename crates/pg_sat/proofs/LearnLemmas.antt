@@ -67,7 +67,7 @@ none_false (x ∷ xs) h = absurd (let e = h x (has-first x xs) in cc)
 pub empty_learned : (variables : ℕ) (cs : List (List ℤ)) (step : Step) → AreClauses variables cs → IsLearnedWithin variables cs [] step → step.lits ≡ []
 empty_learned variables cs step are h = none_false step.lits (h variables (omega arith) (held_within variables cs are)).cut.are_false
 
--- answers that may be want of memory
+-- answers that may be out of memory
 pub if_ok : (r : Result Step AllocError) (P Q : Step → Type 0) → IfOk r P → ((step : Step) → P step → Q step) → IfOk r Q
 if_ok (Ok step) P Q h f = f step h
 if_ok (Err e) P Q h f = h

@@ -120,7 +120,7 @@ started question variables cs s t few are e v none extends =
       levels = λ d a. absurd (let lt = slice_get_within s.reasons d None (assigned_before s t extends d a) in omega (arith, lt, ap length none));
     })
 
--- answers that may be want of memory
+-- answers that may be out of memory
 pub if_done : (r : Result Fix AllocError) (P Q : Type 0) → OnOk r P → (P → Q) → OnOk r Q
 if_done (Ok x) P Q h f = f h
 if_done (Err x) P Q h f = h

@@ -17,7 +17,7 @@ use pg_watch::{Fix, Watches};
 use smallvec::SmallVec;
 use std::alloc::{AllocError, Global};
 
-/// The clause of some literals. The error is want of memory.
+/// The clause of some literals.
 pub fn clause_of(alloc: Global, lits: &[i32]) -> Result<Clause, AllocError>
     requires { IsClause 2147483647 lits.now }
     ensures { IfOk result (λ clause. clause ≡ lits.now) }
@@ -36,7 +36,7 @@ struct Lesson {
     jump: usize,
 }
 
-/// Learns from a conflict where a literal was assigned: the step goes to the log. The error is want of memory.
+/// Learns from a conflict where a literal was assigned: the step goes to the log.
 fn log_step(
     alloc: Global,
     cnf: &Cnf,
@@ -60,8 +60,8 @@ fn log_step(
     Ok(Lesson { clause, jump })
 }
 
-/// Learns from a conflict where a literal was assigned: the step goes to the log, the trail is cut, the clause is held, and
-/// what follows is set. The error is want of memory.
+/// Learns from a conflict where a literal was assigned: the step goes to the log, the trail is cut, the clause is held, and what follows is
+/// set.
 pub fn back(
     alloc: Global,
     cnf: &Cnf,
@@ -89,7 +89,7 @@ pub fn back(
     watches.settle()
 }
 
-/// Tells a guide which literals get unset where the trail is cut at a place. The error is want of memory.
+/// Tells a guide which literals get unset where the trail is cut at a place.
 fn free_from(watches: &Watches, jump: usize, guide: &mut Guide) -> Result<(), AllocError>
     requires { jump < length watches.now.trail.literals }
 {

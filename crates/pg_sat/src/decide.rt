@@ -108,8 +108,8 @@ fn is_set(watches: &Watches, variable: u32) -> bool
     }
 }
 
-/// The assignment that a trail is on which each variable is set, and nothing is left to propagate: it makes all clauses
-/// true. Place v - 1 has the value of variable v. The error is want of memory.
+/// The assignment that a trail is on which each variable is set, and nothing is left to propagate: it makes all clauses true. Place v - 1
+/// has the value of variable v.
 pub fn assignment_of(
     alloc: Global,
     watches: &Watches,

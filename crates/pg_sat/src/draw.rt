@@ -11,7 +11,7 @@ use std::alloc::{AllocError, Global};
 /// How many variables are looked at together.
 const BLOCK: u32 = 32;
 
-/// Adds the literal of a variable whose flag is up, if one is. The error is want of memory.
+/// Adds the literal of a variable whose flag is up, if one is.
 fn push_literal(flags: &Flags, variable: u32, literals: &mut LitList) -> Result<(), AllocError>
     requires positive { 0 < variable }
     requires small { variable < 2 ^ 31 }
@@ -29,8 +29,7 @@ fn push_literal(flags: &Flags, variable: u32, literals: &mut LitList) -> Result<
     Ok(())
 }
 
-/// Adds the literals of some variables whose flags are up, ascending: from one variable to before another. The error is want of
-/// memory.
+/// Adds the literals of some variables whose flags are up, ascending: from one variable to before another.
 fn push_literals(
     flags: &Flags,
     first: u32,
@@ -49,7 +48,7 @@ fn push_literals(
     Ok(())
 }
 
-/// The same, and where none of their flags is up they are passed over at once. The error is want of memory.
+/// The same, and where none of their flags is up they are passed over at once.
 #[tactic(auto, using(crate::proofs::Drawn::passed_over))]
 fn push_block(flags: &Flags, first: u32, end: u32, literals: &mut LitList) -> Result<(), AllocError>
     requires positive { 0 < first }
@@ -78,7 +77,7 @@ fn end_of(first: u32, variables: u32) -> u32
     }
 }
 
-/// The literals whose flags are up, ascending by variable. It costs the number of variables. The error is want of memory.
+/// The literals whose flags are up, ascending by variable. It costs the number of variables.
 fn literals_up(alloc: Global, flags: &Flags, variables: u32) -> Result<LitList, AllocError>
     requires small { variables < 2 ^ 31 }
     requires places { length flags.now ≡ 2 * variables + 2 }
@@ -95,7 +94,7 @@ fn literals_up(alloc: Global, flags: &Flags, variables: u32) -> Result<LitList, 
     LitList::from_slice(alloc, literals.as_slice())
 }
 
-/// The numbers in the other order. The error is want of memory.
+/// The numbers in the other order.
 fn reversed(alloc: Global, hints: &[u32]) -> Result<HintList, AllocError>
     ensures { IfOk result (λ made. made ≡ reverse hints.now) }
 {
@@ -103,8 +102,7 @@ fn reversed(alloc: Global, hints: &[u32]) -> Result<HintList, AllocError>
     Ok(HintList::from_vec(made))
 }
 
-/// The step that a trace shows: the literals whose flags are up, and the hints in the order in which they are used. The error
-/// is want of memory.
+/// The step that a trace shows: the literals whose flags are up, and the hints in the order in which they are used.
 pub fn step_of(alloc: Global, trace: &Trace, variables: u32) -> Result<Step, AllocError>
     requires small { variables < 2 ^ 31 }
     requires places { length trace.now.flags ≡ 2 * variables + 2 }

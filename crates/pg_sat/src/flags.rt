@@ -59,7 +59,7 @@ impl Model for Flags {
 }
 
 impl Flags {
-    /// All down, for so many variables. The error is want of memory.
+    /// All down, for so many variables.
     pub fn new(alloc: Global, variables: u32) -> Result<Flags, AllocError>
         ensures { IfOk result (λ flags. flags ≡ replicate (2 * variables + 2) false) }
     {

@@ -61,7 +61,7 @@ impl Gate {
     }
 }
 
-/// The gates of a formula, by variable. It costs the number of clauses and of variables. The error is want of memory.
+/// The gates of a formula, by variable. It costs the number of clauses and of variables.
 pub fn gates_of(alloc: Global, cnf: &Cnf) -> Result<Vec<Gate>, AllocError> {
     let mut gates = vec![in alloc; Gate::none(); cnf.variables as usize + 1]?;
     for clause in cnf.clauses.as_slice() {

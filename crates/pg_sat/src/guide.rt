@@ -31,7 +31,7 @@ pub struct Guide {
 }
 
 impl Guide {
-    /// For so many variables, each as active as any, and false last. The error is want of memory.
+    /// For so many variables, each as active as any, and false last.
     pub fn new(alloc: Global, variables: u32) -> Result<Guide, AllocError>
         requires { variables < 2 ^ 31 }
     {
@@ -50,8 +50,7 @@ impl Guide {
         self.heap.raise(literal.unsigned_abs());
     }
 
-    /// A conflict of the search for an assignment of a formula was traced: says whether a plan wants the search to begin anew. The
-    /// error is want of memory.
+    /// A conflict of the search for an assignment of a formula was traced: says whether a plan wants the search to begin anew.
     pub fn end_trace(&mut self, alloc: Global, cnf: &Cnf) -> Result<bool, AllocError> {
         self.heap.age();
         self.conflicts = self.conflicts.saturating_add(1);
@@ -71,8 +70,8 @@ impl Guide {
         }
     }
 
-    /// The same as `end_trace`, and it counts the conflict: says whether the search begins anew, as a plan wants it, or after the
-    /// numbers of conflicts that `pace` has. The error is want of memory.
+    /// The same as `end_trace`, and it counts the conflict: says whether the search begins anew, as a plan wants it, or after the numbers
+    /// of conflicts that `pace` has.
     pub fn end_conflict(&mut self, alloc: Global, cnf: &Cnf) -> Result<bool, AllocError> {
         let is_planned = self.end_trace(alloc, cnf)?;
         let anew = self.pace.count() || is_planned;
@@ -82,7 +81,7 @@ impl Guide {
         Ok(anew)
     }
 
-    /// A literal that was set gets unset. The error is want of memory.
+    /// A literal that was set gets unset.
     pub fn free(&mut self, literal: i32) -> Result<(), AllocError> {
         let variable = literal.unsigned_abs();
         if let Some(phase) = self.phases.get_mut(variable as usize) {

@@ -37,7 +37,7 @@ pub struct Heap {
 }
 
 impl Heap {
-    /// All of so many variables, each as active as any. The error is want of memory.
+    /// All of so many variables, each as active as any.
     pub fn new(alloc: Global, variables: u32) -> Result<Heap, AllocError>
         requires { variables < 2 ^ 31 }
     {
@@ -59,7 +59,7 @@ impl Heap {
         self.entries.len()
     }
 
-    /// Adds a variable, where it is not in the heap. The error is want of memory.
+    /// Adds a variable, where it is not in the heap.
     pub fn push(&mut self, variable: u32) -> Result<(), AllocError> {
         if self.place(variable).is_some() {
             return Ok(());

@@ -32,8 +32,8 @@ pub fn last_assigned(watches: &Watches) -> Option<usize>
     None
 }
 
-/// Where the trail is cut for a clause that was learned: at the first literal that was assigned after all but one of its
-/// literals were false. It costs the length of the trail, and the number of variables. The error is want of memory.
+/// Where the trail is cut for a clause that was learned: at the first literal that was assigned after all but one of its literals were
+/// false. It costs the length of the trail, and the number of variables.
 pub fn jump_place(
     alloc: Global,
     watches: &Watches,
@@ -82,8 +82,7 @@ fn first_assigned(watches: &Watches, last: usize) -> usize
     last
 }
 
-/// Where the trail is cut after a conflict: before all that was assigned, where the search is to begin anew. The error is want
-/// of memory.
+/// Where the trail is cut after a conflict: before all that was assigned, where the search is to begin anew.
 pub fn cut_place(
     alloc: Global,
     watches: &Watches,

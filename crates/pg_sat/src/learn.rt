@@ -23,8 +23,8 @@ pub struct Learned {
     pub place: usize,
 }
 
-/// The step that a conflict shows, from the last literal that was assigned on: where nothing was left to propagate before it,
-/// the step is new to unit propagation. The error is want of memory.
+/// The step that a conflict shows, from the last literal that was assigned on: where nothing was left to propagate before it, the step is
+/// new to unit propagation.
 pub fn learn_at(
     alloc: Global,
     watches: &Watches,
@@ -48,7 +48,7 @@ pub fn learn_at(
     Ok(Learned { step, place })
 }
 
-/// The step of the empty clause, that a conflict shows where no literal was assigned. The error is want of memory.
+/// The step of the empty clause, that a conflict shows where no literal was assigned.
 pub fn refute(
     alloc: Global,
     watches: &Watches,

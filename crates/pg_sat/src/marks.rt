@@ -34,7 +34,7 @@ impl Mark {
     }
 }
 
-/// The mark of each gate, by variable. It costs the number of variables. The error is want of memory.
+/// The mark of each gate, by variable. It costs the number of variables.
 pub fn marks_of(alloc: Global, gates: &[Gate]) -> Result<Vec<Mark>, AllocError> {
     let mut drawn = SEED;
     let mut words = Vec::new(alloc);
@@ -47,7 +47,7 @@ pub fn marks_of(alloc: Global, gates: &[Gate]) -> Result<Vec<Mark>, AllocError> 
     Ok(marks)
 }
 
-/// Marks that know the value that was drawn first. The error is want of memory.
+/// Marks that know the value that was drawn first.
 fn first_marks(alloc: Global, words: &[u64]) -> Result<Vec<Mark>, AllocError> {
     let mut marks = Vec::new(alloc);
     for word in words {
@@ -69,7 +69,7 @@ fn add_words(words: &[u64], marks: &mut [Mark]) {
     }
 }
 
-/// Draws a word for each gate: that of an input at random, and what follows for the others. The error is want of memory.
+/// Draws a word for each gate: that of an input at random, and what follows for the others.
 fn draw(
     gates: &[Gate],
     round: u32,

@@ -19,7 +19,7 @@ struct Marked {
     turned: bool,
 }
 
-/// The variables whose marks tell them apart, those of the same sum one after another, ascending. The error is want of memory.
+/// The variables whose marks tell them apart, those of the same sum one after another, ascending.
 fn marked_of(alloc: Global, gates: &[Gate]) -> Result<Vec<Marked>, AllocError> {
     let marks = marks_of(alloc, gates)?;
     let mut marked = Vec::new(alloc);
@@ -49,9 +49,8 @@ fn pair_of(one: &Marked, other: &Marked) -> Pair {
     }
 }
 
-/// The pairs that gates show: of the variables that have the same values at random, or opposite ones, the least with each of
-/// the others; those of lesser second variables first. It costs the number of variables, and to sort them. The error is want
-/// of memory.
+/// The pairs that gates show: of the variables that have the same values at random, or opposite ones, the least with each of the others;
+/// those of lesser second variables first. It costs the number of variables, and to sort them.
 pub fn pairs_of(alloc: Global, gates: &[Gate]) -> Result<Vec<Pair>, AllocError> {
     let marked = marked_of(alloc, gates)?;
     let mut pairs = Vec::new(alloc);

@@ -49,7 +49,7 @@ pub struct Plan {
 }
 
 impl Plan {
-    /// The plan for a formula. It costs the number of clauses, and to sort the variables. The error is want of memory.
+    /// The plan for a formula. It costs the number of clauses, and to sort the variables.
     pub fn new(alloc: Global, cnf: &Cnf) -> Result<Plan, AllocError> {
         let gates = gates_of(alloc, cnf)?;
         let pairs = pairs_of(alloc, gates.as_slice())?;

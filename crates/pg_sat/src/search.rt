@@ -11,7 +11,7 @@ use pg_proof::Step;
 use pg_watch::{Fix, Watches};
 use std::alloc::AllocError;
 
-/// Sets what follows from a formula alone, before anything is assigned. The error is want of memory.
+/// Sets what follows from a formula alone, before anything is assigned.
 pub fn start(cnf: &Cnf, watches: &mut Watches) -> Result<Fix, AllocError>
     requires clauses { watches.old.clauses ≡ cnf.now.clauses }
     requires variables { watches.old.trail.variables ≡ cnf.now.variables }
@@ -23,7 +23,7 @@ pub fn start(cnf: &Cnf, watches: &mut Watches) -> Result<Fix, AllocError>
     watches.settle()
 }
 
-/// Assigns a literal that is unset, where nothing is left to propagate, and sets what follows. The error is want of memory.
+/// Assigns a literal that is unset, where nothing is left to propagate, and sets what follows.
 pub fn advance(
     cnf: &Cnf,
     watches: &mut Watches,

@@ -28,7 +28,7 @@ fn are_up(flags: &Flags, clause: &[i32], but: i32) -> bool
     true
 }
 
-/// Resolves the literal at a place away, where the others imply it. The error is want of memory.
+/// Resolves the literal at a place away, where the others imply it.
 fn shrink_at(
     watches: &Watches,
     variables: u32,
@@ -61,8 +61,8 @@ fn shrink_at(
     }
 }
 
-/// Resolves away what the others imply of the literals before a place. It costs the number of places, and the length of the
-/// reasons that are looked through. The error is want of memory.
+/// Resolves away what the others imply of the literals before a place. It costs the number of places, and the length of the reasons that
+/// are looked through.
 pub fn shrink(
     watches: &Watches,
     variables: u32,

@@ -35,12 +35,10 @@ pub enum Ended {
 
 /// Looks for an assignment that makes all clauses of a formula true, and learns at most `budget` clauses, fewer than 2^31.
 ///
-/// `Sat` has such an assignment, with a place for each variable. `Unsat` has steps that end with the empty clause: the log is
-/// closed, and before its last step there are at most `budget`. `Spent` has `budget` steps, each worth its place and new to unit
-/// propagation. The error is want of memory.
-///
-/// Each conflict costs the trail that it is traced along, the reasons that it is traced over and the number of variables, and
-/// each decision the logarithm of that number, beside what propagation costs.
+/// `Sat` has such an assignment, with a place for each variable. `Unsat` has steps that end with the empty clause: the log is closed, and
+/// before its last step there are at most `budget`. `Spent` has `budget` steps, each worth its place and new to unit propagation. Each
+/// conflict costs the trail that it is traced along, the reasons that it is traced over and the number of variables, and each decision the
+/// logarithm of that number, beside what propagation costs.
 pub fn solve(alloc: Global, cnf: &Cnf, budget: u32) -> Result<Answer, AllocError>
     requires { budget < 2 ^ 31 }
     ensures { IfOk result (IsAnswer cnf.now.clauses cnf.now.variables budget) }
@@ -75,7 +73,7 @@ pub fn solve_watched<W: SearchWatcher>(
     search(alloc, cnf, &mut watches, budget, watcher)
 }
 
-/// Searches with watches that are new, and says what it took. The error is want of memory.
+/// Searches with watches that are new, and says what it took.
 fn search<W: SearchWatcher>(
     alloc: Global,
     cnf: &Cnf,
@@ -96,7 +94,7 @@ fn search<W: SearchWatcher>(
     Ok((answer_of(ended, steps), counts))
 }
 
-/// Goes from turn to turn until one is the last. The error is want of memory.
+/// Goes from turn to turn until one is the last.
 fn turns<W: SearchWatcher>(
     alloc: Global,
     cnf: &Cnf,

@@ -22,7 +22,7 @@ pub struct Trace {
     pub hints: Vec<u32>,
 }
 
-/// The literals of a clause that is false. The error is want of memory.
+/// The literals of a clause that is false.
 fn begin(
     alloc: Global,
     watches: &Watches,
@@ -43,7 +43,7 @@ fn begin(
     Ok(Trace { flags, hints })
 }
 
-/// Goes back over one place of the trail, which was propagated. The error is want of memory.
+/// Goes back over one place of the trail, which was propagated.
 fn step_back(
     watches: &Watches,
     variables: u32,
@@ -73,8 +73,8 @@ fn step_back(
     }
 }
 
-/// Traces a conflict back to a place of the trail from which on all was propagated. It costs the number of places, and the
-/// length of the reasons that are resolved. The error is want of memory.
+/// Traces a conflict back to a place of the trail from which on all was propagated. It costs the number of places, and the length of the
+/// reasons that are resolved.
 pub fn trace_back(
     alloc: Global,
     watches: &Watches,
@@ -170,9 +170,8 @@ pub struct Lone {
     pub place: usize,
 }
 
-/// Traces a conflict back until one literal is left of those from a place on, behind which all was propagated: the first
-/// unique implication point. It costs the number of places, and the length of the reasons that are resolved. The error is
-/// want of memory.
+/// Traces a conflict back until one literal is left of those from a place on, behind which all was propagated: the first unique implication
+/// point. It costs the number of places, and the length of the reasons that are resolved.
 pub fn trace_to_lone(
     alloc: Global,
     watches: &Watches,

@@ -36,7 +36,7 @@ pub enum Turned {
     Exhausted,
 }
 
-/// Assigns a variable that is unset, or answers that all are set. The error is want of memory.
+/// Assigns a variable that is unset, or answers that all are set.
 fn decide(
     alloc: Global,
     cnf: &Cnf,
@@ -64,7 +64,7 @@ fn decide(
     }
 }
 
-/// Ends the steps with the empty clause, at a conflict where nothing was assigned. The error is want of memory.
+/// Ends the steps with the empty clause, at a conflict where nothing was assigned.
 fn close(
     alloc: Global,
     cnf: &Cnf,
@@ -83,7 +83,7 @@ fn close(
     Ok(())
 }
 
-/// Learns a step from a conflict where a literal was assigned. The error is want of memory.
+/// Learns a step from a conflict where a literal was assigned.
 fn learn(
     alloc: Global,
     cnf: &Cnf,
@@ -105,7 +105,7 @@ fn learn(
     Ok(Turned::On(fix))
 }
 
-/// Learns from a conflict, or answers that nothing is left to be learned. The error is want of memory.
+/// Learns from a conflict, or answers that nothing is left to be learned.
 fn resolve(
     alloc: Global,
     cnf: &Cnf,
@@ -138,7 +138,7 @@ fn resolve(
     }
 }
 
-/// Goes on from where propagation ended. The error is want of memory.
+/// Goes on from where propagation ended.
 pub fn turn(
     alloc: Global,
     cnf: &Cnf,

@@ -32,7 +32,7 @@ pub fn read_binary(alloc: Global, bytes: &[u8]) -> Result<RecordList, ForeignFau
     Ok(records)
 }
 
-/// The literals up to the byte 0 that ends them, or none where they are none. The error is want of memory.
+/// The literals up to the byte 0 that ends them, or none where they are none.
 fn literals(alloc: Global, bytes: &mut Bytes<'_>) -> Result<Option<LitList>, AllocError>
     ensures rest { length bytes.new.left.now ≤ length bytes.old.left.now }
 {

@@ -76,7 +76,7 @@ fn is_numbered(act: &Act) -> bool {
     }
 }
 
-/// The act that the numbers of a line are, or none. The error is want of memory.
+/// The act that the numbers of a line are, or none.
 fn act_of(alloc: Global, line: &Numbers) -> Result<Option<Act>, AllocError> {
     let [before @ .., 0] = line.numbers.as_slice() else {
         return Ok(None);
@@ -92,7 +92,7 @@ fn act_of(alloc: Global, line: &Numbers) -> Result<Option<Act>, AllocError> {
     }
 }
 
-/// The addition that the numbers before the last 0 are, or none. The error is want of memory.
+/// The addition that the numbers before the last 0 are, or none.
 fn addition_of(alloc: Global, numbers: &[i64]) -> Result<Option<Act>, AllocError> {
     let Some(end) = numbers.iter().position(|number| *number == 0) else {
         return Ok(literals_of(alloc, numbers)?.map(|lits| Act::Add(lits)));
@@ -118,7 +118,7 @@ fn are_hints(numbers: &[i64]) -> bool {
     numbers.iter().all(|number| *number != 0)
 }
 
-/// The numbers of clauses that numbers are: none where one is not positive. The error is want of memory.
+/// The numbers of clauses that numbers are: none where one is not positive.
 fn ids_of(alloc: Global, numbers: &[i64]) -> Result<Option<IdList>, AllocError> {
     let mut ids = IdList::new(alloc);
     for number in numbers {

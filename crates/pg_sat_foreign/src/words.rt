@@ -24,7 +24,7 @@ pub fn says_nothing(text: &str) -> bool {
     text.is_empty() || text.starts_with('c')
 }
 
-/// The numbers of a line: none where a word is another, or a second `d`. The error is want of memory.
+/// The numbers of a line: none where a word is another, or a second `d`.
 pub fn numbers_of(alloc: Global, text: &str) -> Result<Option<Numbers>, AllocError> {
     let mut numbers = Vec::new(alloc);
     let mut removal = None;
@@ -55,7 +55,7 @@ pub fn literal_of(number: i64) -> Option<i32> {
     }
 }
 
-/// The literals that numbers are, or none where one is no literal. The error is want of memory.
+/// The literals that numbers are, or none where one is no literal.
 pub fn literals_of(alloc: Global, numbers: &[i64]) -> Result<Option<LitList>, AllocError> {
     let mut literals = LitList::new(alloc);
     for number in numbers {

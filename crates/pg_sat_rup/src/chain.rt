@@ -25,9 +25,8 @@ pub struct Chain<'a> {
     reasons: Vec<u32>,
 }
 
-/// The hints by which a clause follows, which the marks have at hand: the clauses that led to the false one of a number, or to a
-/// literal of the clause itself, from the place `root` of the trail on. It costs the trail from there on, and the length of the
-/// hints' clauses. The error is want of memory.
+/// The hints by which a clause follows, which the marks have at hand: the clauses that led to the false one of a number, or to a literal of
+/// the clause itself, from the place `root` of the trail on. It costs the trail from there on, and the length of the hints' clauses.
 pub fn hints_of(
     alloc: Global,
     held: &Held,

@@ -13,8 +13,7 @@ pub enum Met {
     Conflict(u32),
 }
 
-/// Makes the literals of a clause false in order, each with what follows, until something is met. Nothing is left to propagate
-/// before it. The error is want of memory.
+/// Makes the literals of a clause false in order, each with what follows, until something is met. Nothing is left to propagate before it.
 pub fn deny(watches: &mut Watches, literals: &[i32]) -> Result<Met, AllocError> {
     for literal in literals {
         match value_of(watches, *literal) {
@@ -39,8 +38,7 @@ pub fn value_of(watches: &Watches, literal: i32) -> Option<bool> {
     watches.value(literal)
 }
 
-/// Makes an unset literal false, with what follows: the number of a clause that is false then, if one is. The error is want of
-/// memory.
+/// Makes an unset literal false, with what follows: the number of a clause that is false then, if one is.
 fn make_false(watches: &mut Watches, literal: i32) -> Result<Option<u32>, AllocError> {
     // what is tested here holds at each call; the tests say so to the prover
     let Some(denied) = literal.checked_neg() else {

@@ -48,7 +48,7 @@ struct Elaborator {
 }
 
 impl Elaborator {
-    /// No record yet, over the clauses of a question. The error is want of memory.
+    /// No record yet, over the clauses of a question.
     fn new(alloc: Global, cnf: &Cnf) -> Result<Elaborator, AllocError> {
         let clauses = cnf.clauses.as_slice();
         let mut held = Held::new(alloc, cnf.variables)?;
@@ -112,7 +112,7 @@ impl Elaborator {
         self.settle()
     }
 
-    /// The hints by which a clause follows, or none where it does not follow by unit propagation. The error is want of memory.
+    /// The hints by which a clause follows, or none where it does not follow by unit propagation.
     fn hints(&mut self, literals: &[i32]) -> Result<Option<HintList>, AllocError> {
         if let Some(literal) = self.true_literal(literals) {
             return Ok(Some(self.fact(literal)?));
@@ -145,7 +145,7 @@ impl Elaborator {
         None
     }
 
-    /// The clause of a literal that follows with nothing assumed. The error is want of memory.
+    /// The clause of a literal that follows with nothing assumed.
     fn fact(&self, literal: i32) -> Result<HintList, AllocError> {
         let mut hints = HintList::new(self.alloc);
         if let Some(number) = self.units.number(literal) {
@@ -195,7 +195,7 @@ impl Elaborator {
         Ok(())
     }
 
-    /// The clauses of the literals of a clause but one, and that clause behind them. The error is want of memory.
+    /// The clauses of the literals of a clause but one, and that clause behind them.
     fn hints_by_units(&self, watched: u32, but: i32) -> Result<HintList, AllocError> {
         let mut hints = HintList::new(self.alloc);
         for literal in self.held.literals(watched) {
@@ -218,7 +218,6 @@ impl Elaborator {
     }
 
     /// The clauses that are not removed, without those that have a literal that is true for good; and those of one such literal.
-    /// The error is want of memory.
     fn renewed(&self) -> Result<Held, AllocError> {
         let mut held = Held::new(self.alloc, self.held.watches.variables())?;
         for literal in self.held.watches.trail() {
@@ -232,7 +231,7 @@ impl Elaborator {
         Ok(held)
     }
 
-    /// Keeps the clause at a place, where it is not removed and has no literal that is true. The error is want of memory.
+    /// Keeps the clause at a place, where it is not removed and has no literal that is true.
     fn keep(&self, place: usize, held: &mut Held) -> Result<(), AllocError> {
         match self.held.left_at(place) {
             Some((entry, literals)) if self.true_literal(literals).is_none() => {

@@ -33,7 +33,7 @@ pub struct Held {
 }
 
 impl Held {
-    /// No clause, over so many variables. The error is want of memory.
+    /// No clause, over so many variables.
     pub fn new(alloc: Global, variables: u32) -> Result<Held, AllocError> {
         Ok(Held {
             watches: Watches::new(alloc, &Cnf::new(alloc, variables.min(MOST_VARIABLES)))?,
@@ -43,7 +43,7 @@ impl Held {
         })
     }
 
-    /// One clause more, whose literals are in order; one that is none is passed over. The error is want of memory.
+    /// One clause more, whose literals are in order; one that is none is passed over.
     pub fn add(
         &mut self,
         alloc: Global,

@@ -13,7 +13,7 @@ pub struct Marks {
 }
 
 impl Marks {
-    /// No mark, for so many variables. The error is want of memory.
+    /// No mark, for so many variables.
     pub fn new(alloc: Global, variables: u32) -> Result<Marks, AllocError> {
         let places = 2 * variables as usize + 2;
         Ok(Marks {

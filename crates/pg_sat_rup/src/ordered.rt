@@ -9,7 +9,7 @@ use pg_proof::LitList;
 use smallvec::SmallVec;
 use std::alloc::{AllocError, Global};
 
-/// The literals of a clause in order, each once: none where both literals of a variable stand there. The error is want of memory.
+/// The literals of a clause in order, each once: none where both literals of a variable stand there.
 pub fn ordered(alloc: Global, literals: &[i32]) -> Result<Option<LitList>, AllocError> {
     let mut sorted = Vec::from_slice(alloc, literals)?;
     sorted.sort_unstable_by_key(|literal| key(*literal));
@@ -33,8 +33,7 @@ fn key(literal: i32) -> u64 {
     2 * u64::from(literal.unsigned_abs()) + u64::from(literal < 0)
 }
 
-/// The clause of these literals, where they are of variables up to a greatest and strictly ascend by variable. The error is want
-/// of memory.
+/// The clause of these literals, where they are of variables up to a greatest and strictly ascend by variable.
 #[tactic(auto, using(crate::proofs::OrderLemmas::ascending_clause))]
 pub fn clause_of(
     alloc: Global,

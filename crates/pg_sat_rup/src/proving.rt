@@ -38,7 +38,7 @@ pub fn log_of_proof(alloc: Global, cnf: &Cnf, records: &[Record]) -> Result<ActL
     }
 }
 
-/// Whether a checker takes all acts, and the last of them closes. The error is want of memory.
+/// Whether a checker takes all acts, and the last of them closes. The error is out of memory.
 fn is_taken(alloc: Global, cnf: &Cnf, acts: &[Act]) -> Result<bool, RupFault>
     ensures closed { IfOk result (λ yes. IsTrue yes → IsClosedLog cnf.now.clauses acts.now) }
 {

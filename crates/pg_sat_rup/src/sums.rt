@@ -17,7 +17,7 @@ impl Sums {
         }
     }
 
-    /// A clause of these literals stands at a place. The error is want of memory.
+    /// A clause of these literals stands at a place.
     pub fn put(&mut self, literals: &[i32], place: usize) -> Result<(), AllocError> {
         match self.places.insert(sum_of(literals), place) {
             Ok(_) => Ok(()),

@@ -9,7 +9,7 @@ pub struct Units {
 }
 
 impl Units {
-    /// None yet, of so many variables. The error is want of memory.
+    /// None yet, of so many variables.
     pub fn new(alloc: Global, variables: u32) -> Result<Units, AllocError> {
         let places = variables as usize + 1;
         Ok(Units {

@@ -27,7 +27,7 @@ pub struct Course {
 }
 
 impl Course {
-    /// For so many variables. The error is want of memory.
+    /// For so many variables.
     pub fn new(alloc: Global, variables: u32) -> Result<Course, AllocError>
         requires { variables < 2 ^ 31 }
     {
@@ -40,8 +40,7 @@ impl Course {
         })
     }
 
-    /// A step was learned from a conflict, of a question of so many clauses: says whether the search begins anew. The error is want
-    /// of memory.
+    /// A step was learned from a conflict, of a question of so many clauses: says whether the search begins anew.
     pub fn end_conflict(
         &mut self,
         alloc: Global,
@@ -79,7 +78,6 @@ impl Course {
     }
 
     /// For each of the learned clauses, which stand behind so many others, whether it is kept; what it is worth is forgotten with it.
-    /// The error is want of memory.
     pub fn forget(
         &mut self,
         alloc: Global,
@@ -104,8 +102,7 @@ impl Course {
         Ok(kept)
     }
 
-    /// Walks over assignments, and where all clauses are true under one, lets the search try its values first. The error is want of
-    /// memory.
+    /// Walks over assignments, and where all clauses are true under one, lets the search try its values first.
     pub fn walk(&mut self, alloc: Global, cnf: &Cnf) -> Result<(), AllocError> {
         self.walks = self.walks.saturating_add(1);
         if let Some(values) = walked(alloc, cnf, &self.guide, self.walks)? {

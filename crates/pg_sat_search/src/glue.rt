@@ -14,7 +14,7 @@ pub struct Levels {
 }
 
 impl Levels {
-    /// For so many variables. The error is want of memory.
+    /// For so many variables.
     pub fn new(alloc: Global, variables: u32) -> Result<Levels, AllocError> {
         Ok(Levels {
             stamps: vec![in alloc; 0u32; variables as usize + 1]?,

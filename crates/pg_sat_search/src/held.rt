@@ -16,7 +16,7 @@ pub struct Held {
 }
 
 impl Held {
-    /// The clauses of a question alone, and nothing is set. The error is want of memory.
+    /// The clauses of a question alone, and nothing is set.
     pub fn new(alloc: Global, cnf: &Cnf) -> Result<Held, AllocError>
         ensures held { IfOk result (λ held. (steps : List Step) → IsHeld cnf.now.clauses cnf.now.variables steps held.watches.clauses held.numbers.items) }
         ensures clauses { IfOk result (λ held. held.watches.clauses ≡ cnf.now.clauses) }
@@ -30,7 +30,7 @@ impl Held {
     }
 }
 
-/// The numbers from 1 to a last one. The error is want of memory.
+/// The numbers from 1 to a last one.
 #[tactic(auto, using(crate::proofs::HeldLemmas::first_more))]
 fn first_numbers(alloc: Global, last: u32) -> Result<Vec<u32>, AllocError>
     requires { last < 2 ^ 31 }

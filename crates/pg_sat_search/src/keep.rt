@@ -44,7 +44,7 @@ fn len_at(watches: &Watches, place: usize) -> usize {
     }
 }
 
-/// For each learned clause, which stand behind so many others, whether it is kept. The error is want of memory.
+/// For each learned clause, which stand behind so many others, whether it is kept.
 pub fn kept_of(
     alloc: Global,
     watches: &Watches,

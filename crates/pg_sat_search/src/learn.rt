@@ -26,7 +26,7 @@ struct Lesson {
     jump: usize,
 }
 
-/// Learns from a conflict where a literal was assigned: the step goes to the log. The error is want of memory.
+/// Learns from a conflict where a literal was assigned: the step goes to the log.
 fn log_step(
     alloc: Global,
     cnf: &Cnf,
@@ -59,7 +59,7 @@ fn log_step(
     Ok(Lesson { clause, jump })
 }
 
-/// Tells a guide which literals get unset where the trail is cut at a place. The error is want of memory.
+/// Tells a guide which literals get unset where the trail is cut at a place.
 fn free_from(watches: &Watches, jump: usize, guide: &mut Guide) -> Result<(), AllocError>
     requires { jump < length watches.now.trail.literals }
 {
@@ -69,7 +69,7 @@ fn free_from(watches: &Watches, jump: usize, guide: &mut Guide) -> Result<(), Al
     Ok(())
 }
 
-/// Cuts the trail, and holds a clause more, under its number in the log. The error is want of memory.
+/// Cuts the trail, and holds a clause more, under its number in the log.
 fn hold(held: &mut Held, lesson: &Lesson, number: u32) -> Result<(), AllocError>
     requires within { lesson.now.jump < length held.old.watches.trail.literals }
     requires assigned { slice_index_or held.old.watches.trail.reasons lesson.now.jump None ≡ None }
@@ -85,7 +85,7 @@ fn hold(held: &mut Held, lesson: &Lesson, number: u32) -> Result<(), AllocError>
     Ok(())
 }
 
-/// Forgets clauses that were learned, where it is time to. The error is want of memory.
+/// Forgets clauses that were learned, where it is time to.
 fn renew(
     alloc: Global,
     cnf: &Cnf,
@@ -105,8 +105,8 @@ fn renew(
     course.walk(alloc, cnf)
 }
 
-/// Learns from a conflict where a literal was assigned: the step goes to the log, the trail is cut, the clause is held, others may
-/// be forgotten, and what follows is set. The error is want of memory.
+/// Learns from a conflict where a literal was assigned: the step goes to the log, the trail is cut, the clause is held, others may be
+/// forgotten, and what follows is set.
 pub fn back(
     alloc: Global,
     cnf: &Cnf,
@@ -136,7 +136,7 @@ pub fn back(
     settle(cnf, held, steps.as_slice())
 }
 
-/// Sets what follows. The error is want of memory.
+/// Sets what follows.
 pub fn settle(cnf: &Cnf, held: &mut Held, steps: &[Step]) -> Result<Fix, AllocError>
     requires forgetting { IsForgetting cnf.now.clauses cnf.now.variables held.old.watches held.old.numbers.items steps.now }
     ensures forgetting { OnOk result (IsForgetting cnf.now.clauses cnf.now.variables held.new.watches held.new.numbers.items steps.now) }

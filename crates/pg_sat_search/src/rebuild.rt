@@ -17,9 +17,9 @@ struct Kept {
     numbers: Vec<u32>,
 }
 
-/// Holds the clauses of a question, and those of the learned ones that are kept, with nothing set. It takes time in all their
-/// literals. What was held before is given up before they are made, so that memory has those of the question once. The error is
-/// want of memory. The steps say what the numbers stand for.
+/// Holds the clauses of a question, and those of the learned ones that are kept, with nothing set. It takes time in all their literals.
+/// What was held before is given up before they are made, so that memory has those of the question once. The steps say what the numbers
+/// stand for.
 pub fn rebuild(
     alloc: Global,
     cnf: &Cnf,
@@ -39,7 +39,7 @@ pub fn rebuild(
     hold_each(held, &learned)
 }
 
-/// The learned clauses that are kept. The error is want of memory.
+/// The learned clauses that are kept.
 fn kept_of(
     alloc: Global,
     cnf: &Cnf,
@@ -74,7 +74,7 @@ fn is_kept(kept: &[bool], place: usize) -> bool {
     }
 }
 
-/// One of the clauses more. The error is want of memory.
+/// One of the clauses more.
 fn carry(
     alloc: Global,
     cnf: &Cnf,
@@ -100,7 +100,7 @@ fn carry(
     Ok(())
 }
 
-/// Holds some clauses more. The error is want of memory.
+/// Holds some clauses more.
 fn hold_each(held: &mut Held, learned: &Kept) -> Result<(), AllocError>
     requires variables { held.old.watches.trail.variables ≡ learned.now.clauses.variables }
     requires as_many { length learned.now.numbers.items ≡ length learned.now.clauses.clauses }
@@ -116,7 +116,7 @@ fn hold_each(held: &mut Held, learned: &Kept) -> Result<(), AllocError>
     Ok(())
 }
 
-/// Holds a clause more, under its number in the log. The error is want of memory.
+/// Holds a clause more, under its number in the log.
 fn hold_one(held: &mut Held, clause: &Clause, number: u32) -> Result<(), AllocError>
     requires room { length held.old.watches.clauses + 1 < 2 ^ 32 - 1 }
     requires clause { IsClause held.old.watches.trail.variables clause.now }

@@ -19,7 +19,7 @@ fn number_of(numbers: &[u32], held: u32) -> u32
     }
 }
 
-/// The numbers in the log of clauses that are held. The error is want of memory.
+/// The numbers in the log of clauses that are held.
 fn named(alloc: Global, hints: &[u32], numbers: &[u32]) -> Result<HintList, AllocError>
     ensures { IfOk result (λ named. named ≡ map (number_in numbers.now) hints.now) }
 {
@@ -31,7 +31,7 @@ fn named(alloc: Global, hints: &[u32], numbers: &[u32]) -> Result<HintList, Allo
     Ok(HintList::from_vec(named))
 }
 
-/// A step under the numbers of the log. The error is want of memory.
+/// A step under the numbers of the log.
 pub fn renumbered(alloc: Global, step: Step, numbers: &[u32]) -> Result<Step, AllocError>
     ensures { IfOk result (λ made. made ≡ renumbered numbers.now step) }
 {

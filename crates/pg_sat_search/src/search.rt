@@ -27,10 +27,9 @@ pub enum Ended {
 
 /// Looks for an assignment that makes all clauses of a formula true, and learns at most `budget` clauses, fewer than 2^31.
 ///
-/// `Model` has such an assignment, with a place for each variable. `Refuted` has steps that end with the empty clause: the log is
-/// closed, and before its last step there are at most `budget`. `Open` has `budget` steps, each valid. The error is want of memory.
-///
-/// Each conflict costs what it costs `pg_sat::solve`, but for propagation, which goes over the clauses that are held alone.
+/// `Model` has such an assignment, with a place for each variable. `Refuted` has steps that end with the empty clause: the log is closed,
+/// and before its last step there are at most `budget`. `Open` has `budget` steps, each valid. Each conflict costs what it costs
+/// `pg_sat::solve`, but for propagation, which goes over the clauses that are held alone.
 pub fn find(alloc: Global, cnf: &Cnf, budget: u32) -> Result<Found, AllocError>
     requires { budget < 2 ^ 31 }
     ensures { IfOk result (IsFinding cnf.now.clauses cnf.now.variables budget) }
@@ -76,7 +75,7 @@ pub fn find_watched<W: SearchWatcher>(
     Ok((found_of(ended, steps), counts))
 }
 
-/// Goes from turn to turn until one is the last. The error is want of memory.
+/// Goes from turn to turn until one is the last.
 fn turns<W: SearchWatcher>(
     alloc: Global,
     cnf: &Cnf,

@@ -9,9 +9,9 @@ use pg_cnf::Cnf;
 use pg_sat::{Answer, Counts, SearchWatcher, Silent};
 use std::alloc::{AllocError, Global};
 
-/// The same answers as `pg_sat::solve`, with the same evidence: an assignment, a closed log of at most `budget` steps before its
-/// last, or `budget` steps each worth its place and new. It searches with few clauses first, and only where that spends the budget
-/// with all of them, so it takes the time of both at most. The error is want of memory.
+/// The same answers as `pg_sat::solve`, with the same evidence: an assignment, a closed log of at most `budget` steps before its last, or
+/// `budget` steps each worth its place and new. It searches with few clauses first, and only where that spends the budget with all of them,
+/// so it takes the time of both at most.
 pub fn solve(alloc: Global, cnf: &Cnf, budget: u32) -> Result<Answer, AllocError>
     requires { budget < 2 ^ 31 }
     ensures { IfOk result (IsAnswer cnf.now.clauses cnf.now.variables budget) }
@@ -50,7 +50,7 @@ pub fn solve_watched<W: SearchWatcher>(
     }
 }
 
-/// What `pg_sat` answers, with what was taken before. The error is want of memory.
+/// What `pg_sat` answers, with what was taken before.
 fn solve_all<W: SearchWatcher>(
     alloc: Global,
     cnf: &Cnf,

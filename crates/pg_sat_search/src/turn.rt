@@ -35,7 +35,7 @@ pub enum Turned {
     Exhausted,
 }
 
-/// Assigns a literal that is unset, where nothing is left to propagate, and sets what follows. The error is want of memory.
+/// Assigns a literal that is unset, where nothing is left to propagate, and sets what follows.
 fn advance(cnf: &Cnf, held: &mut Held, steps: &[Step], literal: i32) -> Result<Fix, AllocError>
     requires forgetting { IsForgetting cnf.now.clauses cnf.now.variables held.old.watches held.old.numbers.items steps.now }
     requires quiet { held.old.watches.quiet ≡ true }
@@ -51,7 +51,7 @@ fn advance(cnf: &Cnf, held: &mut Held, steps: &[Step], literal: i32) -> Result<F
     held.watches.assign(literal)
 }
 
-/// Assigns a variable that is unset, or answers that all are set. The error is want of memory.
+/// Assigns a variable that is unset, or answers that all are set.
 fn decide(
     alloc: Global,
     cnf: &Cnf,
@@ -79,7 +79,7 @@ fn decide(
     }
 }
 
-/// Ends the steps with the empty clause, at a conflict where nothing was assigned. The error is want of memory.
+/// Ends the steps with the empty clause, at a conflict where nothing was assigned.
 fn close(
     alloc: Global,
     cnf: &Cnf,
@@ -105,7 +105,7 @@ fn close(
     Ok(())
 }
 
-/// Learns a step from a conflict where a literal was assigned. The error is want of memory.
+/// Learns a step from a conflict where a literal was assigned.
 fn learn(
     alloc: Global,
     cnf: &Cnf,
@@ -127,7 +127,7 @@ fn learn(
     Ok(Turned::On(fix))
 }
 
-/// Learns from a conflict, or answers that nothing is left to be learned. The error is want of memory.
+/// Learns from a conflict, or answers that nothing is left to be learned.
 fn resolve(
     alloc: Global,
     cnf: &Cnf,
@@ -159,7 +159,7 @@ fn resolve(
     }
 }
 
-/// Goes on from where propagation ended. The error is want of memory.
+/// Goes on from where propagation ended.
 pub fn turn(
     alloc: Global,
     cnf: &Cnf,

@@ -38,7 +38,7 @@ fn place_of(literal: i32) -> usize {
 }
 
 impl Occurrences {
-    /// Those of a formula. It costs its length. The error is want of memory.
+    /// Those of a formula. It costs its length.
     fn new(alloc: Global, cnf: &Cnf) -> Result<Occurrences, AllocError> {
         let count = (cnf.variables as usize).saturating_mul(2).saturating_add(2);
         let mut lists = Vec::with_capacity(alloc, count)?;
@@ -52,7 +52,7 @@ impl Occurrences {
         Ok(occurrences)
     }
 
-    /// A clause more. The error is want of memory.
+    /// A clause more.
     fn add(&mut self, number: u32, clause: &Clause) -> Result<(), AllocError> {
         for literal in clause.lits() {
             if let Some(list) = self.lists.get_mut(place_of(*literal)) {
@@ -85,7 +85,7 @@ struct Walk {
 }
 
 impl Walk {
-    /// From the values that a search had last. It costs the length of the formula. The error is want of memory.
+    /// From the values that a search had last. It costs the length of the formula.
     fn new(alloc: Global, cnf: &Cnf, guide: &Guide, number: usize) -> Result<Walk, AllocError> {
         let mut values = Vec::with_capacity(alloc, cnf.variables as usize + 1)?;
         for variable in 0..cnf.variables + 1 {
@@ -105,7 +105,7 @@ impl Walk {
         Ok(walk)
     }
 
-    /// Counts the literals of a clause that are true. The error is want of memory.
+    /// Counts the literals of a clause that are true.
     fn begin(&mut self, number: u32, clause: &Clause) -> Result<(), AllocError> {
         let mut count = 0u32;
         for literal in clause.lits() {
@@ -128,7 +128,7 @@ impl Walk {
         }
     }
 
-    /// A clause has become false. The error is want of memory.
+    /// A clause has become false.
     fn fail(&mut self, number: u32) -> Result<(), AllocError> {
         if let Some(place) = self.places.get_mut(number as usize) {
             *place = self.failing.len();
@@ -198,7 +198,7 @@ impl Walk {
         best
     }
 
-    /// Lets a literal get true that is false. The error is want of memory.
+    /// Lets a literal get true that is false.
     fn flip(&mut self, occurrences: &Occurrences, literal: i32) -> Result<(), AllocError> {
         if let Some(value) = self.values.get_mut(literal.unsigned_abs() as usize) {
             *value = literal > 0;
@@ -225,7 +225,7 @@ impl Walk {
         }
     }
 
-    /// A literal of a clause got false. The error is want of memory.
+    /// A literal of a clause got false.
     fn lose(&mut self, number: u32) -> Result<(), AllocError> {
         let count = self.count(number).saturating_sub(1);
         self.set_count(number, count);
@@ -263,7 +263,7 @@ impl Walk {
         self.failing.is_empty() || self.effort == 0
     }
 
-    /// Makes one of the clauses true that are false. The error is want of memory.
+    /// Makes one of the clauses true that are false.
     fn step(&mut self, cnf: &Cnf, occurrences: &Occurrences) -> Result<(), AllocError> {
         self.effort = self.effort.saturating_sub(1);
         let count = self.failing.len();
@@ -280,8 +280,8 @@ impl Walk {
     }
 }
 
-/// Values that make all clauses of a formula true, where the walk of this number, which counts from 1, comes to such: it begins with
-/// those that a search had last. The error is want of memory.
+/// Values that make all clauses of a formula true, where the walk of this number, which counts from 1, comes to such: it begins with those
+/// that a search had last.
 pub fn walked(
     alloc: Global,
     cnf: &Cnf,

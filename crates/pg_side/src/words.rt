@@ -7,7 +7,7 @@ use std::rt::Env;
 const NAME_BYTES: usize = 4096;
 
 /// Which program is meant: that of the name which is called, or else that of the first word. The bytes are looked at before any
-/// memory is asked for, so that words which are not UTF-8, and want of memory, are told by the program that is meant.
+/// memory is asked for, so that words which are not UTF-8, and lack of memory, are told by the program that is meant.
 pub fn called<R: Env>(rt: &R) -> Option<Call> {
     let mut bytes = [0; NAME_BYTES];
     if let Some(side) = Side::of_name(last_part(word(rt, 0, &mut bytes))) {

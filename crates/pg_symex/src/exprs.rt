@@ -23,7 +23,7 @@ use pg_vec::{Bits, ops};
 use sqlite_items::Boxed;
 use std::alloc::{AllocError, Global};
 
-/// The bits of an expression, and what is kept after it. The error is want of memory: the circuit may hold further gates, and
+/// The bits of an expression, and what is kept after it. The error is out of memory: the circuit may hold further gates, and
 /// cells may have been touched.
 #[cycle(exprs)]
 pub fn expr(
@@ -59,7 +59,7 @@ pub fn expr(
     }
 }
 
-/// The word at the address that an expression means. The error is want of memory.
+/// The word at the address that an expression means.
 #[cycle(exprs)]
 fn load(
     alloc: Global,
@@ -80,7 +80,7 @@ fn load(
     t.touch(c, &address)
 }
 
-/// Each bit of an expression changed. The error is want of memory.
+/// Each bit of an expression changed.
 #[cycle(exprs)]
 fn not(
     alloc: Global,
@@ -100,7 +100,7 @@ fn not(
     ops::not(alloc, c, &bits)
 }
 
-/// What an operator makes of two expressions. The error is want of memory.
+/// What an operator makes of two expressions.
 #[cycle(exprs)]
 fn bin(
     alloc: Global,
@@ -123,7 +123,7 @@ fn bin(
     operate(alloc, c, op, &left, &right)
 }
 
-/// The first expression above the second. The error is want of memory.
+/// The first expression above the second.
 #[cycle(exprs)]
 fn cat(
     alloc: Global,
@@ -145,7 +145,7 @@ fn cat(
     ops::cat(alloc, c, &left, &right)
 }
 
-/// Bits `low` to `high` of an expression. The error is want of memory.
+/// Bits `low` to `high` of an expression.
 #[cycle(exprs)]
 fn cut(
     alloc: Global,
@@ -167,7 +167,7 @@ fn cut(
     ops::cut(alloc, c, &bits, high as u32, low as u32)
 }
 
-/// An expression widened to `to` bits by zeros. The error is want of memory.
+/// An expression widened to `to` bits by zeros.
 #[cycle(exprs)]
 fn ext(
     alloc: Global,
@@ -188,7 +188,7 @@ fn ext(
     ops::ext(alloc, c, &bits, to as u32)
 }
 
-/// An expression widened to `to` bits by copies of its top bit. The error is want of memory.
+/// An expression widened to `to` bits by copies of its top bit.
 #[cycle(exprs)]
 fn sext(
     alloc: Global,
@@ -209,7 +209,7 @@ fn sext(
     ops::sext(alloc, c, &bits, to as u32)
 }
 
-/// The second expression where the first is 1, else the third. The error is want of memory.
+/// The second expression where the first is 1, else the third.
 #[cycle(exprs)]
 fn sel(
     alloc: Global,

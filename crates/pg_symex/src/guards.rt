@@ -28,7 +28,7 @@ pub fn bit_0(bits: &Bits) -> Gate
     bits.as_slice()[0]
 }
 
-/// The guards after an access that is usable where a gate is true. The error is want of memory.
+/// The guards after an access that is usable where a gate is true.
 #[tactic(auto, unfolding(crate::specs::Exprs::guarded_made))]
 fn guard(circuit: &mut Circuit, guards: &mut Guards, usable: Gate) -> Result<(), AllocError>
     requires live { guards.old.live.number < length circuit.old.nodes }
@@ -45,7 +45,7 @@ fn guard(circuit: &mut Circuit, guards: &mut Guards, usable: Gate) -> Result<(),
     Ok(())
 }
 
-/// The guards after an access to an address, which is usable where it is below v. The error is want of memory.
+/// The guards after an access to an address, which is usable where it is below v.
 #[tactic(auto, unfolding(crate::specs::Exprs::access_made))]
 pub fn access(
     alloc: Global,

@@ -8,7 +8,7 @@ use pg_circuit::Gate;
 use pg_vec::Bits;
 use std::alloc::{AllocError, Global};
 
-/// The lowest bits of a value, so many, as constants. The error is want of memory.
+/// The lowest bits of a value, so many, as constants.
 #[tactic(auto, using(crate::proofs::Steps::literal_next, crate::proofs::Steps::literal_all))]
 pub fn literal(alloc: Global, value: u64, width: u64) -> Result<Bits, AllocError>
     requires some { 1 ≤ width }

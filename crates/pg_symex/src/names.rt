@@ -13,7 +13,7 @@ use pg_lang_meaning::Field;
 use pg_vec::Bits;
 use std::alloc::{AllocError, Global};
 
-/// The bits of the fetched word that stand in a field, which lies within it. The error is want of memory.
+/// The bits of the fetched word that stand in a field, which lies within it.
 fn field_gates(alloc: Global, word: &Bits, field: Field) -> Result<Bits, AllocError>
     requires some { 1 ≤ field.width }
     requires within { field.width + field.low ≤ length word.now }
@@ -24,7 +24,7 @@ fn field_gates(alloc: Global, word: &Bits, field: Field) -> Result<Bits, AllocEr
     Bits::from_slice(alloc, &gates[field.low as usize..top as usize])
 }
 
-/// The bits of a name: those of its field, or of the newest visible let, of which there is one. The error is want of memory.
+/// The bits of a name: those of its field, or of the newest visible let, of which there is one.
 pub fn name_gates(
     alloc: Global,
     at: &Entry<'_>,

@@ -11,7 +11,7 @@ use pg_circuit::Circuit;
 use pg_vec::{Bits, ops};
 use std::alloc::{AllocError, Global};
 
-/// What an operator makes of two strings of widths that it takes. The error is want of memory.
+/// What an operator makes of two strings of widths that it takes.
 #[tactic(auto, using(crate::proofs::OpSteps::both_wide))]
 pub fn operate(
     alloc: Global,

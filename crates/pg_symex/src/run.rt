@@ -33,7 +33,7 @@ pub struct Run<'m> {
     pub lets: Lets<'m>,
 }
 
-/// The bits of an expression of a body under way. The error is want of memory.
+/// The bits of an expression of a body under way.
 pub fn take(
     alloc: Global,
     at: &Entry<'_>,
@@ -50,7 +50,7 @@ pub fn take(
     expr(alloc, at, &run.lets, c, t, &mut run.guards, e)
 }
 
-/// A register after an assignment: the bits where its place is reached, else what it was. The error is want of memory.
+/// A register after an assignment: the bits where its place is reached, else what it was.
 pub fn assign(
     alloc: Global,
     c: &mut Circuit,
@@ -70,7 +70,7 @@ pub fn assign(
     Ok(())
 }
 
-/// A trap, after which no place is reached. The error is want of memory.
+/// A trap, after which no place is reached.
 #[tactic(auto, unfolding(crate::specs::Stmts::trap_made))]
 pub fn trap(c: &mut Circuit, run: &mut Run<'_>) -> Result<(), AllocError>
     requires trap { run.old.trap.number < length c.old.nodes }
@@ -83,7 +83,7 @@ pub fn trap(c: &mut Circuit, run: &mut Run<'_>) -> Result<(), AllocError>
     Ok(())
 }
 
-/// A store of a word at an address: the access, and then the write. The error is want of memory.
+/// A store of a word at an address: the access, and then the write.
 pub fn store(
     alloc: Global,
     at: &Entry<'_>,

@@ -23,7 +23,7 @@ use pg_circuit::{Circuit, Gate};
 use pg_vec::gate::{and, or};
 use std::alloc::{AllocError, Global};
 
-/// Makes a statement of a body under way. The error is want of memory.
+/// Makes a statement of a body under way.
 #[cycle(stmts)]
 fn stmt<'m>(
     alloc: Global,
@@ -73,7 +73,7 @@ fn stmt<'m>(
     }
 }
 
-/// Makes the arms of an if, of which each is reached by its own side of the test. The error is want of memory.
+/// Makes the arms of an if, of which each is reached by its own side of the test.
 #[cycle(stmts)]
 #[tactic(auto, using(pg_vec::proofs::Kept::front_then))]
 fn arms<'m>(
@@ -107,7 +107,7 @@ fn arms<'m>(
     Ok(())
 }
 
-/// Makes the other arm of an if, where there is one. The error is want of memory.
+/// Makes the other arm of an if, where there is one.
 #[cycle(stmts)]
 fn otherwise<'m>(
     alloc: Global,
@@ -129,7 +129,7 @@ fn otherwise<'m>(
     }
 }
 
-/// Makes the statements of a block inside a body, whose lets end with it. The error is want of memory.
+/// Makes the statements of a block inside a body, whose lets end with it.
 #[cycle(stmts)]
 fn block<'m>(
     alloc: Global,
@@ -151,7 +151,7 @@ fn block<'m>(
     Ok(())
 }
 
-/// Makes statements in order. The error is want of memory.
+/// Makes statements in order.
 #[cycle(stmts)]
 pub fn in_order<'m>(
     alloc: Global,

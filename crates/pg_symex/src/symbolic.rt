@@ -59,7 +59,7 @@ pub struct SymOutcome {
 /// instruction's pattern, whatever the word is. That P is usable, and that the word matches the pattern, is asked elsewhere.
 ///
 /// Where no write stood, the outcome tells for all inputs, and every storage that agrees with the cells, what the body comes
-/// to (`runs`). The error is want of memory: the circuit may hold further gates, and the cells are only to be dropped.
+/// to (`runs`). The error is out of memory: the circuit may hold further gates, and the cells are only to be dropped.
 ///
 /// In any case the nodes that were there stay, and where at most 64 writes stood, at most `2^27` are added (`few`): an
 /// instruction has at most 8 accesses, so never more than 72 writes stand; each of its 1,024 expressions costs at most
@@ -120,8 +120,7 @@ fn run_instr(
     outcome(alloc, t, run)
 }
 
-/// A body begins with the next P, and with no let; its place is reached, and no trap has ended it. The error is want of
-/// memory.
+/// A body begins with the next P, and with no let; its place is reached, and no trap has ended it.
 fn begin<'m>(alloc: Global, c: &Circuit, regs: &Regs, p: Bits) -> Result<Run<'m>, AllocError>
     ensures { IfOk result (λ r. (nodes : List Node) (v : View) → run_as nodes v r ≡ run_begun regs.now p nodes v.cells v.writes) }
 {
@@ -140,7 +139,7 @@ fn begin<'m>(alloc: Global, c: &Circuit, regs: &Regs, p: Bits) -> Result<Run<'m>
     })
 }
 
-/// What is left of a run. The error is want of memory for the writes.
+/// What is left of a run. The error is out of memory for the writes.
 fn outcome(alloc: Global, t: &Touched, run: Run<'_>) -> Result<SymOutcome, AllocError>
     ensures { IfOk result (λ o. (nodes : List Node) → IsOutcome (run_as nodes t.now run.entry) nodes t.now o) }
 {
@@ -156,7 +155,7 @@ fn outcome(alloc: Global, t: &Touched, run: Run<'_>) -> Result<SymOutcome, Alloc
     })
 }
 
-/// The same writes once more. The error is want of memory.
+/// The same writes once more.
 fn copied(alloc: Global, writes: &[Write]) -> Result<SymWriteList, AllocError>
     ensures { IfOk result (λ all. all.items ≡ writes.now) }
 {
@@ -168,7 +167,7 @@ fn copied(alloc: Global, writes: &[Write]) -> Result<SymWriteList, AllocError>
     Ok(all)
 }
 
-/// The same write once more. The error is want of memory.
+/// The same write once more.
 fn copy_of(alloc: Global, write: &Write) -> Result<Write, AllocError>
     ensures { IfOk result (λ copy. copy ≡ write.now) }
 {

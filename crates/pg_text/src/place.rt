@@ -17,7 +17,7 @@ pub struct Span {
     pub to: usize,
 }
 
-/// Why a text could not be cut into tokens: the place of its first fault, or want of memory.
+/// Why a text could not be cut into tokens: the place of its first fault, or out of memory.
 #[derive(Debug, Drop, Error)]
 pub enum TextFault {
     /// A byte that begins no token, here.

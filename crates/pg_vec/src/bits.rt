@@ -29,7 +29,7 @@ impl Model for Bits {
 }
 
 impl Bits {
-    /// The string of these gates, bit 0 first: 1 to 64 of them, of any circuit. The error is want of memory.
+    /// The string of these gates, bit 0 first: 1 to 64 of them, of any circuit.
     pub fn from_slice(alloc: Global, gates: &[Gate]) -> Result<Bits, AllocError>
         requires { IsWidth (length gates.now) }
         ensures { IfOk result (λ bits. bits ≡ gates.now) }
@@ -55,7 +55,7 @@ impl Bits {
         self.gates
     }
 
-    /// The string of one gate. The error is want of memory.
+    /// The string of one gate.
     pub(crate) fn one(alloc: Global, gate: Gate) -> Result<Bits, AllocError>
         ensures { IfOk result (λ bits. bits ≡ gate ∷ []) }
     {

@@ -13,7 +13,7 @@ use crate::gate::{and, carry_out, xor};
 use pg_circuit::{Circuit, Gate};
 use std::alloc::AllocError;
 
-/// The carry out of the sum of two strings of the same width and a carry into bit 0. The error is want of memory.
+/// The carry out of the sum of two strings of the same width and a carry into bit 0.
 pub fn last_carry(
     circuit: &mut Circuit,
     carry_in: Gate,
@@ -36,7 +36,7 @@ pub fn last_carry(
     Ok(carry)
 }
 
-/// Whether two strings of the same width are the same, bit by bit. The error is want of memory.
+/// Whether two strings of the same width are the same, bit by bit.
 pub fn same(circuit: &mut Circuit, x: &[Gate], y: &[Gate]) -> Result<Gate, AllocError>
     requires left { AreThere (length circuit.old.nodes) x.now }
     requires right { AreThere (length circuit.old.nodes) y.now }

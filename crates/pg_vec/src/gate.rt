@@ -14,7 +14,7 @@ ghost use Rattle.pg_vec.specs.Strings.{carry_into_made};
 use pg_circuit::{Circuit, Gate};
 use std::alloc::AllocError;
 
-/// The and of two gates. The error is want of memory.
+/// The and of two gates.
 pub fn and(circuit: &mut Circuit, x: Gate, y: Gate) -> Result<Gate, AllocError>
     requires left { x.number < length circuit.old.nodes }
     requires right { y.number < length circuit.old.nodes }
@@ -25,7 +25,7 @@ pub fn and(circuit: &mut Circuit, x: Gate, y: Gate) -> Result<Gate, AllocError>
     circuit.and(x, y)
 }
 
-/// The exclusive or of two gates. The error is want of memory.
+/// The exclusive or of two gates.
 pub fn xor(circuit: &mut Circuit, x: Gate, y: Gate) -> Result<Gate, AllocError>
     requires left { x.number < length circuit.old.nodes }
     requires right { y.number < length circuit.old.nodes }
@@ -36,7 +36,7 @@ pub fn xor(circuit: &mut Circuit, x: Gate, y: Gate) -> Result<Gate, AllocError>
     circuit.xor(x, y)
 }
 
-/// The or of two gates. The error is want of memory.
+/// The or of two gates.
 pub fn or(circuit: &mut Circuit, x: Gate, y: Gate) -> Result<Gate, AllocError>
     requires left { x.number < length circuit.old.nodes }
     requires right { y.number < length circuit.old.nodes }
@@ -50,7 +50,7 @@ pub fn or(circuit: &mut Circuit, x: Gate, y: Gate) -> Result<Gate, AllocError>
     Ok(circuit.not(neither))
 }
 
-/// `x` where the choice is true, else `y`. The error is want of memory.
+/// `x` where the choice is true, else `y`.
 pub fn choose(circuit: &mut Circuit, choice: Gate, x: Gate, y: Gate) -> Result<Gate, AllocError>
     requires choice { choice.number < length circuit.old.nodes }
     requires left { x.number < length circuit.old.nodes }
@@ -65,8 +65,7 @@ pub fn choose(circuit: &mut Circuit, choice: Gate, x: Gate, y: Gate) -> Result<G
     or(circuit, left, right)
 }
 
-/// The carry out of the sum of two gates and a carry, where `half` is the exclusive or of the two. The error is want of
-/// memory.
+/// The carry out of the sum of two gates and a carry, where `half` is the exclusive or of the two.
 pub fn carry_out(
     circuit: &mut Circuit,
     x: Gate,
@@ -87,7 +86,7 @@ pub fn carry_out(
     or(circuit, both, passed)
 }
 
-/// The carry into the bits that are left, which is not built where none is left. The error is want of memory.
+/// The carry into the bits that are left, which is not built where none is left.
 pub fn carry_into(
     circuit: &mut Circuit,
     rest: &[Gate],

@@ -4,7 +4,7 @@
 //! handed in are gates of the circuit, `made` says exactly which nodes are added, and `worth` what number the result is in
 //! every circuit that begins with the nodes that there are then.
 //!
-//! The error is want of memory, for the string or for a node. The circuit may hold further nodes then. In any case those
+//! The error is out of memory, for the string or for a node. The circuit may hold further nodes then. In any case those
 //! that it held stay, and so does what they are worth; at most `2^15` are added, and no input (`kept`). Five operations
 //! need no node, and leave the circuit as it was in any case (`same`).
 
@@ -26,7 +26,7 @@ use crate::sum::{flip, sum};
 use pg_circuit::{Circuit, Gate};
 use std::alloc::{AllocError, Global};
 
-/// The sum of two strings of the same width, 1 to 64, modulo `2^width`: a ripple carry adder. The error is want of memory.
+/// The sum of two strings of the same width, 1 to 64, modulo `2^width`: a ripple carry adder.
 pub fn add(alloc: Global, circuit: &mut Circuit, x: &Bits, y: &Bits) -> Result<Bits, AllocError>
     requires left { AreThere (length circuit.old.nodes) x.now }
     requires right { AreThere (length circuit.old.nodes) y.now }
@@ -40,7 +40,7 @@ pub fn add(alloc: Global, circuit: &mut Circuit, x: &Bits, y: &Bits) -> Result<B
     Ok(Bits::from_vec(bits))
 }
 
-/// The difference of two strings of the same width, 1 to 64, modulo `2^width`: `x + not y + 1`. The error is want of memory.
+/// The difference of two strings of the same width, 1 to 64, modulo `2^width`: `x + not y + 1`.
 pub fn sub(alloc: Global, circuit: &mut Circuit, x: &Bits, y: &Bits) -> Result<Bits, AllocError>
     requires left { AreThere (length circuit.old.nodes) x.now }
     requires right { AreThere (length circuit.old.nodes) y.now }
@@ -55,8 +55,7 @@ pub fn sub(alloc: Global, circuit: &mut Circuit, x: &Bits, y: &Bits) -> Result<B
     Ok(Bits::from_vec(bits))
 }
 
-/// The product of two strings of the same width, 1 to 64, modulo `2^width`: the sum of the rows of the bits of `y`. The
-/// error is want of memory.
+/// The product of two strings of the same width, 1 to 64, modulo `2^width`: the sum of the rows of the bits of `y`.
 pub fn mul(alloc: Global, circuit: &mut Circuit, x: &Bits, y: &Bits) -> Result<Bits, AllocError>
     requires left { AreThere (length circuit.old.nodes) x.now }
     requires right { AreThere (length circuit.old.nodes) y.now }
@@ -69,7 +68,7 @@ pub fn mul(alloc: Global, circuit: &mut Circuit, x: &Bits, y: &Bits) -> Result<B
     Ok(Bits::from_vec(bits))
 }
 
-/// Each bit of a string of 1 to 64 changed. The error is want of memory.
+/// Each bit of a string of 1 to 64 changed.
 pub fn not(alloc: Global, circuit: &mut Circuit, x: &Bits) -> Result<Bits, AllocError>
     requires { AreThere (length circuit.old.nodes) x.now }
     ensures made { IfOk result (λ bits. (bits, circuit.new.nodes) ≡ bits_not_made circuit.old.nodes x.now) }
@@ -80,7 +79,7 @@ pub fn not(alloc: Global, circuit: &mut Circuit, x: &Bits) -> Result<Bits, Alloc
     Ok(Bits::from_vec(bits))
 }
 
-/// The and of two strings of the same width, 1 to 64, bit by bit. The error is want of memory.
+/// The and of two strings of the same width, 1 to 64, bit by bit.
 pub fn and(alloc: Global, circuit: &mut Circuit, x: &Bits, y: &Bits) -> Result<Bits, AllocError>
     requires left { AreThere (length circuit.old.nodes) x.now }
     requires right { AreThere (length circuit.old.nodes) y.now }
@@ -93,7 +92,7 @@ pub fn and(alloc: Global, circuit: &mut Circuit, x: &Bits, y: &Bits) -> Result<B
     Ok(Bits::from_vec(bits))
 }
 
-/// The or of two strings of the same width, 1 to 64, bit by bit. The error is want of memory.
+/// The or of two strings of the same width, 1 to 64, bit by bit.
 pub fn or(alloc: Global, circuit: &mut Circuit, x: &Bits, y: &Bits) -> Result<Bits, AllocError>
     requires left { AreThere (length circuit.old.nodes) x.now }
     requires right { AreThere (length circuit.old.nodes) y.now }
@@ -106,7 +105,7 @@ pub fn or(alloc: Global, circuit: &mut Circuit, x: &Bits, y: &Bits) -> Result<Bi
     Ok(Bits::from_vec(bits))
 }
 
-/// The exclusive or of two strings of the same width, 1 to 64, bit by bit. The error is want of memory.
+/// The exclusive or of two strings of the same width, 1 to 64, bit by bit.
 pub fn xor(alloc: Global, circuit: &mut Circuit, x: &Bits, y: &Bits) -> Result<Bits, AllocError>
     requires left { AreThere (length circuit.old.nodes) x.now }
     requires right { AreThere (length circuit.old.nodes) y.now }
@@ -119,8 +118,7 @@ pub fn xor(alloc: Global, circuit: &mut Circuit, x: &Bits, y: &Bits) -> Result<B
     Ok(Bits::from_vec(bits))
 }
 
-/// `x` where the choice, a gate of the circuit, is true, else `y`: two strings of the same width, 1 to 64. The error is want
-/// of memory.
+/// `x` where the choice, a gate of the circuit, is true, else `y`: two strings of the same width, 1 to 64.
 pub fn mux(
     alloc: Global,
     circuit: &mut Circuit,
@@ -141,7 +139,7 @@ pub fn mux(
     Ok(Bits::from_vec(bits))
 }
 
-/// One bit: 1 where two strings of the same width, 1 to 64, are equal, else 0. The error is want of memory.
+/// One bit: 1 where two strings of the same width, 1 to 64, are equal, else 0.
 pub fn eq(alloc: Global, circuit: &mut Circuit, x: &Bits, y: &Bits) -> Result<Bits, AllocError>
     requires left { AreThere (length circuit.old.nodes) x.now }
     requires right { AreThere (length circuit.old.nodes) y.now }
@@ -154,8 +152,8 @@ pub fn eq(alloc: Global, circuit: &mut Circuit, x: &Bits, y: &Bits) -> Result<Bi
     Bits::one(alloc, gate)
 }
 
-/// One bit: 1 where `x` is below `y`, two strings of the same width, 1 to 64, with no sign, else 0. There is no carry out of
-/// `x + not y + 1` then. The error is want of memory.
+/// One bit: 1 where `x` is below `y`, two strings of the same width, 1 to 64, with no sign, else 0. There is no carry out of `x + not y +
+/// 1` then.
 pub fn lt(alloc: Global, circuit: &mut Circuit, x: &Bits, y: &Bits) -> Result<Bits, AllocError>
     requires left { AreThere (length circuit.old.nodes) x.now }
     requires right { AreThere (length circuit.old.nodes) y.now }
@@ -171,7 +169,7 @@ pub fn lt(alloc: Global, circuit: &mut Circuit, x: &Bits, y: &Bits) -> Result<Bi
 }
 
 /// `x` moved up by the number `y`, zeros moved in: 0 where that is the width of `x` or more. Each may have any width, 1 to
-/// 64. The error is want of memory.
+/// 64.
 pub fn shl(alloc: Global, circuit: &mut Circuit, x: &Bits, y: &Bits) -> Result<Bits, AllocError>
     requires left { AreThere (length circuit.old.nodes) x.now }
     requires right { AreThere (length circuit.old.nodes) y.now }
@@ -184,7 +182,7 @@ pub fn shl(alloc: Global, circuit: &mut Circuit, x: &Bits, y: &Bits) -> Result<B
 }
 
 /// `x` moved down by the number `y`, zeros moved in: 0 where that is the width of `x` or more. Each may have any width, 1 to
-/// 64. The error is want of memory.
+/// 64.
 pub fn shr(alloc: Global, circuit: &mut Circuit, x: &Bits, y: &Bits) -> Result<Bits, AllocError>
     requires left { AreThere (length circuit.old.nodes) x.now }
     requires right { AreThere (length circuit.old.nodes) y.now }
@@ -196,7 +194,7 @@ pub fn shr(alloc: Global, circuit: &mut Circuit, x: &Bits, y: &Bits) -> Result<B
     Ok(Bits::from_vec(bits))
 }
 
-/// `x` above `y`, which together have 2 to 64 bits. The error is want of memory.
+/// `x` above `y`, which together have 2 to 64 bits.
 pub fn cat(alloc: Global, circuit: &mut Circuit, x: &Bits, y: &Bits) -> Result<Bits, AllocError>
     requires left { AreThere (length circuit.old.nodes) x.now }
     requires right { AreThere (length circuit.old.nodes) y.now }
@@ -210,8 +208,7 @@ pub fn cat(alloc: Global, circuit: &mut Circuit, x: &Bits, y: &Bits) -> Result<B
     Ok(Bits::from_vec(bits))
 }
 
-/// Bits `k` to `h` of a string, which are `h - k + 1` bits: `k` is at most `h`, and `h` is below the width. The error is
-/// want of memory.
+/// Bits `k` to `h` of a string, which are `h - k + 1` bits: `k` is at most `h`, and `h` is below the width.
 pub fn cut(
     alloc: Global,
     circuit: &mut Circuit,
@@ -230,7 +227,7 @@ pub fn cut(
     Ok(Bits::from_vec(bits))
 }
 
-/// A string widened by zeros to `to` bits, from its own width to 64. The error is want of memory.
+/// A string widened by zeros to `to` bits, from its own width to 64.
 pub fn ext(alloc: Global, circuit: &mut Circuit, x: &Bits, to: u32) -> Result<Bits, AllocError>
     requires there { AreThere (length circuit.old.nodes) x.now }
     requires wider { length x.now ≤ to }
@@ -244,7 +241,7 @@ pub fn ext(alloc: Global, circuit: &mut Circuit, x: &Bits, to: u32) -> Result<Bi
     Ok(Bits::from_vec(bits))
 }
 
-/// A string widened by copies of its top bit to `to` bits, from its own width to 64. The error is want of memory.
+/// A string widened by copies of its top bit to `to` bits, from its own width to 64.
 pub fn sext(alloc: Global, circuit: &mut Circuit, x: &Bits, to: u32) -> Result<Bits, AllocError>
     requires there { AreThere (length circuit.old.nodes) x.now }
     requires wider { length x.now ≤ to }

@@ -26,7 +26,7 @@ pub enum Pairing {
     Choose(Gate),
 }
 
-/// The gate of two bits. The error is want of memory.
+/// The gate of two bits.
 fn pair(circuit: &mut Circuit, make: Pairing, x: Gate, y: Gate) -> Result<Gate, AllocError>
     requires ready { IsReady (length circuit.old.nodes) make }
     requires left { x.number < length circuit.old.nodes }
@@ -43,7 +43,7 @@ fn pair(circuit: &mut Circuit, make: Pairing, x: Gate, y: Gate) -> Result<Gate, 
     }
 }
 
-/// The gates of two strings of the same width, bit by bit. The error is want of memory.
+/// The gates of two strings of the same width, bit by bit.
 pub fn pairwise(
     alloc: Global,
     circuit: &mut Circuit,

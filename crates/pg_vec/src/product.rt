@@ -15,7 +15,7 @@ use crate::sum::sum;
 use pg_circuit::{Circuit, Gate};
 use std::alloc::{AllocError, Global};
 
-/// A gate and each bit. The error is want of memory.
+/// A gate and each bit.
 fn row(alloc: Global, circuit: &mut Circuit, y: Gate, x: &[Gate]) -> Result<Vec<Gate>, AllocError>
     requires left { y.number < length circuit.old.nodes }
     requires right { AreThere (length circuit.old.nodes) x.now }
@@ -32,7 +32,7 @@ fn row(alloc: Global, circuit: &mut Circuit, y: Gate, x: &[Gate]) -> Result<Vec<
     Ok(bits)
 }
 
-/// The product of two strings, as wide as the first. The error is want of memory.
+/// The product of two strings, as wide as the first.
 pub fn product(
     alloc: Global,
     circuit: &mut Circuit,

@@ -36,7 +36,7 @@ pub const ZERO: Gate = Gate {
     negated: false,
 };
 
-/// A string moved up, zeros moved in. The error is want of memory.
+/// A string moved up, zeros moved in.
 pub fn moved_up(alloc: Global, x: &[Gate], places: usize) -> Result<Vec<Gate>, AllocError>
     ensures { IfOk result (λ bits. bits.items ≡ moved_up places x.now) }
 {
@@ -47,7 +47,7 @@ pub fn moved_up(alloc: Global, x: &[Gate], places: usize) -> Result<Vec<Gate>, A
     Ok(bits)
 }
 
-/// A string moved down, zeros moved in. The error is want of memory.
+/// A string moved down, zeros moved in.
 fn moved_down(alloc: Global, x: &[Gate], places: usize) -> Result<Vec<Gate>, AllocError>
     ensures { IfOk result (λ bits. bits.items ≡ moved_down places x.now) }
 {
@@ -58,7 +58,7 @@ fn moved_down(alloc: Global, x: &[Gate], places: usize) -> Result<Vec<Gate>, All
     Ok(bits)
 }
 
-/// A string moved one way, zeros moved in. The error is want of memory.
+/// A string moved one way, zeros moved in.
 fn moved(alloc: Global, way: Direction, x: &[Gate], places: usize) -> Result<Vec<Gate>, AllocError>
     ensures { IfOk result (λ bits. bits.items ≡ move_of way places x.now) }
 {
@@ -68,8 +68,7 @@ fn moved(alloc: Global, way: Direction, x: &[Gate], places: usize) -> Result<Vec
     }
 }
 
-/// A string moved, by each of at most six bits that is true: by one place for bit 0, and twice as far for each bit after
-/// it. The error is want of memory.
+/// A string moved, by each of at most six bits that is true: by one place for bit 0, and twice as far for each bit after it.
 fn stages(
     alloc: Global,
     circuit: &mut Circuit,
@@ -96,7 +95,7 @@ fn stages(
     Ok(bits)
 }
 
-/// Whether any of the bits is true. The error is want of memory.
+/// Whether any of the bits is true.
 fn any(circuit: &mut Circuit, x: &[Gate]) -> Result<Gate, AllocError>
     requires { AreThere (length circuit.old.nodes) x.now }
     ensures made { IfOk result (λ gate. (gate, circuit.new.nodes) ≡ any_made circuit.old.nodes (constant_gate false) x.now) }
@@ -110,8 +109,7 @@ fn any(circuit: &mut Circuit, x: &[Gate]) -> Result<Gate, AllocError>
     Ok(so_far)
 }
 
-/// A string moved by a number: in stages by its bits 0 to 5, and zeros where a higher bit is true. The error is want of
-/// memory.
+/// A string moved by a number: in stages by its bits 0 to 5, and zeros where a higher bit is true.
 pub fn shift(
     alloc: Global,
     circuit: &mut Circuit,

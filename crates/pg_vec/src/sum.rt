@@ -13,7 +13,7 @@ use crate::gate::{carry_into, xor};
 use pg_circuit::{Circuit, Gate};
 use std::alloc::{AllocError, Global};
 
-/// The sum of two strings of the same width and a carry into bit 0. The error is want of memory.
+/// The sum of two strings of the same width and a carry into bit 0.
 pub fn sum(
     alloc: Global,
     circuit: &mut Circuit,
@@ -41,7 +41,7 @@ pub fn sum(
     Ok(bits)
 }
 
-/// Each bit changed. The error is want of memory.
+/// Each bit changed.
 pub fn flip(alloc: Global, circuit: &Circuit, x: &[Gate]) -> Result<Vec<Gate>, AllocError>
     ensures { IfOk result (λ bits. bits.items ≡ flipped x.now) }
 {

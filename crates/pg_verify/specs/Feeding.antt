@@ -92,7 +92,7 @@ abbrev pub IsReported : Reader → Report → Type 0
 IsReported (Ok p) report = IsReportOf p report
 IsReported (Err f) report = ⊥
 
--- what is answered of what is due: a report, or the refusal. Want of memory says nothing of the text
+-- what is answered of what is due: a report, or the refusal. Lack of memory says nothing of the text
 abbrev pub IsAnswer : Reader → Result Report VerifyFault → Type 0
 IsAnswer due (Ok report) = IsReported due report
 IsAnswer due (Err f) = f ≢ fault.Memory → due ≡ Err f

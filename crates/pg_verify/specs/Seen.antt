@@ -36,7 +36,7 @@ numbered (Showing header pair) = 0
 numbered (Spending header budget count log) = length log.held
 numbered Ended = 0
 
--- what is answered where a value is due or a refusal: the value is there, or the refusal is told. Want of memory says nothing
+-- what is answered where a value is due or a refusal: the value is there, or the refusal is told. Lack of memory says nothing
 abbrev pub IsTold : {X A : Type 0} → Result X VerifyFault → X → Result A VerifyFault → Type 0
 IsTold due there (Ok a) = due ≡ Ok there
 IsTold due there (Err f) = f ≢ Memory → due ≡ Err f
@@ -62,7 +62,7 @@ abbrev pub reader_of : Option VerifyFault → Progress → Reader
 reader_of None p = Ok p
 reader_of (Some f) p = Err f
 
--- a refusal that is due. Want of memory says nothing
+-- a refusal that is due. Lack of memory says nothing
 abbrev pub IsFaultDue : Reader → VerifyFault → Type 0
 IsFaultDue due f = f ≢ Memory → due ≡ Err f
 

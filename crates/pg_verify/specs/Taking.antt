@@ -54,7 +54,7 @@ reopened p next = then_take next (λ o. Ok (with_open p o))
 
 -- ---- steps
 
--- why a line is refused whose step a checker refuses. Want of memory stays what it is
+-- why a line is refused whose step a checker refuses. Lack of memory stays what it is
 abbrev pub step_fault_of : ℕ → ProofFault → VerifyFault
 step_fault_of n proof.UnknownLit = fault.BadStep n UnknownLit
 step_fault_of n proof.UnknownHint = fault.BadStep n UnknownHint

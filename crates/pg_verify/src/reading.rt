@@ -85,7 +85,7 @@ impl<'m> Reading<'m> {
         }
     }
 
-    /// The mark of the finding that was open. The error is want of memory.
+    /// The mark of the finding that was open. The error is out of memory.
     fn keep(&mut self, mark: Mark) -> Result<(), VerifyFault>
         ensures told { IsTold (Ok (marked self.old (kept mark))) self.new result }
         ensures family { self.new.family ≡ self.old.family }
@@ -190,7 +190,7 @@ impl<'m> Reading<'m> {
         is_fresh(&self.opened) && same_family(family, self.family)
     }
 
-    /// A finding opens, of the instruction of this number and this kind. The error is want of memory.
+    /// A finding opens, of the instruction of this number and this kind. The error is out of memory.
     fn open(&mut self, instr: usize, kind: Kind, found: Found) -> Result<(), VerifyFault>
         requires { instr < length self.old.desc.instrs }
         ensures { IsTold (opened_with self.old instr kind found) self.new result }
@@ -346,7 +346,7 @@ fn instr_named(machine: &Machine, name: &[u8]) -> Option<usize>
     None
 }
 
-/// A checker of the question of an instruction and a kind. The error is want of memory.
+/// A checker of the question of an instruction and a kind.
 fn checker_of(
     alloc: Global,
     machine: &Machine,

@@ -42,7 +42,7 @@ fn with_psw(alloc: Global, drawing: Drawing, psw: Psw) -> Option<Drawing>
     }
 }
 
-/// A pair with a row more, if it may stand there. The error is want of memory.
+/// A pair with a row more, if it may stand there.
 fn with_cells(drawing: Drawing, first: u32, words: &[u64]) -> Result<Option<Drawing>, AllocError>
     ensures { IfOk result (λ next. IsPair (with_cells first words.now (pair_of drawing)) next) }
 {
@@ -72,7 +72,7 @@ pub enum StatePart<'a> {
     Cells(u32, &'a [u64]),
 }
 
-/// A pair with what a line says more, if it may stand there. The error is want of memory.
+/// A pair with what a line says more, if it may stand there.
 fn with_part(
     alloc: Global,
     drawing: Drawing,

@@ -62,7 +62,7 @@ impl Arena {
         part(self.literals.as_slice(), span)
     }
 
-    /// One more clause, at the end. The error is want of memory, and the clauses stay.
+    /// One more clause, at the end. The error is out of memory, and the clauses stay.
     pub fn push(&mut self, clause: &[i32]) -> Result<(), AllocError>
         ensures ok { OnOk result (self.new ≡ self.old ++ clause.now ∷ []) }
         ensures err { OnErr result (self.new ≡ self.old) }

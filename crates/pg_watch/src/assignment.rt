@@ -36,7 +36,7 @@ impl Model for Assignment {
 }
 
 impl Assignment {
-    /// Nothing set, of so many variables. The error is want of memory.
+    /// Nothing set, of so many variables.
     pub fn new(alloc: Global, variables: u32) -> Result<Assignment, AllocError>
         requires { variables < 2 ^ 31 }
         ensures variables { IfOk result (λ trail. trail.variables ≡ variables) }
@@ -134,7 +134,7 @@ impl Assignment {
         0
     }
 
-    /// Sets a literal that is unset. The error is want of memory, and nothing is set.
+    /// Sets a literal that is unset. The error is out of memory, and nothing is set.
     pub fn push(&mut self, lit: i32, reason: Option<u32>) -> Result<(), AllocError>
         requires literal { IsLiteral self.old.variables lit }
         requires unset { value_of self.old.literals lit ≡ None }

@@ -15,7 +15,6 @@ use crate::look::{Look, look_at};
 use std::alloc::AllocError;
 
 /// Looks once at each of some clauses, in order, and sets the literal of each that is unit. It ends at one that is falsified.
-/// The error is want of memory.
 pub fn look_at_each(
     clauses: &Arena,
     trail: &mut Assignment,
@@ -38,7 +37,7 @@ pub fn look_at_each(
     Ok(Fix::Quiet)
 }
 
-/// Looks at the clause at a place, and sets its literal where it is unit. The error is want of memory.
+/// Looks at the clause at a place, and sets its literal where it is unit.
 fn look_and_set(clauses: &Arena, trail: &mut Assignment, place: u32) -> Result<Fix, AllocError>
     requires clauses { AreClauses trail.old.variables clauses.now }
     requires few { length clauses.now < 2 ^ 32 - 1 }

@@ -26,7 +26,7 @@ pub struct Index {
 }
 
 impl Index {
-    /// Lets a clause watch two literals, of which it does not watch the second yet. The error is want of memory, and nothing
+    /// Lets a clause watch two literals, of which it does not watch the second yet. The error is out of memory, and nothing
     /// changes.
     pub fn watch(&mut self, clause: u32, first: i32, second: i32) -> Result<(), AllocError>
         requires clause { clause < length self.old.pairs.items }

@@ -34,7 +34,7 @@ impl Model for Lists {
 }
 
 impl Lists {
-    /// So many lists, all empty. The error is want of memory.
+    /// So many lists, all empty.
     pub fn new(alloc: Global, count: usize) -> Result<Lists, AllocError>
         ensures { IfOk result (λ lists. lists ≡ replicate count []) }
     {
@@ -63,7 +63,7 @@ impl Lists {
         self.lists[at][index]
     }
 
-    /// One more in the list at a place. The error is want of memory, and the lists stay.
+    /// One more in the list at a place. The error is out of memory, and the lists stay.
     pub fn push(&mut self, at: usize, watch: Watch) -> Result<(), AllocError>
         requires { at < length self.old }
         ensures ok { OnOk result (self.new ≡ slice_set self.old at (slice_index_or self.old at [] ++ watch ∷ [])) }

@@ -15,8 +15,8 @@ use crate::index::Index;
 use crate::walk::walk_list;
 use std::alloc::AllocError;
 
-/// Draws the consequences of the literals from the head on, and of those that get set by it, through the clauses that watch
-/// two literals. It takes time in the lengths of the lists of their negations. The error is want of memory.
+/// Draws the consequences of the literals from the head on, and of those that get set by it, through the clauses that watch two literals.
+/// It takes time in the lengths of the lists of their negations.
 pub fn run_queue(
     clauses: &Arena,
     trail: &mut Assignment,

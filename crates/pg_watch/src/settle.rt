@@ -17,8 +17,8 @@ use crate::index::Index;
 use crate::queue::run_queue;
 use std::alloc::AllocError;
 
-/// Draws all consequences: those of the literals from the head on, through the clauses that watch two literals, and those of
-/// some clauses at places, by looks at each of them, until neither gives any more. The error is want of memory.
+/// Draws all consequences: those of the literals from the head on, through the clauses that watch two literals, and those of some clauses
+/// at places, by looks at each of them, until neither gives any more.
 pub fn propagate(
     clauses: &Arena,
     trail: &mut Assignment,
@@ -45,8 +45,7 @@ pub fn propagate(
     }
 }
 
-/// Draws the consequences of the literals from the head on, and then looks once at each of some clauses. The error is want
-/// of memory.
+/// Draws the consequences of the literals from the head on, and then looks once at each of some clauses.
 fn take_turn(
     clauses: &Arena,
     trail: &mut Assignment,

@@ -102,7 +102,7 @@ fn visit_beside(
     }
 }
 
-/// A clause whose literals are false, but for one: sets that one where it is unset. The error is want of memory.
+/// A clause whose literals are false, but for one: sets that one where it is unset.
 fn follow(
     clauses: &Arena,
     trail: &mut Assignment,

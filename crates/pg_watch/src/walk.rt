@@ -29,9 +29,9 @@ pub enum Step {
     Ends(u32),
 }
 
-/// Visits each clause in the list of a literal that is false, so that each has a literal that is true or does not watch that
-/// one. It ends at one that is falsified. It takes time in the length of the list, and in the literals of those clauses that
-/// have none that is known to be true. The error is want of memory.
+/// Visits each clause in the list of a literal that is false, so that each has a literal that is true or does not watch that one. It ends
+/// at one that is falsified. It takes time in the length of the list, and in the literals of those clauses that have none that is known to
+/// be true.
 pub fn walk_list(
     clauses: &Arena,
     trail: &mut Assignment,
@@ -57,8 +57,7 @@ pub fn walk_list(
     Ok(Fix::Quiet)
 }
 
-/// Visits one clause of the list of a literal that is false, and takes it from the list where it watches another in its
-/// place. The error is want of memory.
+/// Visits one clause of the list of a literal that is false, and takes it from the list where it watches another in its place.
 fn take_step(
     clauses: &Arena,
     trail: &mut Assignment,

@@ -55,7 +55,7 @@ impl Watches {
     ghost use Rattle.pg_watch.specs.Trail.{value_of, IsTrail, Extends, IsQuiet, cut, pushed, clause_at, IsNumber};
     ghost use Rattle.pg_watch.specs.Fixes.{IsEnd, is_quiet};
 
-    /// Holds the clauses of a formula, and sets nothing. The error is want of memory.
+    /// Holds the clauses of a formula, and sets nothing.
     pub fn new(alloc: Global, cnf: &Cnf) -> Result<Watches, AllocError>
         ensures clauses { IfOk result (λ watches. watches.clauses ≡ cnf.now.clauses) }
         ensures variables { IfOk result (λ watches. watches.trail.variables ≡ cnf.now.variables) }
@@ -72,7 +72,7 @@ impl Watches {
         Ok(watches)
     }
 
-    /// No clause, over so many variables. The error is want of memory.
+    /// No clause, over so many variables.
     fn empty(alloc: Global, variables: u32) -> Result<Watches, AllocError>
         requires { variables < 2 ^ 31 }
         ensures clauses { IfOk result (λ watches. watches.clauses ≡ []) }
@@ -96,7 +96,7 @@ impl Watches {
     }
 
     /// One more clause, over the variables that there are, and sets nothing. There are fewer than 2^32 - 1 clauses with it.
-    /// The error is want of memory, and the clauses stay.
+    /// The error is out of memory, and the clauses stay.
     pub fn add(&mut self, clause: &Clause) -> Result<(), AllocError>
         requires room { length self.old.clauses + 1 < 2 ^ 32 - 1 }
         requires clause { IsClause self.old.trail.variables clause.now }
@@ -119,7 +119,7 @@ impl Watches {
     }
 
     /// Sets what follows from what is set, clause by clause, until no clause is unit, or one is falsified. It takes time in the
-    /// lists of the clauses that watch what got false, and in the fresh clauses. The error is want of memory; then the trail
+    /// lists of the clauses that watch what got false, and in the fresh clauses. The error is out of memory; then the trail
     /// is as it was.
     pub fn settle(&mut self) -> Result<Fix, AllocError>
         ensures clauses { self.new.clauses ≡ self.old.clauses }
@@ -179,7 +179,7 @@ impl Watches {
     }
 
     /// Sets a literal that is unset, without a reason, and then what follows. Before it nothing is left to propagate. The
-    /// error is want of memory; then the trail is as it was.
+    /// error is out of memory; then the trail is as it was.
     pub fn assign(&mut self, lit: i32) -> Result<Fix, AllocError>
         requires quiet { self.old.quiet ≡ true }
         requires literal { IsLiteral self.old.trail.variables lit }
@@ -202,7 +202,7 @@ impl Watches {
         }
     }
 
-    /// Sets a literal that is unset, without a reason, and nothing more. The error is want of memory.
+    /// Sets a literal that is unset, without a reason, and nothing more.
     fn decide(&mut self, lit: i32) -> Result<(), AllocError>
         requires quiet { self.old.quiet ≡ true }
         requires literal { IsLiteral self.old.trail.variables lit }
@@ -292,7 +292,7 @@ impl Watches {
     }
 }
 
-/// A place among the fresh ones, and an empty pair beside it. The error is want of memory, and both stay.
+/// A place among the fresh ones, and an empty pair beside it. The error is out of memory, and both stay.
 fn register(fresh: &mut Vec<u32>, pairs: &mut Vec<Pair>, place: u32) -> Result<(), AllocError>
     ensures fresh { OnOk result (fresh.new.items ≡ fresh.old.items ++ place ∷ []) }
     ensures pairs { OnOk result (pairs.new.items ≡ pairs.old.items ++ no_pair ∷ []) }

@@ -68,7 +68,7 @@ impl CellList {
         self.cells.as_slice()
     }
 
-    /// One more cell, past the last one, with a word that is not zero. The error is want of memory, and the cells stay.
+    /// One more cell, past the last one, with a word that is not zero. The error is out of memory, and the cells stay.
     pub fn push(&mut self, at: u32, word: u64) -> Result<(), AllocError>
         requires past_last { IsPastLast self.old at }
         requires not_zero { word ≢ 0 }
@@ -133,7 +133,7 @@ impl Sparse {
         Sparse { size, psw, cells }
     }
 
-    /// One more cell, past the last one and below the size, with a word that is not zero. The error is want of memory, and
+    /// One more cell, past the last one and below the size, with a word that is not zero. The error is out of memory, and
     /// the cells stay. Size and program status word stay in any case.
     pub fn push(&mut self, at: u32, word: u64) -> Result<(), AllocError>
         requires within { at < self.old.size }
