@@ -1,5 +1,5 @@
 -- Runs of a bare machine that end, and what is told of them.
-use Rattle.std.specs.Prelude.{◌≡◌, ℕ, ◌+◌, ◌-◌, ◌<◌, ◌≤◌, ◌^◌, List, ◌++◌, All, length, Option}
+use Rattle.std.specs.Prelude.{◌≡◌, ℕ, ◌-◌, ◌<◌, ◌≤◌, ◌^◌, List, ◌++◌, All, length, Option}
 use Rattle.pg_ast.specs.declared.tree.Desc.{Desc}
 use Rattle.pg_lang_meaning.specs.States.{State}
 use Rattle.pg_lang_meaning.specs.Steps.{bare, power_on, steps}

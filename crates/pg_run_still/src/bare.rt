@@ -6,13 +6,14 @@
 //! Then the machine is switched on once more, runs up to there, and the state is looked at (`first_about`). So a run that a trap ends
 //! takes twice the time, and no other.
 
-ghost use Rattle.std.specs.Prelude.{◌≡◌, ◌≤◌, ◌-◌, ◌+◌, IfOk, OnErr, true, false, length};
+ghost use Rattle.std.specs.Prelude.{◌≡◌, ◌≤◌, ◌-◌, ◌+◌, IfOk, OnErr, Some, true, false, length};
 ghost use Rattle.pg_hw.specs.Bursts.{traps};
 ghost use Rattle.pg_hw.specs.Serving.{IsServed};
 ghost use Rattle.pg_hw.specs.Stillness.{IsStill};
 ghost use Rattle.pg_lang_meaning.specs.States.{IsState};
 ghost use Rattle.pg_lang_meaning.specs.Steps.{step, steps};
 ghost use Rattle.pg_monitor.specs.Settling.{StillFirst};
+ghost use Rattle.pg_run_still.specs.declared.bare.Met.TheVariants.{About, First};
 ghost use Rattle.pg_run_still.specs.Bare.{CanStand, IsMet, StillAbout, Stood};
 
 use pg_hw::{Hardware, Settling, bare, power_on};

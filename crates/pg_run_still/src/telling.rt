@@ -163,10 +163,7 @@ fn head_with(number: usize, words: &[u8], steps: u64) -> Line
     push(&mut line, b"guest ");
     push(&mut line, dec(number as u64).as_slice());
     line.push(b'\n');
-    push(&mut line, words);
-    push(&mut line, dec(steps).as_slice());
-    push(&mut line, b" steps");
-    line.push(b'\n');
+    push(&mut line, said_with(words, steps).as_slice());
     line
 }
 
@@ -183,7 +180,8 @@ fn said_of(most: u64, still: Option<u64>) -> Line
 /// These words and so many steps, in a line.
 fn said_with(words: &[u8], steps: u64) -> Line
     requires { length words.now ≤ 12 }
-    ensures { result.items ≡ words.now ++ decimal steps ++ codes " steps" ++ 10 ∷ [] }
+    ensures items { result.items ≡ words.now ++ decimal steps ++ codes " steps" ++ 10 ∷ [] }
+    ensures short { length result.items ≤ 39 }
 {
     let mut line = Line::new();
     push(&mut line, words);

@@ -1,4 +1,4 @@
-use Rattle.std.proofs.Common.{length, ◌∙◌, ap, sym, subst, arith}
+use Rattle.std.proofs.Common.{length, ◌∙◌, ap, sym, subst}
 use Rattle.pg_hw.specs.Machinery.{Machinery}
 use Rattle.pg_lang_meaning.specs.States.{IsState}
 use Rattle.pg_lang_meaning.specs.Steps.{power_on}

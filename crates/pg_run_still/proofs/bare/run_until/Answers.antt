@@ -1,8 +1,8 @@
-use Rattle.std.proofs.Common.{◌≡◌, ◌+◌, ◌-◌, ◌≤◌, ◌∙◌, None, Some, Option, true, false, refl, ap, sym, subst, arith}
+use Rattle.std.proofs.Common.{◌≡◌, ◌+◌, ◌-◌, ◌∙◌, refl, ap, sym, subst, arith}
 use Rattle.pg_hw.proofs.BurstLaws.{burst_length-most}
 use Rattle.pg_hw.specs.Stillness.{IsStill, TellsStill}
 use Rattle.pg_lang_meaning.proofs.StepLaws.{steps-add}
-use Rattle.pg_lang_meaning.specs.States.{IsState, State}
+use Rattle.pg_lang_meaning.specs.States.{IsState}
 use Rattle.pg_lang_meaning.specs.Steps.{step, steps}
 use Rattle.pg_lang_valid.proofs.StepSound.{steps-state}
 use Rattle.pg_monitor.specs.Settling.{NoneStill}
@@ -27,6 +27,32 @@ step_seen-seen-requires-clause-state g c =
     subst (IsState d)
     (sym (c.burst_settling-burst.ensures.state ∙ ap (steps d c.burst_settling-burst.result.done) c.loop-done.invariant.reached ∙ steps-add d c.loop-done.done c.burst_settling-burst.result.done s))
     (steps-state d (c.loop-done.done + c.burst_settling-burst.result.done) s c.args.m.now.valid c.requires.state)
+
+-- ---- numbers
+
+pub overflow_add-result : goal.overflow_add-result
+overflow_add-result g c =
+    let d = c.args.m.now.desc in
+    let t = (g.H.Hardware.machinery c.loop-done.hw).state in
+    let told = subst (TellsStill d c.burst_settling-burst.result.done t) c.in-Some.is c.burst_settling-burst.ensures.still in
+    let before = told.before in
+    let count = c.burst_settling-burst.ensures.count in
+    let all = burst_length-most d (c.args.most - c.loop-done.done - 1) t in
+    omega (arith, before, count, all, c.loop-done-test.true, c.ranges.most.fits)
+
+pub overflow_add-at : goal.overflow_add-at
+overflow_add-at g c =
+    let count = c.burst_settling-burst.ensures.count in
+    let all = burst_length-most c.args.m.now.desc (c.args.most - c.loop-done.done - 1) (g.H.Hardware.machinery c.loop-done.hw).state in
+    omega (arith, count, all, c.loop-done-test.true, c.ranges.most.fits)
+
+pub overflow_add-done : goal.overflow_add-done
+overflow_add-done g c =
+    let count = c.burst_settling-burst.ensures.count in
+    let all = burst_length-most c.args.m.now.desc (c.args.most - c.loop-done.done - 1) (g.H.Hardware.machinery c.loop-done.hw).state in
+    omega (arith, count, all, c.loop-done-test.true, c.ranges.most.fits)
+
+-- ---- what is met
 
 -- the burst tells of a state
 pub returns-in-Some-clause-met : goal.returns-in-Some-clause-met
