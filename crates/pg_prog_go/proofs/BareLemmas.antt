@@ -13,10 +13,10 @@ use Rattle.pg_run_still.specs.declared.view.View.{View}
 use Rattle.pg_run_still.specs.Bare.{CanStand, Stood, stood_text}
 use Rattle.pg_run_still.specs.Running.{steps_of_rest}
 use Rattle.pg_run_still.specs.Views.{AreViewsOf}
-use Rattle.pg_run_still.proofs.StandLemmas.{on-long, stand-state}
+use Rattle.pg_run_still.proofs.StandLemmas.{stand-state}
 use Rattle.pg_prog_go.specs.declared.request.BareGoWords.{BareGoWords}
 use Rattle.pg_prog_go.specs.Bare.{StaysStill, StoodEnd, bare_words}
-use Rattle.pg_prog_go.proofs.EndsLemmas.{stays}
+use Rattle.pg_prog_go.proofs.EndsLemmas.{power_on-length, stays}
 
 -- a state that a machine reached is one of its, of as many cells as it was granted
 pub stood-state : (r : BareRun) (still : Option ℕ) (now : State) → IsValid r.desc → CanStand r.desc r.grant r.image → Stood r.desc r.grant r.steps r.image still now → IsState r.desc now
@@ -29,7 +29,7 @@ unfolding bare
 stood-long r still now valid can stood =
     ap (λ (s : State). length s.cells) stood.reached
     ∙ steps-length r.desc (steps_of_rest r.steps still) (power_on r.image r.grant) valid (stand-state r.desc r.grant r.image valid can)
-    ∙ on-long r.image r.grant can.whole
+    ∙ subst (λ n. length (power_on r.image n).cells ≡ n) can.whole (power_on-length r.image)
 
 -- the views show cells that it has
 pub stood-views : (told : Option Files) (w : BareGoWords) (r : BareRun) (vs : List View) (still : Option ℕ) (now : State) → IsValid r.desc → CanStand r.desc r.grant r.image →

@@ -114,7 +114,7 @@ pub rested-within : (r : GuestRun) (ran : Rested) (old h : Machinery) → HaveRe
 rested-within r ran old h have = Stands-within r.desc h.state ran.monitor.guests ran.monitor.current have.stands
 
 -- guests have the sizes of their images
-power_on-length : (image : List ℕ) → length (power_on image (length image)).cells ≡ length image
+pub power_on-length : (image : List ℕ) → length (power_on image (length image)).cells ≡ length image
 unfolding power_on
 power_on-length image = omega (arith, length-append image (replicate (length image - length image) 0), length-replicate {A = ℕ} (length image - length image) 0)
 

@@ -33,7 +33,7 @@ returns-in-Err-run_bare_until_still-clause-carries g c = record {
     untouched = record {
       files = c.prepare_bare.ensures.reads.same_files;
       saves = c.prepare_bare.ensures.reads.same_saves;
-      hw = c.run_bare_until_still.ensures.refused;
+      hw = c.in-Err-run_bare_until_still.ensures.refused;
     };
   });
 }
