@@ -1,5 +1,5 @@
 -- `pg_go --bare`: what it leaves.
-use Rattle.std.proofs.Common.{◌≡◌, ◌∙◌, ℕ, ◌≤◌, List, length, Option, Some, ap, refl, sym, subst}
+use Rattle.std.proofs.Common.{◌≡◌, ◌∙◌, ℕ, List, length, Option, ap, refl, sym, subst}
 use Rattle.pg_edge.specs.Shelf.{Files}
 use Rattle.pg_lang_meaning.specs.States.{State, IsState}
 use Rattle.pg_lang_meaning.specs.Steps.{bare, power_on}

@@ -1,4 +1,4 @@
-use Rattle.std.proofs.Common.{◌≡◌, ◌∙◌, ℕ, List, inl, refl, sym, ap, subst, arith}
+use Rattle.std.proofs.Common.{ℕ, List, inl, refl, sym, subst, arith}
 use Rattle.pg_edge.specs.Sink.{Puts}
 use Rattle.pg_edge.specs.declared.shelf.Failed.{Failed}
 use Rattle.pg_cmd_base.specs.declared.status.Status.TheVariants.{Done}
