@@ -8,7 +8,7 @@ from random import Random
 
 from inputs import (
     certificates, checks, command_lines, depths, further_guests, further_lines, generations, guests, large, limits, lines, patterns,
-    saved_texts, sources, still_guests, tampered, traces, windows,
+    saved_texts, sources, still_guests, still_machines, tampered, traces, windows,
 )
 from inputs.case import DESCRIPTION_FILE, Case, printing, running_bare
 from inputs.checker import Means
@@ -228,6 +228,12 @@ def any_traces(rng: Random) -> Case:
     return traces.tracing(rng, rng.choice(makers)(rng))
 
 
+def still_runs(rng: Random) -> Case:
+    """Runs of bare machines until they are still, most of a machine for that."""
+    makers = [*[still_machines.own] * 7, traces.own, traces.systems, bare_runs, tame_bare_runs, windows.windows]
+    return still_machines.going_bare(rng, rng.choice(makers)(rng))
+
+
 def full_outputs(rng: Random, means: Means) -> Iterator[Case]:
     """Any of these where standard output takes nothing; some without their last word. None of them saves a file.
 
@@ -275,6 +281,9 @@ ROUNDS = (
     CheckedRound("guest-certificates", guests.certified),
     CheckedListRound("guest-rows", guests.rows),
     CheckedRound("still-guests", still_guests.still_guests),
+    RandomRound("still-machines", still_runs),
+    ListRound("still-machine-lines", still_machines.lines),
+    ListRound("still-machine-refusals", still_machines.refusals),
     RandomRound("traces", any_traces),
     RandomRound("operators", operators),
     QuestionRound("certificates", certificates.certificates),

@@ -56,7 +56,7 @@ MOST_TURNS = 3000
 
 SPOILED = (
     *("--grant=8", "--grant", "--steps", "--slice", "-", "--", "-x", "--help", "--budget", "--json", "x.img", "\udcff", ""),
-    *("-h", "--show", "--text", "--show=0..2"),
+    *("-h", "--show", "--text", "--show=0..2", "--bare", "--bare"),
 )
 
 

@@ -114,7 +114,7 @@ def _first(run: Trace, end: str) -> int | None:
 def _spoiled(rng: Random, case: Case) -> Case:
     """Mostly the case as it is; else with a fault of its words or of its files, or two."""
     while rng.random() < 0.12:
-        case = rng.choice([_with_word, _without_word, _with_number, _with_end, _with_name, _with_file, _with_file])(rng, case)
+        case = rng.choice([_with_word, _without_word, _with_number, _with_end, with_name, with_file, with_file])(rng, case)
     return case
 
 
@@ -153,7 +153,7 @@ def _with_end(rng: Random, case: Case) -> Case:
     return case._replace(words=tuple(words))
 
 
-def _with_name(rng: Random, case: Case) -> Case:
+def with_name(rng: Random, case: Case) -> Case:
     """Another name of a file: of none, of a folder, or of the other one."""
     files = {**case.files, "folder/": b""}
     name = rng.choice([DESCRIPTION_FILE, IMAGE_FILE])
@@ -161,7 +161,7 @@ def _with_name(rng: Random, case: Case) -> Case:
     return case._replace(words=tuple(other if word == name else word for word in case.words), files=files)
 
 
-def _with_file(rng: Random, case: Case) -> Case:
+def with_file(rng: Random, case: Case) -> Case:
     """A description or an image with a few edits."""
     name, edit = rng.choice([(DESCRIPTION_FILE, mutated), (IMAGE_FILE, broken_image)])
     return case._replace(files={**case.files, name: edit(rng, case.files[name])})

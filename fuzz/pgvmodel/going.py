@@ -1,17 +1,21 @@
-"""`pg_go`: guests that have turns until they are still, and how many turns those are.
+"""`pg_go`: guests that have turns until they are still, and how many turns those are; or one machine until it is still.
 
-A guest is still where a step leaves its whole state as it is. As of `run`, no monitor stands here: the guest's states are those of
-a bare machine, and how many turns it has follows from the first of them that is still, the steps and the slice.
+A machine is still where a step leaves its whole state as it is. As of `run`, no monitor stands here: the guest's states are those
+of a bare machine, and how many turns it has follows from the first of them that is still, the steps and the slice. With `--bare`
+that machine is all there is: no certificate, no turns and no slices.
 """
 
 from collections.abc import Sequence
+from dataclasses import dataclass
 from typing import NamedTuple
 
 from pgvmodel import tree
-from pgvmodel.answers import DONE, WORDS, Answer, Load, Refused, World, ask_to_accept, described, told
+from pgvmodel.answers import (
+    DONE, WORDS, Answer, Load, Refused, World, ask_for_room, ask_to_accept, described, image, told,
+)
 from pgvmodel.body import mask
 from pgvmodel.guests import Asked, storages_of
-from pgvmodel.machine import CELLS_A_LINE, Machine, State, base_of, power_on, state_text
+from pgvmodel.machine import CELLS_A_LINE, Machine, State, base_of, power_on, run_on, state_text
 from pgvmodel.questions import NotModelled, Questions
 from pgvmodel.words import MOST_IMAGES, RANGES, SLICE, RefusedWords, Request, allowed_number, is_text
 
@@ -19,16 +23,31 @@ NAME = "pg_go"
 
 USAGE = (
     f"usage: {NAME} DESC CERT IMAGE.. --grant G [--steps N] [--slice K] [--show A..B].. [--text A..B[:BITS]]..\n"
+    f"       {NAME} --bare DESC IMAGE --grant G [--steps N] [--show A..B].. [--text A..B[:BITS]]..\n"
 )
 
 MOST_STEPS = 1 << 57
-"""Steps of a guest at most, and where it is not told how many."""
+"""Steps of a guest or a machine at most, and where it is not told how many."""
 
 _RANGES = {"grant": RANGES["grant"], "steps": range(MOST_STEPS + 1), "slice": RANGES["slice"]}
 _LEFT_OUT = {"steps": MOST_STEPS, "slice": SLICE}
 
-_FILES = range(3, 3 + MOST_IMAGES)
+BARE = "--bare"
+"""A word alone: it says that there is a machine, and no guests."""
+
+
+class _Form(NamedTuple):
+    """How many files there may be, and which numbers beside."""
+
+    files: range
+    numbers: Sequence[str]
+
+
+_OF_GUESTS = _Form(range(3, 3 + MOST_IMAGES), ("grant", "steps", "slice"))
 """A description, a certificate and the images."""
+
+_OF_MACHINE = _Form(range(2, 3), ("grant", "steps"))
+"""A description and an image."""
 
 SHOW, TEXT = "--show", "--text"
 
@@ -42,17 +61,17 @@ _BITS = range(8, 65, 8)
 _PLACES = range(_RANGES["grant"].stop)
 
 MOST_MODELLED = 100_000
-"""A guest that makes more steps, and is not still before, is not modelled."""
+"""A guest or a machine that makes more steps, and is not still before, is not modelled."""
 
 
 class Piece(NamedTuple):
-    """Cells of each guest that are told in place of its state: as words in lines, or so many low bits of each as bytes."""
+    """Cells that are told in place of each state: as words in lines, or so many low bits of each as bytes."""
 
     cells: range
     bits: int | None = None
 
     def told(self, state: State, word: int) -> bytes:
-        """What is told of a guest's cells; each line has the address of its first one, and none is left out."""
+        """What is told of a state's cells; each line has the address of its first one, and none is left out."""
         cells = state.cells[self.cells.start : self.cells.stop]
         if self.bits is not None:
             return b"".join((cell & mask(self.bits)).to_bytes(self.bits // 8, "little") for cell in cells) + b"\n"
@@ -78,47 +97,65 @@ def _piece(option: str, word: str) -> Piece:
     return Piece(cells, bits)
 
 
-class Gone(NamedTuple):
-    """A guest at its end: the state, behind how many steps, whether it was found still; its turns, and the direct ones of them.
-
-    One that is found still has more turns than steps are told: the rest of its slice.
-    """
+@dataclass(frozen=True)
+class Reached:
+    """Where a machine gets to: the state, behind how many steps, and whether it was found still there."""
 
     state: State
     steps: int
     is_still: bool
-    turns: int
-    direct: int
 
     def line(self) -> str:
         return f"{'still ' if self.is_still else ''}after {self.steps} steps\n"
 
 
+@dataclass(frozen=True)
+class Gone(Reached):
+    """A guest at its end, beside it its turns, and the direct ones of them.
+
+    One that is found still has more turns than steps are told: the rest of its slice.
+    """
+
+    turns: int
+    direct: int
+
+
+def reached(description: tree.Description, cells: list[int], steps: int) -> Reached:
+    """Where a machine gets to from power-on: to its first still state, or behind all of the steps.
+
+    It is found by the step that changes nothing, which is none of those told. So one whose first still state is that behind all
+    steps is not told to be still.
+    """
+    machine, state = Machine(description), power_on(cells)
+    for made in range(min(steps, MOST_MODELLED)):
+        before = State(state.cells[:], state.psw)
+        machine.step(state)
+        if state == before:
+            return Reached(state, made, is_still=True)
+    if steps > MOST_MODELLED:
+        raise NotModelled
+    return Reached(state, steps, is_still=False)
+
+
 def gone(description: tree.Description, cells: list[int], base: int, steps: int, slice_: int) -> Gone:
     """What a guest comes to whose grant begins at cell `base`.
 
-    It is found by the step that changes nothing. So one whose first still state is that behind all steps is not told to be still;
-    and one that becomes still with the last step of a slice has the next slice too.
+    The step that changes nothing is a turn of its own, so one that becomes still with the last step of a slice has the next slice
+    too. All turns from there on are as that one, direct or not.
     """
-    machine, state = Machine(description), power_on(cells)
-    direct = 0
-    for made in range(min(steps, MOST_MODELLED)):
-        before = State(state.cells[:], state.psw)
-        is_direct = machine.is_direct(state, base)
-        machine.step(state)
-        if state == before:
-            turns = min(steps, (made // slice_ + 1) * slice_)
-            return Gone(state, made, True, turns, direct + is_direct * (turns - made))
-        direct += is_direct
-    if steps > MOST_MODELLED:
-        raise NotModelled
-    return Gone(state, steps, False, steps, direct)
+    end = reached(description, cells[:], steps)
+    turns, direct = end.steps, run_on(description, power_on(cells), end.steps, base)
+    if end.is_still:
+        turns = min(steps, (end.steps // slice_ + 1) * slice_)
+        direct += Machine(description).is_direct(end.state, base) * (turns - end.steps)
+    return Gone(end.state, end.steps, end.is_still, turns, direct)
 
 
 def answer(words: Sequence[str], load: Load, questions: Questions) -> Answer:
     """What `pg_go` is to answer to the words behind its name: refusals as of `run`, then each guest, then all turns.
 
-    No line on standard error is told, and no text of a version.
+    With `--bare` they are those of `bare`, and then there is the one machine. No line on standard error is told, and no text of a
+    version.
     """
     if words and words[0] in ("--help", "-h"):
         return told(DONE, USAGE)
@@ -128,29 +165,45 @@ def answer(words: Sequence[str], load: Load, questions: Questions) -> Answer:
         request, pieces = _request(words)
         world = World(load, bool, questions)
         text = world.loaded(request.files[0])
-        return _run(Asked(request, text, described(text), world), pieces)
+        run = _run_bare if BARE in words else _run_guests
+        return run(Asked(request, text, described(text), world), pieces)
     except RefusedWords:
         return told(WORDS, USAGE)
     except Refused as refused:
         return refused.answer._replace(error=None)
 
 
-def _run(asked: Asked, pieces: Sequence[Piece]) -> Answer:
+def _run_guests(asked: Asked, pieces: Sequence[Piece]) -> Answer:
     storages = storages_of(asked)
     ask_to_accept(asked.description, asked.file(1), asked.world.question(asked.text))
     steps, slice_ = asked.number("steps"), asked.number("slice")
     ends = [gone(asked.description, cells, base_of(k, len(cells)), steps, slice_) for k, cells in enumerate(storages)]
-    word = asked.description.word
-    texts = []
-    for k, end in enumerate(ends):
-        told_cells = [piece.told(end.state, word) for piece in pieces] or [state_text(end.state, word).encode()]
-        texts += [f"guest {k}\n{end.line()}".encode(), *told_cells]
+    texts = [f"guest {k}\n".encode() + _told_end(end, asked.description.word, pieces) for k, end in enumerate(ends)]
     last = f"steps {sum(end.turns for end in ends)} direct {sum(end.direct for end in ends)}\n"
     return Answer(DONE, b"".join([*texts, last.encode()]))
 
 
+def _run_bare(asked: Asked, pieces: Sequence[Piece]) -> Answer:
+    """A storage may have all cells of the machine: there is no monitor that takes some."""
+    size = asked.number("grant")
+    ask_for_room(size, asked.description.size)
+    cells = image(0, asked.file(1), asked.description, size)
+    end = reached(asked.description, cells, asked.number("steps"))
+    return Answer(DONE, _told_end(end, asked.description.word, pieces))
+
+
+def _told_end(end: Reached, word: int, pieces: Sequence[Piece]) -> bytes:
+    """How a run ended, and its state, or the pieces of that."""
+    told_cells = [piece.told(end.state, word) for piece in pieces] or [state_text(end.state, word).encode()]
+    return b"".join([end.line().encode(), *told_cells])
+
+
 def _request(words: Sequence[str]) -> tuple[Request, list[Piece]]:
-    """What the words ask for, and which cells are told. An option is two words; any other that begins with a dash is refused."""
+    """What the words ask for, and which cells are told. An option is two words, but for the one that tells which form this is.
+
+    Any other word that begins with a dash is refused; and that one too, where a value has to stand.
+    """
+    form = _OF_MACHINE if BARE in words else _OF_GUESTS
     files: list[str] = []
     numbers: dict[str, int] = {}
     pieces: list[Piece] = []
@@ -159,13 +212,13 @@ def _request(words: Sequence[str]) -> tuple[Request, list[Piece]]:
         name = word.removeprefix("--")
         if word in (SHOW, TEXT):
             pieces.append(_piece(word, next(rest, "")))
-        elif word.startswith("--") and name in _RANGES and name not in numbers:
+        elif word.startswith("--") and name in form.numbers and name not in numbers:
             numbers[name] = allowed_number(next(rest, ""), _RANGES[name])
-        elif word.startswith("-"):
-            raise RefusedWords
-        else:
+        elif not word.startswith("-"):
             files.append(word)
-    if len(files) not in _FILES or "grant" not in numbers or not all(map(is_text, words)):
+        elif word != BARE:
+            raise RefusedWords
+    if len(files) not in form.files or "grant" not in numbers or words.count(BARE) > 1 or not all(map(is_text, words)):
         raise RefusedWords
     if len(pieces) > MOST_PIECES or any(piece.cells.stop > numbers["grant"] for piece in pieces):
         raise RefusedWords

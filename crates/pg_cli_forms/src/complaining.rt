@@ -22,7 +22,7 @@ pub fn complaint(
     let [_, words @ ..] = words else {
         return Ok(None);
     };
-    let form = form_of(side);
+    let form = form_of(side, words);
     let line = Line::of(alloc, side.program())?;
     let mut left = words;
     let mut passed = 0usize;

@@ -48,13 +48,7 @@ const TRACE: Form = Form {
     places: &["DESC", "IMAGE"],
     least: 2,
     options: &[
-        OptionForm {
-            name: "--grant",
-            shown: "--grant G",
-            value: Value::Number(2, 1_048_575),
-            times: Times::Once,
-            against: &[],
-        },
+        GRANT,
         OptionForm {
             name: "--steps",
             shown: "--steps N",
@@ -107,49 +101,74 @@ const TRACE: Form = Form {
     ],
 };
 
+/// Cells of a machine or of each guest.
+const GRANT: OptionForm = OptionForm {
+    name: "--grant",
+    shown: "--grant G",
+    value: Value::Number(2, 1_048_575),
+    times: Times::Once,
+    against: &[],
+};
+
+/// Steps at most, of what runs until it is still.
+const STEPS_AT_MOST: OptionForm = OptionForm {
+    name: "--steps",
+    shown: "--steps N",
+    value: Value::Number(0, 144_115_188_075_855_872),
+    times: Times::AtMostOnce,
+    against: &[],
+};
+
+/// Steps of a guest before the next has its turn.
+const SLICE: OptionForm = OptionForm {
+    name: "--slice",
+    shown: "--slice K",
+    value: Value::Number(1, 1_000_000),
+    times: Times::AtMostOnce,
+    against: &[],
+};
+
+/// A bare machine in place of guests.
+const BARE: OptionForm = OptionForm {
+    name: "--bare",
+    shown: "--bare",
+    value: Value::Nothing,
+    times: Times::AtMostOnce,
+    against: &["--slice"],
+};
+
+/// Cells that are told as words.
+const SHOW: OptionForm = OptionForm {
+    name: "--show",
+    shown: "--show A..B",
+    value: Value::Cells,
+    times: Times::Often,
+    against: &[],
+};
+
+/// Cells that are told as bytes.
+const TEXT: OptionForm = OptionForm {
+    name: "--text",
+    shown: "--text A..B[:BITS]",
+    value: Value::Bytes,
+    times: Times::Often,
+    against: &[],
+};
+
 /// Of `pg_go`, whose last eight words are images.
 const GO: Form = Form {
     places: &[
         "DESC", "CERT", "IMAGE", "IMAGE", "IMAGE", "IMAGE", "IMAGE", "IMAGE", "IMAGE", "IMAGE",
     ],
     least: 3,
-    options: &[
-        OptionForm {
-            name: "--grant",
-            shown: "--grant G",
-            value: Value::Number(2, 1_048_575),
-            times: Times::Once,
-            against: &[],
-        },
-        OptionForm {
-            name: "--steps",
-            shown: "--steps N",
-            value: Value::Number(0, 144_115_188_075_855_872),
-            times: Times::AtMostOnce,
-            against: &[],
-        },
-        OptionForm {
-            name: "--slice",
-            shown: "--slice K",
-            value: Value::Number(1, 1_000_000),
-            times: Times::AtMostOnce,
-            against: &[],
-        },
-        OptionForm {
-            name: "--show",
-            shown: "--show A..B",
-            value: Value::Cells,
-            times: Times::Often,
-            against: &[],
-        },
-        OptionForm {
-            name: "--text",
-            shown: "--text A..B[:BITS]",
-            value: Value::Bytes,
-            times: Times::Often,
-            against: &[],
-        },
-    ],
+    options: &[GRANT, STEPS_AT_MOST, SLICE, SHOW, TEXT],
+};
+
+/// Of `pg_go --bare`.
+const GO_BARE: Form = Form {
+    places: &["DESC", "IMAGE"],
+    least: 2,
+    options: &[BARE, GRANT, STEPS_AT_MOST, SLICE, SHOW, TEXT],
 };
 
 /// Of `pg_dimacs`.
@@ -186,11 +205,12 @@ const EXPORT: Form = Form {
     }],
 };
 
-/// How a program takes its words.
-pub fn form_of(side: Side) -> &'static Form {
+/// How a program takes these words, which stand behind its name.
+pub fn form_of(side: Side, words: &[String]) -> &'static Form {
     match side {
         Side::Explain => &EXPLAIN,
         Side::Trace => &TRACE,
+        Side::Go if is_bare(words) => &GO_BARE,
         Side::Go => &GO,
         Side::Dimacs => &DIMACS,
         Side::Solve => &SOLVE,
@@ -199,17 +219,23 @@ pub fn form_of(side: Side) -> &'static Form {
     }
 }
 
+/// Whether words ask for a bare machine.
+fn is_bare(words: &[String]) -> bool {
+    words.iter().any(|word| word.as_str() == BARE.name)
+}
+
 /// What the words of a program name, its name first.
 pub fn named_by(side: Side, words: &[String]) -> Named<'_> {
     let [_, words @ ..] = words else {
         return Named::nothing();
     };
-    let form = form_of(side);
+    let form = form_of(side, words);
     let desc = form.place(words, 0);
     let (cert, instr, saved) = match side {
         Side::Solve => return Named::nothing(),
         Side::Trace => (form.value(words, "--cert"), None, None),
         Side::Dimacs => (None, form.place(words, 1), None),
+        Side::Go if is_bare(words) => (None, None, None),
         Side::Go => (form.place(words, 1), None, None),
         Side::Explain | Side::Export => (form.place(words, 1), form.place(words, 2), None),
         Side::Import => (

@@ -56,7 +56,7 @@ reached-each d (image ∷ images) [] = refl
 reached-each d (image ∷ images) (rest ∷ rests) = ap (λ ss. steps d (steps_told rest) (power_on image (length image)) ∷ ss) (reached-each d images rests)
 
 -- a guest that is still stays so
-stays : (d : Desc) (s : State) (turns n k : ℕ) (f : Option ℕ) → f ≡ Some n → n ≤ k → TellsFirst d turns s f → steps d k s ≡ steps d n s
+pub stays : (d : Desc) (s : State) (turns n k : ℕ) (f : Option ℕ) → f ≡ Some n → n ≤ k → TellsFirst d turns s f → steps d k s ≡ steps d n s
 stays d s turns n k None is behind tells = absurd (let wrong : ⊥ = cc in wrong)
 stays d s turns n k (Some m) is behind tells =
     let same : m ≡ n = same_Some m n is in
@@ -114,7 +114,7 @@ pub rested-within : (r : GuestRun) (ran : Rested) (old h : Machinery) → HaveRe
 rested-within r ran old h have = Stands-within r.desc h.state ran.monitor.guests ran.monitor.current have.stands
 
 -- guests have the sizes of their images
-power_on-length : (image : List ℕ) → length (power_on image (length image)).cells ≡ length image
+pub power_on-length : (image : List ℕ) → length (power_on image (length image)).cells ≡ length image
 unfolding power_on
 power_on-length image = omega (arith, length-append image (replicate (length image - length image) 0), length-replicate {A = ℕ} (length image - length image) 0)
 

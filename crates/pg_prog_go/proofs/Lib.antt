@@ -1,3 +1,4 @@
 mod EndsLemmas
 mod PlanLemmas
 mod OneGo
+mod BareLemmas

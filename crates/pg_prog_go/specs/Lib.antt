@@ -1,3 +1,4 @@
 pub mod Going
 pub mod Plans
+pub mod Bare
 pub mod Calls

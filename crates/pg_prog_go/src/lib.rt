@@ -1,6 +1,7 @@
-//! `pg_go`: images as guests under a monitor, each until it is still.
+//! `pg_go`: images as guests under a monitor, each until it is still; or one on a bare machine.
 //!
 //!     pg_go DESC CERT IMAGE.. --grant G [--steps N] [--slice K] [--show A..B].. [--text A..B[:BITS]]..
+//!     pg_go --bare DESC IMAGE --grant G [--steps N] [--show A..B].. [--text A..B[:BITS]]..
 //!
 //! Each image runs as a guest, as under `pgv run`, but not for so many steps: until it is *still*. A guest is still where its next step
 //! leaves its state as it is, as a jump to itself does, or a trap that stores and loads what is there already: every later state is
@@ -21,12 +22,16 @@
 //!
 //! The last two may stand 16 times in all; of each guest all that they name is told, in their order.
 //!
-//! Refusals have the lines and statuses of `pgv run`, in its order: the words (3), the description (4), the room (7), the images (5),
-//! the certificate (6), a verdict that does not accept the machine (1, 2). The status is 8 where a file cannot be read, 9 where the
-//! output cannot be written, 10 where memory is refused, and 11 where a file is not there. No file is saved. What each status means is
-//! a clause (`run`, `carry_go`).
+//! With `--bare` one image runs on a bare machine of so many cells, without a monitor and so without a certificate. Behind how many steps
+//! it is still is told in the same words, then its state, or what is to be shown of it. There is no line of turns.
 //!
-//! - `request`: the words. `preparing`: the files, to a `plan`, a run that can be done. `carry`: the run and its text.
+//! Refusals have the lines and statuses of `pgv run`, in its order: the words (3), the description (4), the room (7), the images (5),
+//! the certificate (6), a verdict that does not accept the machine (1, 2). Those of a bare machine are of `pgv bare`. The status is 8
+//! where a file cannot be read, 9 where the output cannot be written, 10 where memory is refused, and 11 where a file is not there. No
+//! file is saved. What each status means is a clause (`run`, `carry_go`, `carry_bare`).
+//!
+//! - `request`: the words. `preparing`: the files, to a `plan`, a run that can be done. `carry`: the run and its text. `bare`: all of
+//!   these of a bare machine.
 #![tactic(auto)]
 
 ghost use Rattle.std.specs.Prelude.{◌≡◌, ◌≤◌, None};
@@ -35,22 +40,24 @@ ghost use Rattle.pg_cmd_base.specs.Classes.{class_of};
 ghost use Rattle.pg_cmd_base.specs.World.{Keeps, around, output};
 ghost use Rattle.pg_prog_go.specs.Calls.{Goes, GoesBy, UsageAs};
 
+mod bare;
 mod carry;
 mod plan;
 mod preparing;
 mod request;
 
+pub use bare::carry_bare;
 pub use carry::carry_go;
 use pg_cmd_base::{Status, StopWatcher};
 use pg_edge::{Shelf, Sink};
 use pg_hw::Settling;
 use pg_report::put_text;
-pub use request::{GoWords, MOST_STEPS, StepsAtMost, asked_by};
+pub use request::{Asked, BareGoWords, GoWords, MOST_STEPS, StepsAtMost, asked_by};
 use std::alloc::Global;
 
 /// How the program is called.
 pub const USAGE: &[u8] =
-    b"usage: pg_go DESC CERT IMAGE.. --grant G [--steps N] [--slice K] [--show A..B].. [--text A..B[:BITS]]..\n";
+    b"usage: pg_go DESC CERT IMAGE.. --grant G [--steps N] [--slice K] [--show A..B].. [--text A..B[:BITS]]..\n       pg_go --bare DESC IMAGE --grant G [--steps N] [--show A..B].. [--text A..B[:BITS]]..\n";
 
 /// Runs what the words ask for, the program's name first, and gives the number of the status. Words that are not taken are answered by
 /// how the program is called, and nothing is touched.
@@ -91,7 +98,8 @@ fn go<F: Shelf, S: Sink, H: Settling, W: StopWatcher>(
     match asked_by(alloc, words) {
         Err(_) => Status::Memory,
         Ok(None) => put_usage(out),
-        Ok(Some(words)) => carry_go(alloc, &words, shelf, out, hw, watcher),
+        Ok(Some(Asked::Guests(words))) => carry_go(alloc, &words, shelf, out, hw, watcher),
+        Ok(Some(Asked::Bare(words))) => carry_bare(alloc, &words, shelf, out, hw, watcher),
     }
 }
 

@@ -40,6 +40,32 @@ pub struct GoWords {
     pub ghost within: { AreViewsOf grant views.items },
 }
 
+/// A run of a bare machine, until it is still.
+#[derive(Drop)]
+pub struct BareGoWords {
+    /// The name of the file with the machine's description.
+    pub desc: FileName,
+    /// The name of the file with the image.
+    pub image: FileName,
+    /// How many cells are granted to the machine.
+    pub grant: Grant,
+    /// How many steps it does at most.
+    pub steps: StepsAtMost,
+    /// What is told of it in place of its state, 16 at most; none where its state is told.
+    pub views: Vec<View>,
+    /// They show cells that it has.
+    pub ghost within: { AreViewsOf grant views.items },
+}
+
+/// What words ask for.
+#[derive(Drop)]
+pub enum Asked {
+    /// Guests, each until it is still.
+    Guests(GoWords),
+    /// A bare machine, until it is still.
+    Bare(BareGoWords),
+}
+
 /// How many steps a guest does at most.
 #[derive(Clone, Copy)]
 pub struct StepsAtMost {
@@ -52,6 +78,7 @@ pub struct StepsAtMost {
 /// What words have said so far.
 #[derive(Drop)]
 struct Draft<'a> {
+    bare: bool,
     files: Vec<&'a str>,
     grant: Option<Grant>,
     steps: Option<StepsAtMost>,
@@ -74,17 +101,18 @@ impl From<AllocError> for Untaken {
 }
 
 /// What the words ask for, the program's name first; none where they are others.
-pub fn asked_by(alloc: Global, words: &[String]) -> Result<Option<GoWords>, AllocError> {
+pub fn asked_by(alloc: Global, words: &[String]) -> Result<Option<Asked>, AllocError> {
     match words_of(alloc, words) {
-        Ok(words) => Ok(Some(words)),
+        Ok(asked) => Ok(Some(asked)),
         Err(Untaken::Words) => Ok(None),
         Err(Untaken::Memory) => Err(AllocError),
     }
 }
 
 /// The words, taken one by one, and then the files.
-fn words_of(alloc: Global, words: &[String]) -> Result<GoWords, Untaken> {
+fn words_of(alloc: Global, words: &[String]) -> Result<Asked, Untaken> {
     let mut draft = Draft {
+        bare: false,
         files: Vec::new(alloc),
         grant: None,
         steps: None,
@@ -98,17 +126,51 @@ fn words_of(alloc: Global, words: &[String]) -> Result<GoWords, Untaken> {
     while let [word, behind @ ..] = left {
         left = draft.take(word.as_str(), behind)?;
     }
-    whole(alloc, draft)
+    if draft.bare {
+        Ok(Asked::Bare(bare_words(alloc, draft)?))
+    } else {
+        Ok(Asked::Guests(go_words(alloc, draft)?))
+    }
 }
 
-/// What a draft asks for, where nothing is left out.
-fn whole(alloc: Global, draft: Draft<'_>) -> Result<GoWords, Untaken> {
+/// The bare machine that a draft asks for, where nothing is left out. It has no slice.
+fn bare_words(alloc: Global, draft: Draft<'_>) -> Result<BareGoWords, Untaken> {
     let Draft {
         files,
         grant,
         steps,
         slice,
         views,
+        ..
+    } = draft;
+    let grant = match grant {
+        Some(grant) => grant,
+        None => return Err(Untaken::Words),
+    };
+    if slice.is_some() || !are_within(views.as_slice(), grant.cells()) {
+        return Err(Untaken::Words);
+    }
+    let [desc, image] = files.as_slice() else {
+        return Err(Untaken::Words);
+    };
+    Ok(BareGoWords {
+        desc: file_name(alloc, desc)?,
+        image: file_name(alloc, image)?,
+        grant,
+        steps: steps_or_most(steps),
+        views,
+    })
+}
+
+/// The guests that a draft asks for, where nothing is left out.
+fn go_words(alloc: Global, draft: Draft<'_>) -> Result<GoWords, Untaken> {
+    let Draft {
+        files,
+        grant,
+        steps,
+        slice,
+        views,
+        ..
     } = draft;
     let grant = match grant {
         Some(grant) => grant,
@@ -180,12 +242,16 @@ fn file_name(alloc: Global, name: &str) -> Result<FileName, AllocError> {
 }
 
 impl<'a> Draft<'a> {
-    /// Takes a word, and behind the name of an option its value; what is left.
+    /// Takes a word, and behind the name of an option its value, where it has one; what is left.
     fn take(&mut self, word: &'a str, behind: &'a [String]) -> Result<&'a [String], Untaken>
         ensures { IfOk result (λ left. length left.now ≤ length behind.now) }
     {
         if !word.starts_with('-') {
             self.take_file(word)?;
+            return Ok(behind);
+        }
+        if word == "--bare" && !self.bare {
+            self.bare = true;
             return Ok(behind);
         }
         let [value, behind @ ..] = behind else {

@@ -37,7 +37,7 @@ use Rattle.pg_prog_base.specs.Either.{EitherDue}
 use Rattle.pg_prog_trace.specs.Done.{IsShown, PutsText, PutsRun, ended_as}
 use Rattle.pg_prog_trace.specs.Judging.{IsJudged}
 use Rattle.pg_prog_trace.specs.Plans.{RunDue, kept_beside}
-use Rattle.pg_prog_trace.specs.Tracing.{TraceWork, behind_run, TraceDue, telling_by, PutsFront, PutsPart, BreaksPart, LetsRun, ForbidsRun, RunShown, WorkLeaves, TracesAs, Traces}
+use Rattle.pg_prog_trace.specs.Tracing.{TraceWork, behind_run, TraceDue, telling_by, PutsFront, PutsPart, BreaksPart, LetsRun, ForbidsRun, RunShown, Leaving, WorkLeaves, FormLeaves, TracesAs, Traces, TracesForm}
 use Rattle.pg_prog_trace.specs.Until.{IsPart}
 use Rattle.pg_prog_trace.specs.declared.request.TraceWords.{TraceWords}
 use Rattle.pg_prog_trace.specs.declared.request.Until.{Until}
@@ -140,38 +140,69 @@ verdict-left shows until w j old new before after given OutOfMemory forbids same
 
 -- ---- the program
 
-refused-as : (w : TraceWords) (old new : World) (why : Refusal) (given : Status) (k : Class) → TraceDue w.cert w.bare old.files (Refused why) → IsUntouched old new →
-    SaysRefusal why old.out new.out given k → TracesAs w old new given k
-refused-as w old new why given Ended due same h = inl (record { why = why; is_due = due; came = record { status = h.status; said = h.said; untouched = same } })
-refused-as w old new why given Unwritten due same h = inl (record { why = why; is_due = due; front = h; untouched = same })
-refused-as w old new why given Unread due same h = absurd h
-refused-as w old new why given OutOfMemory due same h = absurd h
+refused-as : (Leaves : Leaving) (w : TraceWords) (old new : World) (why : Refusal) (given : Status) (k : Class) → TraceDue w.cert w.bare old.files (Refused why) → IsUntouched old new →
+    SaysRefusal why old.out new.out given k → TracesAs Leaves w old new given k
+refused-as Leaves w old new why given Ended due same h = inl (record { why = why; is_due = due; came = record { status = h.status; said = h.said; untouched = same } })
+refused-as Leaves w old new why given Unwritten due same h = inl (record { why = why; is_due = due; front = h; untouched = same })
+refused-as Leaves w old new why given Unread due same h = absurd h
+refused-as Leaves w old new why given OutOfMemory due same h = absurd h
 
 -- it stops before its work
+stopped-as : {T : Type 0} (Leaves : Leaving) (w : TraceWords) (view : T → TraceWork) (old new : World) (why : Stop) (given : Status) →
+    Comes view (TraceDue w.cert w.bare old.files) old.read_faults new.read_faults (Err why) → Stops why old.out new.out given → IsUntouched old new →
+    TracesAs Leaves w old new given (class_of given)
+stopped-as Leaves w view old new (stop.Refused why) given h told same = refused-as Leaves w old new why given (class_of given) h same told
+stopped-as Leaves w view old new stop.ReadFault given h told same =
+    subst (λ s. TracesAs Leaves w old new s (class_of s)) (sym told.0) (record { is_due = h.0; cause = h.1; silent = told.1; untouched = same })
+stopped-as Leaves w view old new stop.Memory given h told same =
+    subst (λ s. TracesAs Leaves w old new s (class_of s)) (sym told.0) (inl (record { silent = told.1; untouched = same }))
+
 pub traces-stopped : {T : Type 0} (w : TraceWords) (view : T → TraceWork) (old new : World) (why : Stop) (given : Status) →
     Comes view (TraceDue w.cert w.bare old.files) old.read_faults new.read_faults (Err why) → Stops why old.out new.out given → IsUntouched old new → Traces w old new given
-traces-stopped w view old new (stop.Refused why) given h told same = record { by_class = refused-as w old new why given (class_of given) h same told }
-traces-stopped w view old new stop.ReadFault given h told same = record {
-  by_class = subst (λ s. TracesAs w old new s (class_of s)) (sym told.0) (record { is_due = h.0; cause = h.1; silent = told.1; untouched = same });
-}
-traces-stopped w view old new stop.Memory given h told same = record {
-  by_class = subst (λ s. TracesAs w old new s (class_of s)) (sym told.0) (inl (record { silent = told.1; untouched = same }));
-}
+traces-stopped w view old new why given h told same = record { by_class = stopped-as (WorkLeaves w.shows w.until) w view old new why given h told same }
 
-works-as : (w : TraceWords) (old new : World) (work : TraceWork) (given : Status) (k : Class) → TraceDue w.cert w.bare old.files (Came work) →
-    WorkLeaves w.shows w.until work old.out new.out old.hw new.hw given k → new.files ≡ old.files → new.save_faults ≡ old.save_faults → TracesAs w old new given k
-works-as w old new work given Ended due left files saves =
-    inr (record { work = work; is_due = due; left = left; means = work-means w.cert w.bare old.files work due; files = files; saves = saves })
-works-as w old new work given Unwritten due left files saves =
-    inr (record { work = work; is_due = due; left = left; means = work-means w.cert w.bare old.files work due; files = files; saves = saves })
-works-as w old new work given Unread due left files saves = absurd left
-works-as w old new work given OutOfMemory due left files saves =
-    inr (record { work = work; is_due = due; left = left; means = work-means w.cert w.bare old.files work due; files = files; saves = saves })
+pub form-stopped : {T : Type 0} (w : TraceWords) (view : T → TraceWork) (old new : World) (why : Stop) (given : Status) →
+    Comes view (TraceDue w.cert w.bare old.files) old.read_faults new.read_faults (Err why) → Stops why old.out new.out given → IsUntouched old new → TracesForm w old new given
+form-stopped w view old new why given h told same = record { by_class = stopped-as FormLeaves w view old new why given h told same }
 
 -- its work is done, or breaks off
+works-as : (Leaves : Leaving) → ((work : TraceWork) (old new : Output) (before after : Machinery) (given : Status) → Leaves work old new before after given Unread → ⊥) →
+    (w : TraceWords) (old new : World) (work : TraceWork) (given : Status) (k : Class) → TraceDue w.cert w.bare old.files (Came work) →
+    Leaves work old.out new.out old.hw new.hw given k → new.files ≡ old.files → new.save_faults ≡ old.save_faults → TracesAs Leaves w old new given k
+works-as Leaves never w old new work given Ended due left files saves =
+    inr (record { work = work; is_due = due; left = left; means = work-means w.cert w.bare old.files work due; files = files; saves = saves })
+works-as Leaves never w old new work given Unwritten due left files saves =
+    inr (record { work = work; is_due = due; left = left; means = work-means w.cert w.bare old.files work due; files = files; saves = saves })
+works-as Leaves never w old new work given Unread due left files saves = absurd (never work old.out new.out old.hw new.hw given left)
+works-as Leaves never w old new work given OutOfMemory due left files saves =
+    inr (record { work = work; is_due = due; left = left; means = work-means w.cert w.bare old.files work due; files = files; saves = saves })
+
 pub traces-works : (w : TraceWords) (old new : World) (work : TraceWork) (given : Status) → TraceDue w.cert w.bare old.files (Came work) →
     WorkLeaves w.shows w.until work old.out new.out old.hw new.hw given (class_of given) → new.files ≡ old.files → new.save_faults ≡ old.save_faults → Traces w old new given
-traces-works w old new work given due left files saves = record { by_class = works-as w old new work given (class_of given) due left files saves }
+traces-works w old new work given due left files saves =
+    record { by_class = works-as (WorkLeaves w.shows w.until) (λ x a b c e s never. never) w old new work given (class_of given) due left files saves }
+
+pub form-works : (w : TraceWords) (old new : World) (work : TraceWork) (given : Status) → TraceDue w.cert w.bare old.files (Came work) →
+    FormLeaves work old.out new.out old.hw new.hw given (class_of given) → new.files ≡ old.files → new.save_faults ≡ old.save_faults → TracesForm w old new given
+form-works w old new work given due left files saves =
+    record { by_class = works-as FormLeaves (λ x a b c e s never. never) w old new work given (class_of given) due left files saves }
+
+-- ---- of another form
+
+-- the run was to be done
+pub form-left : (w : TraceWork) (old new : Output) (before after : Machinery) (r : Result (Unit {0}) TraceFault) → LetsRun w →
+    FormLeaves w old new before after (ended_as r) (class_of (ended_as r))
+form-left w old new before after (Ok x) lets = inl (record { lets = lets; status = refl })
+form-left w old new before after (Err fault.Output) lets = inl lets
+form-left w old new before after (Err fault.Memory) lets = lets
+
+-- the verdict was told in place of it
+pub form-verdict : (w : TraceWork) (j : Judged) (old new : Output) (before after : Machinery) (given : Status) (k : Class) → ForbidsRun w j → after ≡ before → ToldAs j old new given k →
+    FormLeaves w old new before after given k
+form-verdict w j old new before after given Ended forbids same h = inr (record { judged = j; forbids = forbids; told = h; untouched = same })
+form-verdict w j old new before after given Unwritten forbids same h = inr (record { judged = j; forbids = forbids; broken = h; untouched = same })
+form-verdict w j old new before after given Unread forbids same h = absurd h
+form-verdict w j old new before after given OutOfMemory forbids same h = absurd h
 
 -- ---- where it is done
 

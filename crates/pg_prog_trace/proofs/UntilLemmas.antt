@@ -1,18 +1,11 @@
 -- The first number of steps at which a condition holds.
-use Rattle.std.proofs.Common.{◌≡◌, ℕ, zero, suc, ◌+◌, ◌<◌, List, ◌++◌, length, inl, inr, refl, sym, ◌∙◌, ap, subst, arith, true≢false}
+use Rattle.std.proofs.Common.{◌≡◌, ℕ, zero, suc, ◌+◌, ◌<◌, inl, inr, refl, sym, ◌∙◌, subst, arith, true≢false}
 use Rattle.std.proofs.lemmas.Bool.{cases_lt}
-use Rattle.std.proofs.lemmas.List.{append-nil, drop_all, take_all}
-use Rattle.pg_word.specs.declared.psw.Psw.{Psw}
 use Rattle.pg_ast.specs.declared.tree.Desc.{Desc}
-use Rattle.pg_lang_meaning.specs.States.{State, IsState}
+use Rattle.pg_lang_meaning.specs.States.{State}
 use Rattle.pg_lang_meaning.specs.Steps.{step, steps}
-use Rattle.pg_lang_valid.specs.Valid.{IsValid}
-use Rattle.pg_lang_valid.proofs.StepSound.{step-length, steps-length, steps-state}
 use Rattle.pg_hw.specs.Bursts.{burst_length}
-use Rattle.pg_hw.specs.Machinery.{Machinery, at_psw}
-use Rattle.pg_hw.specs.Stillness.{IsStill}
 use Rattle.pg_hw.proofs.BurstLaws.{burst_length-most, burst_length-goes_on, burst_length-ends, burst_length-some}
-use Rattle.pg_routine.specs.Granting.{guest_at, with_grant, GrantPoked}
 use Rattle.pg_prog_trace.specs.Until.{HoldsAt, EndsInTrap, IsUntil}
 use Rattle.pg_prog_trace.specs.declared.request.Until.{Until}
 use Rattle.pg_prog_trace.specs.declared.request.Until.TheVariants.{Trap}
@@ -66,44 +59,3 @@ until-burst d most n s is = record {
   first = λ k before. untrapped d most s k (omega (arith, is, before));
   holds = ended d most n s is;
 }
-
--- ---- a state that is still
-
--- the whole storage as a grant
-whole-guest : (cells : List ℕ) (size : ℕ) (psw : Psw) → size ≡ length cells → guest_at cells 0 size psw ≡ at_psw cells psw
-whole-guest cells size psw same = ap (λ cs. at_psw cs psw) (take_all size cells (omega (arith, same)))
-
-whole-grant : (cells new : List ℕ) → length new ≡ length cells → with_grant cells 0 new ≡ new
-whole-grant cells new same = ap (λ xs. new ++ xs) (drop_all (0 + length new) cells (omega (arith, same))) ∙ append-nil new
-
--- its step was interpreted
-pub interpreted : (d : Desc) (n size : ℕ) (s : State) (psw after : Psw) (old new : Machinery) → IsValid d → IsState d s → size ≡ length old.state.cells →
-    at_psw old.state.cells psw ≡ steps d n s → GrantPoked 0 (step d (guest_at old.state.cells 0 size psw)).cells 8 old new →
-    after ≡ (step d (guest_at old.state.cells 0 size psw)).psw → at_psw new.state.cells after ≡ steps d (n + 1) s
-interpreted d n size s psw after old new valid sound whole is poked loaded =
-    let guest = whole-guest old.state.cells size psw whole ∙ is in
-    let next : State = step d (steps d n s) in
-    let cells : new.state.cells ≡ next.cells =
-    ap (λ (x : State). x.cells) poked.state ∙ ap (λ (x : State). with_grant old.state.cells 0 (step d x).cells) guest
-    ∙ whole-grant old.state.cells next.cells (step-length d (steps d n s) valid (steps-state d n s valid sound) ∙ ap (λ (x : State). length x.cells) (sym is)) in
-    ap (λ xs. at_psw xs after) cells ∙ ap (λ x. at_psw next.cells x) (loaded ∙ ap (λ (x : State). (step d x).psw) guest) ∙ steps-next d n s
-
--- the storage has as many cells as before
-pub same-length : (d : Desc) (m n size : ℕ) (s : State) (psw after : Psw) (old new : List ℕ) → IsValid d → IsState d s → size ≡ length old → at_psw old psw ≡ steps d m s →
-    at_psw new after ≡ steps d n s → size ≡ length new
-same-length d m n size s psw after old new valid sound whole was now =
-    whole ∙ ap (λ (x : State). length x.cells) was ∙ steps-length d m s valid sound ∙ sym (steps-length d n s valid sound) ∙ sym (ap (λ (x : State). length x.cells) now)
-
--- the guest is a state of the machine
-pub guest-state : (d : Desc) (n size : ℕ) (s : State) (cells : List ℕ) (psw : Psw) → IsValid d → IsState d s → size ≡ length cells → at_psw cells psw ≡ steps d n s →
-    IsState d (guest_at cells 0 size psw)
-guest-state d n size s cells psw valid sound whole is = subst (IsState d) (sym (whole-guest cells size psw whole ∙ is)) (steps-state d n s valid sound)
-
--- and it is still exactly where the state is
-pub still-guest : (d : Desc) (n size : ℕ) (s : State) (cells : List ℕ) (psw : Psw) → size ≡ length cells → at_psw cells psw ≡ steps d n s →
-    step d (guest_at cells 0 size psw) ≡ guest_at cells 0 size psw → IsStill d (steps d n s)
-still-guest d n size s cells psw whole is = subst (IsStill d) (whole-guest cells size psw whole ∙ is)
-
-pub guest-still : (d : Desc) (n size : ℕ) (s : State) (cells : List ℕ) (psw : Psw) → size ≡ length cells → at_psw cells psw ≡ steps d n s →
-    IsStill d (steps d n s) → step d (guest_at cells 0 size psw) ≡ guest_at cells 0 size psw
-guest-still d n size s cells psw whole is = subst (IsStill d) (sym (whole-guest cells size psw whole ∙ is))

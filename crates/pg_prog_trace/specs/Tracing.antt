@@ -126,6 +126,22 @@ WorkLeaves shows until w old new before after given Unwritten =
 WorkLeaves shows until w old new before after given Unread = ⊥
 WorkLeaves shows until w old new before after given OutOfMemory = RunBroken shows until w old new fault.Memory
 
+-- what work leaves, of whatever form
+abbrev pub Leaving : Type 1
+Leaving = TraceWork → Output → Output → Machinery → Machinery → Status → Class → Type 0
+
+-- the run was done
+pub record FormShown (w : TraceWork) (given : Status) : Type 0 where
+  pub lets : LetsRun w
+  pub status : given ≡ status.Done
+
+-- as JSON or as a dump: the verdict is told as beside the text, and of the run nothing is said here but that it was to be done
+abbrev pub FormLeaves : Leaving
+FormLeaves w old new before after given Ended = FormShown w given ⊎ VerdictShown w old new before after given
+FormLeaves w old new before after given Unwritten = LetsRun w ⊎ VerdictBroken w old new before after
+FormLeaves w old new before after given Unread = ⊥
+FormLeaves w old new before after given OutOfMemory = LetsRun w
+
 -- ---- the program
 
 -- the command that it is, up to its work
@@ -140,23 +156,27 @@ trace_command w = record {
 }
 
 -- this work was due, and left that; no file was saved, and the verdict of its certificate means what it says
-pub record Works (w : TraceWords) (old new : World) (given : Status) (class : Class) : Type 0 where
+pub record Works (Leaves : Leaving) (w : TraceWords) (old new : World) (given : Status) (class : Class) : Type 0 where
   pub work : TraceWork
   pub is_due : TraceDue w.cert w.bare old.files (Came work)
-  pub left : WorkLeaves w.shows w.until work old.out new.out old.hw new.hw given class
+  pub left : Leaves work old.out new.out old.hw new.hw given class
   pub means : IfSome work.report (λ report. VerdictMeans work.run.desc report)
   pub files : new.files ≡ old.files
   pub saves : new.save_faults ≡ old.save_faults
 
-abbrev pub TracesAs : TraceWords → World → World → Status → Class → Type 0
-TracesAs w old new given Ended = EndsRefused (trace_command w) old new given ⊎ Works w old new given Ended
-TracesAs w old new given Unwritten = BreaksRefused (trace_command w) old new ⊎ Works w old new given Unwritten
-TracesAs w old new given Unread = Misreads (trace_command w) old new
-TracesAs w old new given OutOfMemory = StarvesBefore old new ⊎ Works w old new given OutOfMemory
+abbrev pub TracesAs : Leaving → TraceWords → World → World → Status → Class → Type 0
+TracesAs Leaves w old new given Ended = EndsRefused (trace_command w) old new given ⊎ Works Leaves w old new given Ended
+TracesAs Leaves w old new given Unwritten = BreaksRefused (trace_command w) old new ⊎ Works Leaves w old new given Unwritten
+TracesAs Leaves w old new given Unread = Misreads (trace_command w) old new
+TracesAs Leaves w old new given OutOfMemory = StarvesBefore old new ⊎ Works Leaves w old new given OutOfMemory
 
 -- what the program with these words made of the world, by the class of the status
 pub record Traces (w : TraceWords) (old new : World) (given : Status) : Type 0 where
-  pub by_class : TracesAs w old new given (class_of given)
+  pub by_class : TracesAs (WorkLeaves w.shows w.until) w old new given (class_of given)
+
+-- the same where its words ask for JSON or a dump
+pub record TracesForm (w : TraceWords) (old new : World) (given : Status) : Type 0 where
+  pub by_class : TracesAs FormLeaves w old new given (class_of given)
 
 -- what the code has for the work, as that of the definition
 abbrev pub trace_work : Work → TraceWork

@@ -1,14 +1,17 @@
 //! A run as JSON: `docs/DATA.md` has its keys.
 
-ghost use Rattle.std.specs.Prelude.{◌≡◌, ◌*◌, ◌≤◌, All, OnOk, IfSome, length};
+ghost use Rattle.std.specs.Prelude.{◌≡◌, ◌*◌, ◌≤◌, All, OnOk, IfSome, Some, length};
 ghost use Rattle.pg_ast.specs.declared.tree.Desc.{Desc};
 ghost use Rattle.pg_cert.specs.Verdicts.{kind_count};
 ghost use Rattle.pg_report.specs.Verdicts.{DoMarkWordsFit};
 ghost use Rattle.pg_cmd_base.specs.Able.{IsAble};
 ghost use Rattle.pg_cmd_base.specs.Answering.{OnlyReads};
+ghost use Rattle.pg_cmd_base.specs.Classes.{class_of};
+ghost use Rattle.pg_cmd_base.specs.World.{around, output};
 ghost use Rattle.pg_cmd_plain.specs.Bare.{reached};
 ghost use Rattle.pg_lang_valid.specs.Valid.{IsValid};
 ghost use Rattle.pg_prog_trace.specs.Plans.{planned_run};
+ghost use Rattle.pg_prog_trace.specs.Tracing.{FormLeaves, TracesForm, trace_work};
 
 use crate::carry::{ended, tell_refused};
 use crate::monitor::monitor_of;
@@ -37,6 +40,8 @@ pub fn carry_json<F: Shelf, S: Sink, H: Hardware, W: StopWatcher>(
     watcher: &mut W,
 ) -> Status
     requires able { IsAble H.Hardware hw.old }
+    ensures form { TracesForm words.now (around F.Shelf S.Sink H.Hardware shelf.old out.old hw.old)
+        (around F.Shelf S.Sink H.Hardware shelf.new out.new hw.new) result }
     ensures reads { OnlyReads F.Shelf shelf.old shelf.new }
 {
     match load_work(alloc, words, shelf) {
@@ -56,6 +61,8 @@ fn put_work<S: Sink, H: Hardware>(
     requires able { IsAble H.Hardware hw.old }
     requires whole { IfSome work.report (λ r. length r.marks ≡ length work.plan.machine.desc.instrs * kind_count r.family) }
     requires fit { IfSome work.report (λ r. All (DoMarkWordsFit work.plan.machine.desc.word) r.marks) }
+    ensures { FormLeaves (trace_work work) (output S.Sink out.old) (output S.Sink out.new) (H.machinery hw.old) (H.machinery hw.new) result
+        (class_of result) }
 {
     let Work { plan, report } = work;
     match report {
@@ -76,6 +83,8 @@ fn carry_accepted<S: Sink, H: Hardware>(
     requires able { IsAble H.Hardware hw.old }
     requires whole { length report.marks ≡ length plan.machine.desc.instrs * kind_count report.family }
     requires fit { All (DoMarkWordsFit plan.machine.desc.word) report.marks }
+    ensures { FormLeaves (record { run = planned_run plan; report = Some report }) (output S.Sink out.old) (output S.Sink out.new)
+        (H.machinery hw.old) (H.machinery hw.new) result (class_of result) }
 {
     if !is_accepted(report.verdict()) {
         return tell_refused(plan, report, out);

@@ -1,8 +1,8 @@
 //! How many steps of a run are done that ends where a condition first holds.
 //!
 //! A hardware is switched on with the image, and the steps are done to count them: who shows the run switches it on anew. A run ends
-//! at a trap as a burst does. Where P is looked at, the hardware does one step at a time; where a state is to be still, the
-//! interpretive routine of a monitor does, since it tells of each step whether it left the state as it was, of those that trap too.
+//! at a trap as a burst does. Where P is looked at, the hardware does one step at a time; where a state is to be still, steps are
+//! interpreted (`step_seen`), which tells of each whether it left the state as it was, of those that trap too.
 
 ghost use Rattle.std.specs.Prelude.{◌≡◌, ◌≤◌, IfOk};
 ghost use Rattle.pg_ast.specs.declared.tree.Desc.{Desc};
@@ -19,7 +19,7 @@ use crate::request::Until;
 use pg_hw::{Hardware, power_on};
 use pg_interp::Frame;
 use pg_mach_ready::Machine;
-use pg_routine::emulate_seen;
+use pg_run_still::step_seen;
 use std::alloc::AllocError;
 
 /// The part of a planned run that is done, where something ends it; all of it where nothing does. What the hardware holds then means
@@ -106,19 +106,17 @@ fn count_until_at<H: Hardware>(m: &Machine, hw: &mut H, most: u64, p: u32) -> u6
     most
 }
 
-/// The same until the state is still. The whole storage is taken for the grant of a guest, whose steps are interpreted.
+/// The same until the state is still. Its steps are interpreted.
 fn count_until_still<H: Hardware>(m: &Machine, hw: &mut H, most: u64) -> u64
     requires served { IsServed (H.serves (H.fixed hw.old)) m.now.desc }
     requires state { IsState m.now.desc (H.machinery hw.old).state }
     ensures until { IsUntil m.now.desc Still most (H.machinery hw.old).state result }
     ensures fixed { H.fixed hw.new ≡ H.fixed hw.old }
 {
-    let size = hw.size();
-    let mut psw = hw.psw();
     let mut frame = Frame::new();
     for done in 0..most {
-        let told = emulate_seen(m, hw, 0, size, &mut psw, &mut frame);
-        if told.still {
+        let seen = step_seen(m, hw, &mut frame);
+        if seen.still {
             return done;
         }
     }

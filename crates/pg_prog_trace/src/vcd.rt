@@ -5,10 +5,12 @@ ghost use Rattle.pg_cert.specs.Verdicts.{kind_count};
 ghost use Rattle.pg_report.specs.Verdicts.{DoMarkWordsFit};
 ghost use Rattle.pg_cmd_base.specs.Able.{IsAble};
 ghost use Rattle.pg_cmd_base.specs.Answering.{OnlyReads};
+ghost use Rattle.pg_cmd_base.specs.Classes.{class_of};
+ghost use Rattle.pg_cmd_base.specs.World.{around, output};
 ghost use Rattle.pg_cmd_base.specs.declared.status.Status.TheVariants as status;
 ghost use Rattle.pg_prog_trace.specs.Dumped.{IsDumped, IsWorkDumped, PutsDump};
 ghost use Rattle.pg_prog_trace.specs.Plans.{planned_run};
-ghost use Rattle.pg_prog_trace.specs.Tracing.{trace_work};
+ghost use Rattle.pg_prog_trace.specs.Tracing.{FormLeaves, TracesForm, trace_work};
 
 use crate::carry::{ended, tell_refused};
 use crate::monitor::monitor_of;
@@ -38,6 +40,8 @@ pub fn carry_vcd<F: Shelf, S: Sink, H: Hardware, W: StopWatcher>(
     requires able { IsAble H.Hardware hw.old }
     ensures dumped { result ≡ status.Done → IsDumped words.now (F.files shelf.old) (S.written out.old) (S.written out.new)
         (H.machinery hw.new).state }
+    ensures form { TracesForm words.now (around F.Shelf S.Sink H.Hardware shelf.old out.old hw.old)
+        (around F.Shelf S.Sink H.Hardware shelf.new out.new hw.new) result }
     ensures reads { OnlyReads F.Shelf shelf.old shelf.new }
 {
     match load_work(alloc, words, shelf) {
@@ -57,7 +61,9 @@ fn dump_work<S: Sink, H: Hardware>(
     requires able { IsAble H.Hardware hw.old }
     requires whole { IfSome work.report (λ r. length r.marks ≡ length work.plan.machine.desc.instrs * kind_count r.family) }
     requires fit { IfSome work.report (λ r. All (DoMarkWordsFit work.plan.machine.desc.word) r.marks) }
-    ensures { result ≡ status.Done → IsWorkDumped until (trace_work work) (S.written out.old) (S.written out.new) (H.machinery hw.new).state }
+    ensures dumped { result ≡ status.Done → IsWorkDumped until (trace_work work) (S.written out.old) (S.written out.new) (H.machinery hw.new).state }
+    ensures left { FormLeaves (trace_work work) (output S.Sink out.old) (output S.Sink out.new) (H.machinery hw.old) (H.machinery hw.new)
+        result (class_of result) }
 {
     let Work { plan, report } = work;
     match report {
@@ -78,8 +84,10 @@ fn dump_judged<S: Sink, H: Hardware>(
     requires able { IsAble H.Hardware hw.old }
     requires whole { length report.marks ≡ length plan.machine.desc.instrs * kind_count report.family }
     requires fit { All (DoMarkWordsFit plan.machine.desc.word) report.marks }
-    ensures { result ≡ status.Done → IsWorkDumped until (record { run = planned_run plan; report = Some report }) (S.written out.old)
+    ensures dumped { result ≡ status.Done → IsWorkDumped until (record { run = planned_run plan; report = Some report }) (S.written out.old)
         (S.written out.new) (H.machinery hw.new).state }
+    ensures left { FormLeaves (record { run = planned_run plan; report = Some report }) (output S.Sink out.old) (output S.Sink out.new)
+        (H.machinery hw.old) (H.machinery hw.new) result (class_of result) }
 {
     if !is_accepted(report.verdict()) {
         return tell_refused(plan, report, out);

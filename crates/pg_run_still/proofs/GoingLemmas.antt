@@ -1,9 +1,9 @@
 -- Guests under way: those that were found still, and those that go on.
-use Rattle.std.proofs.Common.{◌≡◌, ℕ, zero, suc, ◌+◌, ◌-◌, ◌*◌, ◌<◌, ◌≤◌, inl, inr, true, false, min, if◌then◌else◌, List, [], ◌∷◌, ◌++◌, All, length, map, Option, None, Some, take, slice_get, slice_set, slice_index_or, get_or, refl, sym, ◌∙◌, ap, subst, arith, true≢false}
+use Rattle.std.proofs.Common.{◌≡◌, ℕ, zero, suc, ◌+◌, ◌-◌, ◌*◌, ◌<◌, ◌≤◌, inr, true, false, min, if◌then◌else◌, List, [], ◌∷◌, ◌++◌, All, length, Option, None, Some, take, slice_get, slice_set, slice_index_or, get_or, refl, sym, ◌∙◌, ap, subst, arith}
 use Rattle.std.specs.Option.{option_map}
-use Rattle.std.proofs.lemmas.Bool.{ltb-true, leb-true, lt-leb}
+use Rattle.std.proofs.lemmas.Bool.{lt-leb}
 use Rattle.std.proofs.lemmas.List.{length-map, length-set, length-take-le, get_or-set_same, map-append, take-set, take_more}
-use Rattle.std.proofs.lemmas.List.Elements.{All-nil, All-cons, All-tail, All-head}
+use Rattle.std.proofs.lemmas.List.Elements.{All-nil, All-cons}
 use Rattle.std.proofs.lemmas.Option.{same_Some, slice_get-map, slice_get-get_or, slice_get_within}
 use Rattle.pg_ast.specs.declared.tree.Desc.{Desc}
 use Rattle.pg_lang_meaning.specs.States.{State}
@@ -15,16 +15,15 @@ use Rattle.pg_mon_control.specs.Guests.{virtual, virtuals}
 use Rattle.pg_mon_control.specs.Standing.{Stands}
 use Rattle.pg_mon_control.specs.Plans.{turns_for}
 use Rattle.pg_mon_control.proofs.GuestLemmas.{All-at, virtuals-at}
-use Rattle.pg_monitor.specs.Plans.{Followed}
 use Rattle.pg_monitor.specs.Schedules.{Begun}
 use Rattle.pg_monitor.specs.Turns.{Turned}
 use Rattle.pg_monitor.specs.Settling.{TellsFirst, first_of}
-use Rattle.pg_monitor.proofs.PlanLemmas.{Followed-none, Followed-own}
+use Rattle.pg_monitor.proofs.PlanLemmas.{Followed-own}
 use Rattle.pg_monitor.proofs.ScheduleLemmas.{Begun-turn, Begun-then, Begun-followed}
 use Rattle.pg_monitor.proofs.SettleLemmas.{TellsFirst-then, TellsFirst-none, TellsFirst-as}
 use Rattle.pg_run_still.specs.declared.rounds.Rest.{Rest}
 use Rattle.pg_run_still.specs.Rounds.{goes_on, round_behind, rounds_until, turns_until}
-use Rattle.pg_run_still.specs.Resting.{firsts, IsRest, AreRests, RanRounds, IsBefore, AreBefore, HadSlice, AfterSlice, AfterSlice_of, AfterRound}
+use Rattle.pg_run_still.specs.Resting.{firsts, RanRounds, IsBefore, AreBefore, AfterSlice, AfterSlice_of, AfterRound}
 use Rattle.pg_run_still.proofs.PlanLemmas.{AgreeOne, Agree, agree-of, goes_on-first, rounds-agree, round-append, turns_for-append, turns_for-at, turns_for-outside, turns_until-end}
 
 -- ---- lists

@@ -3,3 +3,4 @@ mod GoingLemmas
 mod ViewLemmas
 mod TellLemmas
 mod RanLemmas
+pub mod StandLemmas

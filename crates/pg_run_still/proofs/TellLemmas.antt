@@ -1,5 +1,5 @@
 -- The text of guests that ran until they were still, put piece by piece.
-use Rattle.std.proofs.Common.{◌≡◌, ℕ, suc, ◌+◌, ◌≤◌, List, [], ◌∷◌, ◌++◌, length, take, drop, Some, slice_get, refl, sym, ◌∙◌, ap, arith, append_assoc}
+use Rattle.std.proofs.Common.{◌≡◌, ℕ, suc, ◌+◌, ◌≤◌, List, [], ◌∷◌, ◌++◌, length, take, drop, Option, Some, slice_get, refl, sym, ◌∙◌, ap, arith, append_assoc}
 use Rattle.std.proofs.lemmas.List.{append-nil, take_more, take-append-drop, length-take-le}
 use Rattle.std.proofs.lemmas.Option.{get_or_from_slice_get, slice_get_within}
 use Rattle.pg_lang_meaning.specs.States.{State}
@@ -7,7 +7,8 @@ use Rattle.pg_report.specs.Runs.{steps_line}
 use Rattle.pg_run_still.specs.declared.rounds.Rest.{Rest}
 use Rattle.pg_run_still.specs.declared.view.View.{View}
 use Rattle.pg_run_still.specs.Views.{guest_text}
-use Rattle.pg_run_still.specs.Running.{head_text, rests_text, still_text}
+use Rattle.pg_run_still.specs.Bare.{stood_text}
+use Rattle.pg_run_still.specs.Running.{head_text, rest_said, rests_text, still_text}
 
 text-split : (w : ℕ) (vs : List View) (j : ℕ) (xs ys : List State) (rs qs : List Rest) → length rs ≡ length xs →
     rests_text w vs j (xs ++ ys) (rs ++ qs) ≡ rests_text w vs j xs rs ++ rests_text w vs (j + length xs) ys qs
@@ -54,3 +55,9 @@ pub told-whole : (w : ℕ) (vs : List View) (states : List State) (rests : List 
     rests_text w vs 0 states rests ++ steps_line turns direct ≡ still_text w vs states rests turns direct
 unfolding still_text
 told-whole w vs states rests turns direct = refl
+
+-- a bare machine
+pub stood-whole : (w : ℕ) (vs : List View) (most : ℕ) (still : Option ℕ) (line : List ℕ) (whole s : State) → line ≡ rest_said most still → whole ≡ s →
+    line ++ guest_text w vs whole ≡ stood_text w vs most still s
+unfolding stood_text
+stood-whole w vs most still line whole s said is = ap (λ x. x ++ guest_text w vs whole) said ∙ ap (λ t. rest_said most still ++ guest_text w vs t) is

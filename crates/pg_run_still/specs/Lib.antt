@@ -3,3 +3,4 @@ pub mod Resting
 pub mod Views
 pub mod Running
 pub mod Rested
+pub mod Bare

@@ -5,7 +5,9 @@ ghost use Rattle.std.specs.Fmt.{decimal};
 ghost use Rattle.pg_edge.specs.Sink.{Puts};
 ghost use Rattle.pg_mon_control.specs.Guests.{virtual, virtuals};
 ghost use Rattle.pg_run_base.specs.Telling.{AreWithin};
-ghost use Rattle.pg_run_still.specs.Running.{head_text, rests_text, still_text};
+ghost use Rattle.pg_lang_meaning.specs.States.{IsState};
+ghost use Rattle.pg_run_still.specs.Bare.{stood_text};
+ghost use Rattle.pg_run_still.specs.Running.{head_text, rest_said, rests_text, still_text};
 ghost use Rattle.pg_run_still.specs.Views.{AreViewsOf, guest_text};
 
 use crate::rounds::Rest;
@@ -45,6 +47,32 @@ pub fn put_rested<S: Sink, H: Hardware>(
         Ok(()) => put_steps(out, ran.turns(), ran.direct()),
         Err(failed) => Err(failed),
     }
+}
+
+/// Puts the text of a bare machine that did `most` steps at most, and is at the state that the hardware holds: behind how many steps it
+/// is still, or how many it did; and what the views show of the state, or all of it where there is no view.
+///
+/// # Errors
+/// `Failed` where not all of the text went through. A front of it may have.
+pub fn put_stood<S: Sink, H: Hardware>(
+    out: &mut S,
+    machine: &Machine,
+    most: u64,
+    still: Option<u64>,
+    views: &[View],
+    hw: &H,
+) -> Result<(), Failed>
+    requires state { IsState machine.now.desc (H.machinery hw.now).state }
+    requires views { AreViewsOf (length (H.machinery hw.now).state.cells) views.now }
+    ensures { Puts (S.written out.old) (S.written out.new) (S.faults out.old) (S.faults out.new)
+        (stood_text machine.now.desc.word views.now most still (H.machinery hw.now).state) result }
+{
+    let whole = Guest {
+        base: 0,
+        size: hw.size(),
+        psw: hw.psw(),
+    };
+    put_one(out, machine, whole, said_of(most, still), views, hw)
 }
 
 /// Puts what is told of each guest.
@@ -135,6 +163,27 @@ fn head_with(number: usize, words: &[u8], steps: u64) -> Line
     push(&mut line, b"guest ");
     push(&mut line, dec(number as u64).as_slice());
     line.push(b'\n');
+    push(&mut line, said_with(words, steps).as_slice());
+    line
+}
+
+/// The line that tells of a bare machine: behind how many steps it is still, or how many it did.
+fn said_of(most: u64, still: Option<u64>) -> Line
+    ensures { result.items ≡ rest_said most still }
+{
+    match still {
+        Some(steps) => said_with(b"still after ", steps),
+        None => said_with(b"after ", most),
+    }
+}
+
+/// These words and so many steps, in a line.
+fn said_with(words: &[u8], steps: u64) -> Line
+    requires { length words.now ≤ 12 }
+    ensures items { result.items ≡ words.now ++ decimal steps ++ codes " steps" ++ 10 ∷ [] }
+    ensures short { length result.items ≤ 39 }
+{
+    let mut line = Line::new();
     push(&mut line, words);
     push(&mut line, dec(steps).as_slice());
     push(&mut line, b" steps");

@@ -8,5 +8,8 @@ returns-in-Err-clause-goes g c =
 pub returns-in-Ok-None-clause-goes : goal.returns-in-Ok-None-clause-goes
 returns-in-Ok-None-clause-goes g c = inl (record { told = c.put_usage.ensures.told; untouched = record { files = refl; saves = refl; hw = refl } })
 
-pub returns-in-Ok-Some-clause-goes : goal.returns-in-Ok-Some-clause-goes
-returns-in-Ok-Some-clause-goes g c = inr (inr (record { words = c.in-Ok-Some.words; carries = c.carry_go.ensures.carries }))
+pub returns-in-Ok-Some-Guests-clause-goes : goal.returns-in-Ok-Some-Guests-clause-goes
+returns-in-Ok-Some-Guests-clause-goes g c = inr (inr (inl (record { words = c.in-Ok-Some-Guests.words; carries = c.carry_go.ensures.carries })))
+
+pub returns-in-Ok-Some-Bare-clause-goes : goal.returns-in-Ok-Some-Bare-clause-goes
+returns-in-Ok-Some-Bare-clause-goes g c = inr (inr (inr (record { words = c.in-Ok-Some-Bare.words; carries = c.carry_bare.ensures.carries })))

@@ -1,4 +1,4 @@
-use Rattle.std.proofs.Common.{◌≤◌, sym, subst}
+use Rattle.std.proofs.Common.{sym, subst}
 use Rattle.pg_ast.specs.declared.tree.Desc.{Desc}
 use Rattle.pg_lang_valid.specs.Valid.{IsValid}
 use Rattle.pg_prog_trace.specs.Plans.{planned_run}

@@ -1,4 +1,4 @@
-use Rattle.std.proofs.Common.{◌≡◌, [], ◌∷◌, refl, sym, ◌∙◌, ap, subst, arith, Option, None, Some}
+use Rattle.std.proofs.Common.{[], ◌∷◌, refl, sym, subst}
 use Rattle.pg_mon_control.proofs.PlanLemmas.{grants-length}
 use Rattle.pg_monitor.specs.Schedules.{Begun}
 use Rattle.pg_run_still.specs.Rounds.{round_behind}

@@ -1,18 +1,15 @@
-use Rattle.std.proofs.Common.{◌≡◌, ℕ, ◌+◌, ◌<◌, ◌≤◌, inl, inr, List, length, take, Some, slice_get, slice_set, slice_index_or, [], ◌∷◌, refl, sym, ◌∙◌, ap, subst, arith, take_all}
+use Rattle.std.proofs.Common.{◌≡◌, ℕ, ◌<◌, inl, inr, List, length, take, Some, slice_get, slice_set, slice_index_or, [], ◌∷◌, sym, ◌∙◌, ap, subst, arith, take_all}
 use Rattle.std.proofs.lemmas.Bool.{cases_lt}
 use Rattle.std.proofs.lemmas.List.{length-map, length-set, length-take-le}
-use Rattle.std.proofs.lemmas.List.Elements.{All-get_or}
 use Rattle.std.proofs.lemmas.Option.{same_Some, slice_get-get_or, slice_get_within}
-use Rattle.pg_ast.specs.declared.tree.Desc.{Desc}
 use Rattle.pg_mach_ready.specs.declared.machine.Machine.{Machine}
-use Rattle.pg_lang_meaning.specs.States.{State}
 use Rattle.pg_mon_control.specs.Guests.{virtuals}
 use Rattle.pg_mon_control.specs.Standing.{Stands}
 use Rattle.pg_monitor.specs.Schedules.{Begun}
 use Rattle.pg_monitor.proofs.ScheduleLemmas.{Begun-then}
 use Rattle.pg_run_still.specs.declared.rounds.Rest.{Rest}
 use Rattle.pg_run_still.specs.Rounds.{round_behind}
-use Rattle.pg_run_still.specs.Resting.{AfterSlice, IsBefore, firsts}
+use Rattle.pg_run_still.specs.Resting.{AfterSlice, firsts}
 use Rattle.pg_run_still.proofs.GoingLemmas.{no_turns, round-before, round-more, set-same, set-other}
 use Rattle.pg_run_still.proofs.rounds.go_round.Goals as goal
 

@@ -1,5 +1,5 @@
-use Rattle.std.proofs.Common.{◌≡◌, None, sym, arith, take_all}
-use Rattle.std.proofs.lemmas.List.Elements.{All-nil, All-more, All-same}
+use Rattle.std.proofs.Common.{◌≡◌, None}
+use Rattle.std.proofs.lemmas.List.Elements.{All-nil}
 use Rattle.pg_run_still.specs.declared.rounds.Rest.{Rest}
 use Rattle.pg_run_still.proofs.rounds.is_any_going.Goals as goal
 

@@ -1,6 +1,5 @@
-use Rattle.std.proofs.Common.{◌≡◌, [], ◌∷◌, refl, subst, sym, arith}
-use Rattle.std.proofs.lemmas.List.{length-append}
-use Rattle.std.proofs.lemmas.List.Elements.{All-nil, All-push, All-same}
+use Rattle.std.proofs.Common.{◌≡◌, refl, arith}
+use Rattle.std.proofs.lemmas.List.Elements.{All-push, All-same}
 use Rattle.pg_run_still.specs.declared.rounds.Rest.{Rest}
 use Rattle.pg_run_still.proofs.GoingLemmas.{no_turns}
 use Rattle.pg_run_still.proofs.rounds.none_had.Goals as goal

@@ -1,11 +1,9 @@
-use Rattle.std.proofs.Common.{◌≡◌, ◌-◌, refl, ap, sym, ◌∙◌, subst, arith}
+use Rattle.std.proofs.Common.{◌-◌, refl, ap, ◌∙◌}
 use Rattle.pg_hw.specs.declared.counts.Counts.{Counts}
 use Rattle.pg_mach_ready.specs.declared.machine.Machine.{Machine}
 use Rattle.pg_run_base.specs.Runs.{run_of}
 use Rattle.pg_run_base.proofs.SettingLemmas.{set-up-same}
-use Rattle.pg_run_base.proofs.StartedLemmas.{begun-count}
-use Rattle.pg_monitor.specs.Monitors.{kept_by}
-use Rattle.pg_run_still.proofs.RanLemmas.{run-have, standing-can, rose-steps, rose-untrapped}
+use Rattle.pg_run_still.proofs.RanLemmas.{run-have, standing-can}
 use Rattle.pg_run_still.proofs.running.run_until_still.Goals as goal
 
 pub returns-in-Err-clause-set_up : goal.returns-in-Err-clause-set_up
