@@ -22,13 +22,19 @@ pub fn complaint(
     let [_, words @ ..] = words else {
         return Ok(None);
     };
-    let form = form_of(side, words);
-    let line = Line::of(alloc, side.program())?;
+    match first_wrong(form_of(side, words), words) {
+        None => Ok(None),
+        Some(wrong) => Ok(Some(told(Line::of(alloc, side.program()), wrong).end()?)),
+    }
+}
+
+/// The first thing that is wrong with words, if something is.
+fn first_wrong<'a>(form: &Form, words: &'a [String]) -> Option<Wrong<'a>> {
     let mut left = words;
     let mut passed = 0usize;
     while let Some((part, behind)) = form.part(left) {
         if let Some(wrong) = wrong_part(form, words, part, passed) {
-            return Ok(Some(told(line, wrong)?.end()?));
+            return Some(wrong);
         }
         if let Part::Place(_) = part {
             passed = passed.saturating_add(1);
@@ -36,18 +42,16 @@ pub fn complaint(
         left = behind;
     }
     match missing(form, words, passed) {
-        None => Ok(None),
-        Some(due) => Ok(Some(
-            line.words("the following required argument was not provided: ")?
-                .words(due)?
-                .end()?,
-        )),
+        None => None,
+        Some(due) => Some(Wrong::Missing(due)),
     }
 }
 
 /// What is wrong with a part of the words.
 #[derive(Clone, Copy)]
 enum Wrong<'a> {
+    /// A word that is due and not there.
+    Missing(&'static str),
     /// A word that is not expected.
     Unexpected(&'a str),
     /// An option without its value.
@@ -180,54 +184,57 @@ fn missing(form: &Form, words: &[String], passed: usize) -> Option<&'static str>
 }
 
 /// A line, and what is wrong.
-fn told(line: Line, wrong: Wrong<'_>) -> Result<Line, AllocError> {
+fn told(line: Line, wrong: Wrong<'_>) -> Line {
     match wrong {
+        Wrong::Missing(due) => line
+            .words("the following required argument was not provided: ")
+            .words(due),
         Wrong::Unexpected(word) => line
-            .words("unexpected argument ")?
-            .shown(word)?
+            .words("unexpected argument ")
+            .shown(word)
             .words(" found"),
         Wrong::Cut(option) => line
-            .words("a value is required for ")?
-            .shown(option.shown)?
+            .words("a value is required for ")
+            .shown(option.shown)
             .words(" but none was supplied"),
         Wrong::Twice(option) => line
-            .words("the argument ")?
-            .shown(option.shown)?
+            .words("the argument ")
+            .shown(option.shown)
             .words(" cannot be used multiple times"),
         Wrong::Value(option, value) => due(
-            line.words("invalid value ")?
-                .shown(value)?
-                .words(" for ")?
-                .shown(option.shown)?
-                .words(": ")?,
+            line.words("invalid value ")
+                .shown(value)
+                .words(" for ")
+                .shown(option.shown)
+                .words(": "),
             option.value,
         ),
         Wrong::Beside(option, other) => line
-            .words("the argument ")?
-            .shown(option.shown)?
-            .words(" cannot be used with ")?
+            .words("the argument ")
+            .shown(option.shown)
+            .words(" cannot be used with ")
             .shown(other),
         Wrong::Views => line.words(
             "the arguments '--show' and '--text' cannot be used more than 16 times in all",
         ),
-        Wrong::Kind(word) => line.words("invalid value ")?.shown(word)?.words(
+        Wrong::Kind(word) => line.words("invalid value ").shown(word).words(
             " for 'KIND': the kinds are privileged, control, mode, location, bound, ucontrol, ulocation and ubound",
         ),
     }
 }
 
 /// A line, and what value is due.
-fn due(line: Line, value: Value) -> Result<Line, AllocError> {
+fn due(line: Line, value: Value) -> Line {
     match value {
-        Value::Nothing | Value::File => Ok(line),
+        Value::Nothing | Value::File => line,
         Value::Number(least, most) => line
-            .words("a number from ")?
-            .number(least)?
-            .words(" to ")?
-            .number(most)?
+            .words("a number from ")
+            .number(least)
+            .words(" to ")
+            .number(most)
             .words(" is due"),
         Value::End => line
-            .words("still, trap or P=A is due, A from 0 to ")?
+            .words("still, trap or P=A is due, A from 0 to ")
             .number(MOST_CELLS),
         Value::Cells => line.words("A below B, and B at most G are due"),
         Value::Bytes => line.words(

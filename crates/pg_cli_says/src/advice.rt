@@ -28,21 +28,15 @@ pub fn open_of(last: &str) -> Option<Open<'_>> {
 }
 
 /// The command that makes a certificate.
-fn check(
-    line: Line,
-    desc: &str,
-    cert: &str,
-    is_hybrid: bool,
-    budget: &str,
-) -> Result<Line, AllocError> {
+fn check(line: Line, desc: &str, cert: &str, is_hybrid: bool, budget: &str) -> Line {
     line.words(if is_hybrid {
         "pgv hcheck "
     } else {
         "pgv check "
-    })?
-    .word(desc)?
-    .words(" --cert ")?
-    .word(cert)?
+    })
+    .word(desc)
+    .words(" --cert ")
+    .word(cert)
     .words(budget)
 }
 
@@ -54,13 +48,13 @@ pub fn stale(
     cert: &str,
     is_hybrid: bool,
 ) -> Result<Vec<u8>, AllocError> {
-    let line = Line::of(alloc, program)?
-        .word(desc)?
-        .words(" may have changed since ")?
-        .word(cert)?
-        .words(" was made: ")?;
-    check(line, desc, cert, is_hybrid, "")?
-        .words(" makes it anew")?
+    let line = Line::of(alloc, program)
+        .word(desc)
+        .words(" may have changed since ")
+        .word(cert)
+        .words(" was made: ");
+    check(line, desc, cert, is_hybrid, "")
+        .words(" makes it anew")
         .end()
 }
 
@@ -72,14 +66,14 @@ pub fn no_room(
     wanted: u64,
     free: u64,
 ) -> Result<Vec<u8>, AllocError> {
-    Line::of(alloc, program)?
-        .words("no room: ")?
-        .number(wanted)?
-        .words(" cells wanted, ")?
-        .number(free)?
-        .words(" free: take ")?
-        .words(less(room))?
-        .words(", or a greater size in the description")?
+    Line::of(alloc, program)
+        .words("no room: ")
+        .number(wanted)
+        .words(" cells wanted, ")
+        .number(free)
+        .words(" free: take ")
+        .words(less(room))
+        .words(", or a greater size in the description")
         .end()
 }
 
@@ -100,12 +94,12 @@ pub fn explain(
     desc: &str,
     cert: &str,
 ) -> Result<Vec<u8>, AllocError> {
-    Line::of(alloc, program)?
-        .words("pg_explain ")?
-        .word(desc)?
-        .words(" ")?
-        .word(cert)?
-        .words(" says why, and what mends the machine")?
+    Line::of(alloc, program)
+        .words("pg_explain ")
+        .word(desc)
+        .words(" ")
+        .word(cert)
+        .words(" says why, and what mends the machine")
         .end()
 }
 
@@ -118,18 +112,18 @@ pub fn more_budget(
     cert: &str,
     is_hybrid: bool,
 ) -> Result<Vec<u8>, AllocError> {
-    let line = Line::of(alloc, program)?
-        .words(open.instr)?
-        .words(" ")?
-        .words(open.kind)?
-        .words(" is open: a greater budget may settle it: ")?;
+    let line = Line::of(alloc, program)
+        .words(open.instr)
+        .words(" ")
+        .words(open.kind)
+        .words(" is open: a greater budget may settle it: ");
     check(
         line,
         desc,
         cert,
         is_hybrid,
         " --budget K, K up to 1,000,000",
-    )?
+    )
     .end()
 }
 
@@ -141,22 +135,22 @@ pub fn other_solver(
     desc: &str,
     cert: &str,
 ) -> Result<Vec<u8>, AllocError> {
-    Line::of(alloc, program)?
-        .words("or another solver: pg_dimacs ")?
-        .word(desc)?
-        .words(" ")?
-        .words(open.instr)?
-        .words(" ")?
-        .words(open.kind)?
-        .words(" writes its clauses, and pg_import ")?
-        .word(desc)?
-        .words(" ")?
-        .word(cert)?
-        .words(" ")?
-        .words(open.instr)?
-        .words(" ")?
-        .words(open.kind)?
-        .words(" PROOF FILE takes what it finds")?
+    Line::of(alloc, program)
+        .words("or another solver: pg_dimacs ")
+        .word(desc)
+        .words(" ")
+        .words(open.instr)
+        .words(" ")
+        .words(open.kind)
+        .words(" writes its clauses, and pg_import ")
+        .word(desc)
+        .words(" ")
+        .word(cert)
+        .words(" ")
+        .words(open.instr)
+        .words(" ")
+        .words(open.kind)
+        .words(" PROOF FILE takes what it finds")
         .end()
 }
 
@@ -169,13 +163,13 @@ pub fn long(
 ) -> Result<Option<Vec<u8>>, AllocError> {
     match named.saved {
         Some(cert) if MOST_UNSAID < bytes => {
-            let line = Line::of(alloc, program)?
-                .word(cert)?
-                .words(" has ")?
-                .number(bytes)?
-                .words(" bytes")?
-                .words(past(bytes))?
-                .words(shorter(named.has_budget))?;
+            let line = Line::of(alloc, program)
+                .word(cert)
+                .words(" has ")
+                .number(bytes)
+                .words(" bytes")
+                .words(past(bytes))
+                .words(shorter(named.has_budget));
             Ok(Some(line.end()?))
         }
         _ => Ok(None),
@@ -202,10 +196,10 @@ fn shorter(has_budget: bool) -> &'static str {
 
 /// That a description has no instruction of a name.
 pub fn no_instr(alloc: Global, program: Program, named: &Named<'_>) -> Result<Vec<u8>, AllocError> {
-    Line::of(alloc, program)?
-        .word(named.desc.unwrap_or("the description"))?
-        .words(" has no instruction ")?
-        .shown(named.instr.unwrap_or(""))?
+    Line::of(alloc, program)
+        .word(named.desc.unwrap_or("the description"))
+        .words(" has no instruction ")
+        .shown(named.instr.unwrap_or(""))
         .end()
 }
 
@@ -216,9 +210,9 @@ pub fn no_kind(
     named: &Named<'_>,
     is_hybrid: bool,
 ) -> Result<Vec<u8>, AllocError> {
-    Line::of(alloc, program)?
-        .word(named.cert.unwrap_or("the certificate"))?
-        .words(kinds_of(is_hybrid))?
+    Line::of(alloc, program)
+        .word(named.cert.unwrap_or("the certificate"))
+        .words(kinds_of(is_hybrid))
         .end()
 }
 

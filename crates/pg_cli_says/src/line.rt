@@ -1,6 +1,7 @@
-//! A line that is put together, part by part. Each error is out of memory.
+//! A line that is put together, part by part.
 
 use crate::program::Program;
+use pg_out_place::Text;
 use pg_text::dec;
 use std::alloc::{AllocError, Global};
 
@@ -10,77 +11,77 @@ const SHOWN_CHARS: usize = 100;
 /// A line, of which this is what stands there so far.
 #[derive(Drop)]
 pub struct Line {
-    text: Vec<u8>,
+    text: Text,
 }
 
 impl Line {
     /// A line that begins with a program's name.
-    pub fn of(alloc: Global, program: Program) -> Result<Line, AllocError> {
+    pub fn of(alloc: Global, program: Program) -> Line {
         let line = Line {
-            text: Vec::new(alloc),
+            text: Text::new(alloc),
         };
-        line.words(program.name())?.words(": ")
+        line.words(program.name()).words(": ")
     }
 
     /// And these words.
-    pub fn words(self, words: &str) -> Result<Line, AllocError> {
-        let mut line = self;
-        line.text.extend_from_slice(words.as_bytes())?;
-        Ok(line)
+    pub fn words(mut self, words: &str) -> Line {
+        self.text.push(words.as_bytes());
+        self
     }
 
     /// And a number, with a comma between each three digits.
-    pub fn number(self, number: u64) -> Result<Line, AllocError> {
-        let mut line = self;
+    pub fn number(mut self, number: u64) -> Line {
         let digits = dec(number);
         let digits = digits.as_slice();
         for (at, digit) in digits.iter().enumerate() {
             if at > 0 && digits.len().saturating_sub(at) % 3 == 0 {
-                line.text.push(b',')?;
+                self.text.push(b",");
             }
-            line.text.push(*digit)?;
+            self.text.push(&[*digit]);
         }
-        Ok(line)
+        self
     }
 
     /// And a word as a shell takes it: as it is, or, where a shell would read it as something else, in quotes. A control character
     /// is shown as `?`.
-    pub fn word(self, word: &str) -> Result<Line, AllocError> {
-        let mut line = self;
+    pub fn word(self, word: &str) -> Line {
         if is_plain(word.as_bytes()) {
-            return line.words(word);
+            self.words(word)
+        } else {
+            self.quoted(word.as_bytes())
         }
-        line.text.push(b'\'')?;
-        for byte in word.as_bytes() {
+    }
+
+    /// And a word in quotes, as a shell takes it.
+    fn quoted(mut self, word: &[u8]) -> Line {
+        self.text.push(b"'");
+        for byte in word {
             match *byte {
-                b'\'' => line.text.extend_from_slice(b"'\\''")?,
-                byte => line
+                b'\'' => self.text.push(b"'\\''"),
+                byte => self
                     .text
-                    .push(if byte.is_ascii_control() { b'?' } else { byte })?,
+                    .push(&[if byte.is_ascii_control() { b'?' } else { byte }]),
             }
         }
-        line.text.push(b'\'')?;
-        Ok(line)
+        self.text.push(b"'");
+        self
     }
 
     /// And a word in quotes, each control character of it as `?`, and no more of it than a line holds.
-    pub fn shown(self, word: &str) -> Result<Line, AllocError> {
-        let mut line = self;
-        line.text.push(b'\'')?;
+    pub fn shown(mut self, word: &str) -> Line {
+        self.text.push(b"'");
         for one in word.chars().take(SHOWN_CHARS) {
             let shown = if one.is_control() { '?' } else { one };
-            line.text
-                .extend_from_slice(shown.encode_utf8(&mut [0; 4]).as_bytes())?;
+            self.text.push(shown.encode_utf8(&mut [0; 4]).as_bytes());
         }
-        line.text.push(b'\'')?;
-        Ok(line)
+        self.text.push(b"'");
+        self
     }
 
-    /// And its end: the whole line.
-    pub fn end(self) -> Result<Vec<u8>, AllocError> {
-        let mut line = self;
-        line.text.push(b'\n')?;
-        Ok(line.text)
+    /// And its end: the whole line. An error is out of memory, for some part of it.
+    pub fn end(mut self) -> Result<Vec<u8>, AllocError> {
+        self.text.push(b"\n");
+        self.text.finish()
     }
 }
 

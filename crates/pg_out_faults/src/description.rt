@@ -20,28 +20,11 @@ use std::alloc::{AllocError, Global};
 /// What is wrong with a description, and where.
 pub fn description(alloc: Global, why: &DescriptionLine, bytes: &[u8]) -> Result<Told, AllocError> {
     match why {
-        DescriptionLine::Long => Ok(alone(
-            alloc,
-            plain(
-                alloc,
-                At::Whole,
-                "a description has at most 1,048,576 bytes",
-            )?,
-        )),
-        DescriptionLine::Token(place) => Ok(alone(alloc, no_token(alloc, bytes, *place)?)),
-        DescriptionLine::Deep(place) => Ok(alone(
-            alloc,
-            plain(
-                alloc,
-                At::Place(*place),
-                too_deep(bytes_from(bytes, *place)),
-            )?,
-        )),
         DescriptionLine::Width(instr, stmt, how) => widths(alloc, bytes, *instr, *stmt, *how),
-        _ => Ok(alone(
-            alloc,
-            in_tokens(alloc, why, bytes, cut(alloc, bytes)?.as_slice())?,
-        )),
+        _ => {
+            let toks = cut(alloc, bytes)?;
+            Ok(alone(alloc, one_fault(alloc, why, bytes, toks.as_slice())))
+        }
     }
 }
 
@@ -67,13 +50,13 @@ fn widths(
     let misfits = misfits_of(alloc, bytes)?;
     let (first, others) = match misfits.found.as_slice() {
         [first, others @ ..] if first.instr == instr && first.stmt == stmt => {
-            (misfit_found(alloc, toks.as_slice(), first)?, others)
+            (misfit_found(alloc, toks.as_slice(), first), others)
         }
-        others => (broken_at(alloc, toks.as_slice(), instr, stmt, how)?, others),
+        others => (broken_at(alloc, toks.as_slice(), instr, stmt, how), others),
     };
     let mut more = Vec::new(alloc);
     for misfit in others {
-        more.push(misfit_found(alloc, toks.as_slice(), misfit)?)?;
+        more.push(misfit_found(alloc, toks.as_slice(), misfit))?;
     }
     Ok(Told {
         first,
@@ -82,14 +65,20 @@ fn widths(
     })
 }
 
-/// What is wrong with a description of these tokens, and where.
-fn in_tokens(
-    alloc: Global,
-    why: &DescriptionLine,
-    bytes: &[u8],
-    toks: &[Placed],
-) -> Result<Found, AllocError> {
+/// What is wrong with a description of these tokens, and where, if it is one fault.
+fn one_fault(alloc: Global, why: &DescriptionLine, bytes: &[u8], toks: &[Placed]) -> Found {
     match why {
+        DescriptionLine::Long => plain(
+            alloc,
+            At::Whole,
+            "a description has at most 1,048,576 bytes",
+        ),
+        DescriptionLine::Token(place) => no_token(alloc, bytes, *place),
+        DescriptionLine::Deep(place) => plain(
+            alloc,
+            At::Place(*place),
+            too_deep(bytes_from(bytes, *place)),
+        ),
         DescriptionLine::Grammar(place) => grammar(alloc, bytes, toks, *place),
         DescriptionLine::Shape => shape(alloc, toks),
         DescriptionLine::Limit(which, instr) => limit_found(alloc, toks, *which, *instr),
@@ -110,55 +99,49 @@ fn too_deep(rest: &[u8]) -> &'static str {
 }
 
 /// A name that is given twice.
-fn twice(alloc: Global, bytes: &[u8], toks: &[Placed], name: &[u8]) -> Result<Found, AllocError> {
-    let what = Sentence::new(alloc).name(name)?;
+fn twice(alloc: Global, bytes: &[u8], toks: &[Placed], name: &[u8]) -> Found {
+    let what = Sentence::new(alloc).name(name);
     match find_twice(toks, name) {
-        None => Ok(Found {
+        None => Found {
             at: At::Whole,
-            what: what.words(" is given twice")?,
-        }),
-        Some(twice) => Ok(Found {
+            what: what.words(" is given twice"),
+        },
+        Some(twice) => Found {
             at: At::Place(twice.second),
             what: what
-                .words(" is given twice: first on line ")?
-                .number(spot_at(bytes, twice.first).line)?,
-        }),
+                .words(" is given twice: first on line ")
+                .number(spot_at(bytes, twice.first).line),
+        },
     }
 }
 
 /// A name that means nothing where it stands.
-fn unknown(
-    alloc: Global,
-    bytes: &[u8],
-    toks: &[Placed],
-    instr: usize,
-    name: &[u8],
-) -> Result<Found, AllocError> {
-    let what = Sentence::new(alloc).name(name)?;
+fn unknown(alloc: Global, bytes: &[u8], toks: &[Placed], instr: usize, name: &[u8]) -> Found {
+    let what = Sentence::new(alloc).name(name);
     let found = match instruction(toks, instr) {
         None => None,
         Some(instr) => find_unknown(instr, name),
     };
     match found {
-        None => Ok(Found {
+        None => Found {
             at: At::Whole,
-            what: what.words(" is no field and no let")?,
-        }),
+            what: what.words(" is no field and no let"),
+        },
         Some(unknown) => {
             let at = at_place(Some(unknown.place));
             match unknown.given {
-                None => Ok(Found {
+                None => Found {
                     at,
-                    what: what.words(" is no field and no let of this instruction")?,
-                }),
-                Some(given) => Ok(Found {
+                    what: what.words(" is no field and no let of this instruction"),
+                },
+                Some(given) => Found {
                     at,
                     what: what
                         .words(
                             " is not visible here: its let is visible from the next statement to the end of its block, on line ",
-                        )?
-                        .number(spot_at(bytes, given).line)?,
-                }),
+                        )
+                        .number(spot_at(bytes, given).line),
+                },
             }
         }
     }

@@ -1,7 +1,7 @@
 //! What is wrong, and where in the bytes.
 
 use pg_out_place::Sentence;
-use std::alloc::{AllocError, Global};
+use std::alloc::Global;
 
 /// Where something is wrong.
 #[derive(Clone, Copy)]
@@ -24,11 +24,11 @@ pub struct Found {
 }
 
 /// These words, said of a place.
-pub fn plain(alloc: Global, at: At, words: &str) -> Result<Found, AllocError> {
-    Ok(Found {
+pub fn plain(alloc: Global, at: At, words: &str) -> Found {
+    Found {
         at,
-        what: Sentence::new(alloc).words(words)?,
-    })
+        what: Sentence::new(alloc).words(words),
+    }
 }
 
 /// A place, if one is known.

@@ -1,34 +1,29 @@
 //! Why a token cannot stand where it does, and what to write.
 //!
 //! It is told by the tokens before the wrong one and those behind it; where nothing is known, it is said that this cannot stand
-//! here. Each error is out of memory.
+//! here.
 
 use crate::found::{At, Found, plain};
 use crate::near::{Near, near_of, opened};
 use crate::writing::{bits_cut, named};
 use pg_lang_token::{Sign, Tok, is_reserved};
 use pg_out_place::{Placed, Sentence, is_sign, is_word, operation, spot_at, word_of};
-use std::alloc::{AllocError, Global};
+use std::alloc::Global;
 
 /// Why the token at a place is wrong, or the text ends there too early.
-pub fn grammar(
-    alloc: Global,
-    bytes: &[u8],
-    toks: &[Placed],
-    place: usize,
-) -> Result<Found, AllocError> {
+pub fn grammar(alloc: Global, bytes: &[u8], toks: &[Placed], place: usize) -> Found {
     let what = match near_of(toks, place) {
-        None => ended(alloc, bytes, toks)?,
-        Some(near) => wrong(alloc, bytes, near)?,
+        None => ended(alloc, bytes, toks),
+        Some(near) => wrong(alloc, bytes, near),
     };
-    Ok(Found {
+    Found {
         at: At::Place(place),
         what,
-    })
+    }
 }
 
 /// What is missing where a text ends too early.
-fn ended(alloc: Global, bytes: &[u8], toks: &[Placed]) -> Result<Sentence, AllocError> {
+fn ended(alloc: Global, bytes: &[u8], toks: &[Placed]) -> Sentence {
     let what = Sentence::new(alloc);
     if toks.is_empty() {
         return what.words("nothing stands here: a description begins with `machine {`");
@@ -36,7 +31,7 @@ fn ended(alloc: Global, bytes: &[u8], toks: &[Placed]) -> Result<Sentence, Alloc
     match opened(toks) {
         None => what.words("the text ends here, and something is missing"),
         Some(open) => unclosed(
-            what.words("the text ends here, and a `}` is missing: ")?,
+            what.words("the text ends here, and a `}` is missing: "),
             bytes,
             toks,
             open,
@@ -45,21 +40,16 @@ fn ended(alloc: Global, bytes: &[u8], toks: &[Placed]) -> Result<Sentence, Alloc
 }
 
 /// And what it is that is not closed, and where it begins.
-fn unclosed(
-    what: Sentence,
-    bytes: &[u8],
-    toks: &[Placed],
-    open: usize,
-) -> Result<Sentence, AllocError> {
+fn unclosed(what: Sentence, bytes: &[u8], toks: &[Placed], open: usize) -> Sentence {
     let line = spot_at(bytes, open).line;
     let what = match last_instr(toks) {
-        [] => what.words("the head")?,
+        [] => what.words("the head"),
         [name, ..] => match word_of(name) {
-            None => what.words("a body")?,
-            Some(name) => what.words("the body of ")?.name(name)?,
+            None => what.words("a body"),
+            Some(name) => what.words("the body of ").name(name),
         },
     };
-    what.words(" begins on line ")?.number(line)
+    what.words(" begins on line ").number(line)
 }
 
 /// The tokens behind the last `instr`, or none.
@@ -71,27 +61,27 @@ pub fn last_instr(toks: &[Placed]) -> &[Placed] {
 }
 
 /// Why a token is wrong.
-fn wrong(alloc: Global, bytes: &[u8], near: Near<'_>) -> Result<Sentence, AllocError> {
+fn wrong(alloc: Global, bytes: &[u8], near: Near<'_>) -> Sentence {
     let what = Sentence::new(alloc);
     if let Some(words) = in_head(near) {
         return what.words(words);
     }
     if is_word(near.here, b"instr") {
         if let Some(open) = opened(near.before) {
-            let what = what.words("a `}` is missing before this: ")?;
+            let what = what.words("a `}` is missing before this: ");
             return unclosed(what, bytes, near.before, open);
         }
     }
     if let Some(sign) = unparenthesised(near) {
-        return what.words("`")?.words(sign_text(sign))?.words(
+        return what.words("`").words(sign_text(sign)).words(
             "` cannot stand here: an operation with two sides stands in parentheses",
         );
     }
-    if let Some(what) = bits_cut(alloc, near)? {
-        return Ok(what);
+    if let Some(what) = bits_cut(alloc, near) {
+        return what;
     }
-    if let Some(what) = named(alloc, near)? {
-        return Ok(what);
+    if let Some(what) = named(alloc, near) {
+        return what;
     }
     what.words(cause(near))
 }

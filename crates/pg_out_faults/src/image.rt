@@ -11,10 +11,20 @@ use std::alloc::{AllocError, Global};
 
 /// What is wrong with an image, and where.
 pub fn image(alloc: Global, why: &ImageLine, held: &Held<'_>) -> Result<Found, AllocError> {
+    let toks = cut(alloc, held.description)?;
+    let digits = match head_of(toks.as_slice()) {
+        None => None,
+        Some(head) => Some(head.word.value / 4),
+    };
+    Ok(fault(alloc, why, held, digits))
+}
+
+/// What is wrong with an image whose words have so many digits, if that is known.
+fn fault(alloc: Global, why: &ImageLine, held: &Held<'_>, digits: Option<u64>) -> Found {
     match why {
         ImageLine::Long => plain(alloc, At::Whole, "an image has at most 33,554,432 bytes"),
         ImageLine::Token(place) => plain(alloc, At::Place(*place), no_byte(held.bytes, *place)),
-        ImageLine::Grammar(line) => row(alloc, held, *line as u64),
+        ImageLine::Grammar(line) => row(alloc, held, *line as u64, digits),
         ImageLine::Address(line) => plain(
             alloc,
             first_at(held, *line as u64),
@@ -144,11 +154,7 @@ fn line_fault(line: &[u8], digits: Option<u64>) -> Broken {
 }
 
 /// A line of another form than a row.
-fn row(alloc: Global, held: &Held<'_>, line: u64) -> Result<Found, AllocError> {
-    let digits = match head_of(cut(alloc, held.description)?.as_slice()) {
-        None => None,
-        Some(head) => Some(head.word.value / 4),
-    };
+fn row(alloc: Global, held: &Held<'_>, line: u64, digits: Option<u64>) -> Found {
     match line_of(held, line) {
         None => plain(
             alloc,
@@ -169,12 +175,7 @@ fn row(alloc: Global, held: &Held<'_>, line: u64) -> Result<Found, AllocError> {
 }
 
 /// What is told of a fault of a line.
-fn fault_found(
-    alloc: Global,
-    at: At,
-    fault: RowFault,
-    digits: Option<u64>,
-) -> Result<Found, AllocError> {
+fn fault_found(alloc: Global, at: At, fault: RowFault, digits: Option<u64>) -> Found {
     match fault {
         RowFault::NoAddress => plain(
             alloc,
@@ -190,19 +191,14 @@ fn fault_found(
 }
 
 /// What is told of a word of too few or too many digits.
-fn word_found(
-    alloc: Global,
-    at: At,
-    count: usize,
-    digits: Option<u64>,
-) -> Result<Found, AllocError> {
-    let what = Sentence::new(alloc).words("a word has ")?;
+fn word_found(alloc: Global, at: At, count: usize, digits: Option<u64>) -> Found {
+    let what = Sentence::new(alloc).words("a word has ");
     let what = match digits {
-        None => what.words("another number of")?,
-        Some(digits) => what.number(digits)?,
+        None => what.words("another number of"),
+        Some(digits) => what.number(digits),
     };
-    Ok(Found {
+    Found {
         at,
-        what: what.words(" digits, and this has ")?.number(count as u64)?,
-    })
+        what: what.words(" digits, and this has ").number(count as u64),
+    }
 }

@@ -6,7 +6,7 @@ use pg_out_place::{
     Placed, Sentence, count_statements, count_word, first_place, instruction, nth_word, number_of,
     statement,
 };
-use std::alloc::{AllocError, Global};
+use std::alloc::Global;
 
 /// A number of the head and its place.
 #[derive(Clone, Copy)]
@@ -70,7 +70,7 @@ pub fn head_of(toks: &[Placed]) -> Option<Head> {
 }
 
 /// Which number of the head is none of a machine.
-pub fn shape(alloc: Global, toks: &[Placed]) -> Result<Found, AllocError> {
+pub fn shape(alloc: Global, toks: &[Placed]) -> Found {
     let head = match head_of(toks) {
         None => return plain(alloc, At::Whole, "the numbers of the head fit no machine"),
         Some(head) => head,
@@ -101,34 +101,34 @@ fn psw_bits(head: Head) -> u64 {
 }
 
 /// A word that has not the bits of a program status word.
-fn narrow(alloc: Global, head: Head) -> Result<Found, AllocError> {
-    Ok(Found {
+fn narrow(alloc: Global, head: Head) -> Found {
+    Found {
         at: At::Place(head.address.place),
         what: Sentence::new(alloc)
-            .words("a program status word has 3 addresses and ")?
-            .number(head.above)?
+            .words("a program status word has 3 addresses and ")
+            .number(head.above)
             .words(if head.above == 1 {
                 " bit, together "
             } else {
                 " bits, together "
-            })?
-            .number(psw_bits(head))?
-            .words(" bits, and a word has ")?
-            .number(head.word.value)?,
-    })
+            })
+            .number(psw_bits(head))
+            .words(" bits, and a word has ")
+            .number(head.word.value),
+    }
 }
 
 /// A size that is too small or too great.
-fn sized(alloc: Global, head: Head) -> Result<Found, AllocError> {
-    Ok(Found {
+fn sized(alloc: Global, head: Head) -> Found {
+    Found {
         at: At::Place(head.size.place),
         what: Sentence::new(alloc)
-            .words("`size` is 4 to ")?
-            .number(most_size(head.address.value))?
-            .words(", since an address has ")?
-            .number(head.address.value)?
-            .words(" bits")?,
-    })
+            .words("`size` is 4 to ")
+            .number(most_size(head.address.value))
+            .words(", since an address has ")
+            .number(head.address.value)
+            .words(" bits"),
+    }
 }
 
 /// The greatest size where an address has so many bits.
@@ -149,12 +149,7 @@ struct Over {
 }
 
 /// A limit that an instruction breaks.
-pub fn limit_found(
-    alloc: Global,
-    toks: &[Placed],
-    which: Limit,
-    number: usize,
-) -> Result<Found, AllocError> {
+pub fn limit_found(alloc: Global, toks: &[Placed], which: Limit, number: usize) -> Found {
     let over = match instruction(toks, number) {
         None => Over {
             words: "too many of something",
@@ -163,13 +158,13 @@ pub fn limit_found(
         },
         Some(instr) => broken_limit(toks, instr, which),
     };
-    let what = Sentence::new(alloc).words(over.words)?;
+    let what = Sentence::new(alloc).words(over.words);
     match over.count {
-        None => Ok(Found { at: over.at, what }),
-        Some(count) => Ok(Found {
+        None => Found { at: over.at, what },
+        Some(count) => Found {
             at: over.at,
-            what: what.words(", and there are ")?.number(count)?,
-        }),
+            what: what.words(", and there are ").number(count),
+        },
     }
 }
 

@@ -5,14 +5,10 @@ use crate::held::{Held, HeldLine, bytes_from, line_of};
 use pg_out_place::Sentence;
 use pg_report::{CertificateLine, SavedLine};
 use pg_type::Kind;
-use std::alloc::{AllocError, Global};
+use std::alloc::Global;
 
 /// What is wrong with a certificate, and where.
-pub fn certificate(
-    alloc: Global,
-    why: &CertificateLine,
-    held: &Held<'_>,
-) -> Result<Found, AllocError> {
+pub fn certificate(alloc: Global, why: &CertificateLine, held: &Held<'_>) -> Found {
     match why {
         CertificateLine::Long => plain(
             alloc,
@@ -61,16 +57,16 @@ fn finding_words(why: &CertificateLine) -> &'static str {
 }
 
 /// A finding that is missing.
-fn missing(alloc: Global, name: &[u8], kind: Kind) -> Result<Found, AllocError> {
-    Ok(Found {
+fn missing(alloc: Global, name: &[u8], kind: Kind) -> Found {
+    Found {
         at: At::Whole,
         what: Sentence::new(alloc)
-            .words("the finding ")?
-            .name(name)?
-            .words(" ")?
-            .words(kind_text(kind))?
-            .words(" is missing: it is not whole, or of another machine")?,
-    })
+            .words("the finding ")
+            .name(name)
+            .words(" ")
+            .words(kind_text(kind))
+            .words(" is missing: it is not whole, or of another machine"),
+    }
 }
 
 /// The word of a kind.
@@ -96,7 +92,7 @@ fn start_of(held: &Held<'_>, line: u64) -> At {
 }
 
 /// A byte of a line that may not stand in a certificate or a saved guest.
-fn foreign(alloc: Global, held: &Held<'_>, line: u64) -> Result<Found, AllocError> {
+fn foreign(alloc: Global, held: &Held<'_>, line: u64) -> Found {
     match line_of(held, line) {
         None => plain(
             alloc,
@@ -175,7 +171,7 @@ fn has_heading(line: &[u8]) -> bool {
 }
 
 /// A line that is none of a certificate, or may not stand where it does.
-fn no_line(alloc: Global, held: &Held<'_>, line: u64) -> Result<Found, AllocError> {
+fn no_line(alloc: Global, held: &Held<'_>, line: u64) -> Found {
     let words = match line_of(held, line) {
         None => "the text ends too early, or this line may not stand there",
         Some(found) if is_cut(held, &found) && (line > 1 || has_heading(found.bytes)) => {
@@ -192,7 +188,7 @@ fn no_line(alloc: Global, held: &Held<'_>, line: u64) -> Result<Found, AllocErro
 }
 
 /// What is wrong with a saved guest, and where.
-pub fn saved(alloc: Global, why: &SavedLine, held: &Held<'_>) -> Result<Found, AllocError> {
+pub fn saved(alloc: Global, why: &SavedLine, held: &Held<'_>) -> Found {
     match why {
         SavedLine::Long => plain(
             alloc,

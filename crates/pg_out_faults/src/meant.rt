@@ -38,11 +38,11 @@ pub fn meant(
     line: u64,
 ) -> Result<Found, AllocError> {
     let Some(found) = line_of(held, line) else {
-        return plain(
+        return Ok(plain(
             alloc,
             At::Line(line),
             "this line means nothing for the machine",
-        );
+        ));
     };
     let toks = cut(alloc, held.description)?;
     let said = Said {
@@ -55,9 +55,9 @@ pub fn meant(
     };
     match why {
         SourceLine::Name(_) => unknown_name(alloc, said),
-        SourceLine::Field(_) => other_fields(alloc, said),
-        SourceLine::Label(_) => label_fault(alloc, said, line),
-        _ => out_of_range(alloc, said),
+        SourceLine::Field(_) => Ok(other_fields(alloc, said)),
+        SourceLine::Label(_) => Ok(label_fault(alloc, said, line)),
+        _ => Ok(out_of_range(alloc, said)),
     }
 }
 
@@ -95,21 +95,15 @@ fn operand_of(part: &[u8], place: usize) -> Option<Operand<'_>> {
 
 /// An instruction that the description has not: the names that are near, or else the first ones.
 fn unknown_name(alloc: Global, said: Said<'_>) -> Result<Found, AllocError> {
-    let name = said.name();
     let names = names_of(alloc, said.toks)?;
-    let mut near = Vec::new(alloc);
-    for other in names.as_slice() {
-        if is_near(name, *other) {
-            near.push(*other)?;
-        }
-    }
+    let near = near_names(alloc, names.as_slice(), said.name())?;
     let what = Sentence::new(alloc)
-        .words("the description has no instruction ")?
-        .name(name)?;
+        .words("the description has no instruction ")
+        .name(said.name());
     let what = if near.is_empty() {
-        listed(what.words(": it has ")?, names.as_slice())?
+        listed(what.words(": it has "), names.as_slice())
     } else {
-        listed(what.words(": near is ")?, near.as_slice())?
+        listed(what.words(": near is "), near.as_slice())
     };
     Ok(Found {
         at: said.at(),
@@ -132,39 +126,54 @@ fn names_of<'t>(alloc: Global, toks: &'t [Placed]) -> Result<Vec<&'t [u8]>, Allo
     Ok(names)
 }
 
+/// Those of some names that are near to this one.
+fn near_names<'t>(
+    alloc: Global,
+    names: &[&'t [u8]],
+    name: &[u8],
+) -> Result<Vec<&'t [u8]>, AllocError> {
+    let mut near = Vec::new(alloc);
+    for other in names {
+        if is_near(name, *other) {
+            near.push(*other)?;
+        }
+    }
+    Ok(near)
+}
+
 /// The most names that are listed.
 const MOST_NAMES: usize = 8;
 
 /// And these names, `..` for those past the eighth.
-fn listed(what: Sentence, names: &[&[u8]]) -> Result<Sentence, AllocError> {
+fn listed(what: Sentence, names: &[&[u8]]) -> Sentence {
     if names.is_empty() {
         return what.words("none");
     }
     let mut what = what;
     for (at, name) in names.iter().take(MOST_NAMES).enumerate() {
         if at > 0 {
-            what = what.words(", ")?;
+            what = what.words(", ");
         }
-        what = what.name(*name)?;
+        what = what.name(*name);
     }
     if names.len() > MOST_NAMES {
         what.words(" ..")
     } else {
-        Ok(what)
+        what
     }
 }
 
 /// Fields that are not those of the pattern, each once, from the highest bit.
-fn other_fields(alloc: Global, said: Said<'_>) -> Result<Found, AllocError> {
+fn other_fields(alloc: Global, said: Said<'_>) -> Found {
     let what = Sentence::new(alloc)
-        .words("this instruction is written `")?
-        .text(said.name())?;
-    let what = push_fields(what, said.pattern())?.words("`")?;
+        .words("this instruction is written `")
+        .text(said.name());
+    let what = push_fields(what, said.pattern()).words("`");
     let at = match first_other(said) {
         None => said.at(),
         Some(place) => At::Place(place),
     };
-    Ok(Found { at, what })
+    Found { at, what }
 }
 
 /// Where the first field stands that is not the next one of the pattern.
@@ -184,33 +193,33 @@ fn first_other(said: Said<'_>) -> Option<usize> {
 }
 
 /// A label that no line gives, or that an earlier line gave.
-fn label_fault(alloc: Global, said: Said<'_>, line: u64) -> Result<Found, AllocError> {
+fn label_fault(alloc: Global, said: Said<'_>, line: u64) -> Found {
     let what = Sentence::new(alloc);
     if let Some(name) = label_of(said.line.bytes) {
-        let what = what.words("the label ")?.name(name)?;
+        let what = what.words("the label ").name(name);
         let what = match first_line_of(said.bytes, name) {
             Some(first) if first < line => what
-                .words(" is given twice: first on line ")?
-                .number(first)?,
-            _ => what.words(" is given twice")?,
+                .words(" is given twice: first on line ")
+                .number(first),
+            _ => what.words(" is given twice"),
         };
-        return Ok(Found {
+        return Found {
             at: said.at(),
             what,
-        });
+        };
     }
     match used_label(said) {
         None => plain(alloc, said.at(), "a label is used that no line gives"),
         Some(operand) => {
-            let what = what.words("no line gives the label ")?.name(operand.value)?;
+            let what = what.words("no line gives the label ").name(operand.value);
             let what = match near_label(said.bytes, operand.value) {
                 None => what,
-                Some(near) => what.words(": near is ")?.name(near)?,
+                Some(near) => what.words(": near is ").name(near),
             };
-            Ok(Found {
+            Found {
                 at: At::Place(operand.place.saturating_add(2)),
                 what,
-            })
+            }
         }
     }
 }
@@ -284,32 +293,32 @@ fn first_excess<'t>(said: Said<'t>) -> Option<Excess<'t>> {
 }
 
 /// A value that its field cannot hold: the value, the field, its width and what it takes.
-fn out_of_range(alloc: Global, said: Said<'_>) -> Result<Found, AllocError> {
+fn out_of_range(alloc: Global, said: Said<'_>) -> Found {
     let Some(excess) = first_excess(said) else {
         return plain(alloc, said.at(), "a value does not fit its field");
     };
     let what = Sentence::new(alloc);
     let what = if dec_number(excess.operand.value).is_some() {
-        what.number(excess.value)?
+        what.number(excess.value)
     } else {
-        what.words("the label ")?
-            .name(excess.operand.value)?
-            .words(", cell ")?
-            .number(excess.value)?
-            .words(",")?
+        what.words("the label ")
+            .name(excess.operand.value)
+            .words(", cell ")
+            .number(excess.value)
+            .words(",")
     };
-    Ok(Found {
+    Found {
         at: At::Place(excess.operand.place.saturating_add(2)),
         what: what
-            .words(" does not fit the field ")?
-            .name([excess.operand.letter].as_slice())?
-            .words(" of ")?
-            .number(excess.width)?
+            .words(" does not fit the field ")
+            .name([excess.operand.letter].as_slice())
+            .words(" of ")
+            .number(excess.width)
             .words(if excess.width == 1 {
                 " bit, 0 to "
             } else {
                 " bits, 0 to "
-            })?
-            .number(greatest(excess.width))?,
-    })
+            })
+            .number(greatest(excess.width)),
+    }
 }

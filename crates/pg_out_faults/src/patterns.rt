@@ -3,7 +3,7 @@
 use crate::found::{At, Found, plain};
 use crate::limits::head_of;
 use pg_out_place::{Placed, Sentence, instruction, is_word, pattern_of, spot_at, word_of};
-use std::alloc::{AllocError, Global};
+use std::alloc::Global;
 
 /// A pattern and its place.
 #[derive(Clone, Copy)]
@@ -53,7 +53,7 @@ fn split_letter(pattern: &[u8]) -> Option<u8> {
 }
 
 /// What is wrong with the pattern of an instruction.
-pub fn pattern(alloc: Global, toks: &[Placed], number: usize) -> Result<Found, AllocError> {
+pub fn pattern(alloc: Global, toks: &[Placed], number: usize) -> Found {
     let (given, head) = match (pattern_at(toks, number), head_of(toks)) {
         (Some(given), Some(head)) => (given, head),
         _ => return plain(alloc, At::Whole, "a pattern is not well formed"),
@@ -61,45 +61,39 @@ pub fn pattern(alloc: Global, toks: &[Placed], number: usize) -> Result<Found, A
     let what = Sentence::new(alloc);
     let at = At::Place(given.place);
     match split_letter(given.bytes) {
-        Some(letter) if given.bytes.len() as u64 == head.word.value => Ok(Found {
+        Some(letter) if given.bytes.len() as u64 == head.word.value => Found {
             at,
             what: what
-                .words("a field is one run of its letter, and ")?
-                .name(&[letter])?
-                .words(" stands in two")?,
-        }),
-        _ => Ok(Found {
+                .words("a field is one run of its letter, and ")
+                .name(&[letter])
+                .words(" stands in two"),
+        },
+        _ => Found {
             at,
             what: what
-                .words("a pattern has a place for each bit of a word, ")?
-                .number(head.word.value)?
-                .words(", and this has ")?
-                .number(given.bytes.len() as u64)?,
-        }),
+                .words("a pattern has a place for each bit of a word, ")
+                .number(head.word.value)
+                .words(", and this has ")
+                .number(given.bytes.len() as u64),
+        },
     }
 }
 
 /// Two patterns that match one word.
-pub fn overlap(
-    alloc: Global,
-    bytes: &[u8],
-    toks: &[Placed],
-    one: usize,
-    other: usize,
-) -> Result<Found, AllocError> {
+pub fn overlap(alloc: Global, bytes: &[u8], toks: &[Placed], one: usize, other: usize) -> Found {
     let (first, second) = match (pattern_at(toks, one), pattern_at(toks, other)) {
         (Some(first), Some(second)) => (first, second),
         _ => return plain(alloc, At::Whole, "two patterns match one word"),
     };
-    Ok(Found {
+    Found {
         at: At::Place(second.place),
         what: Sentence::new(alloc)
-            .words("some word matches this pattern and that of ")?
-            .name(name_at(toks, one))?
-            .words(", on line ")?
-            .number(spot_at(bytes, first.place).line)?
-            .words(": fix a bit that tells them apart")?,
-    })
+            .words("some word matches this pattern and that of ")
+            .name(name_at(toks, one))
+            .words(", on line ")
+            .number(spot_at(bytes, first.place).line)
+            .words(": fix a bit that tells them apart"),
+    }
 }
 
 /// The pattern of the instruction of this name.
@@ -144,14 +138,14 @@ pub fn next_field(pattern: &[u8]) -> Option<(u8, &[u8])> {
 }
 
 /// And the fields of a pattern, from the highest bit, as a source gives them.
-pub fn push_fields(what: Sentence, pattern: &[u8]) -> Result<Sentence, AllocError> {
+pub fn push_fields(what: Sentence, pattern: &[u8]) -> Sentence {
     let mut what = what;
     let mut last = b'.';
     for byte in pattern {
         if *byte != last && byte.is_ascii_lowercase() {
-            what = what.words(" ")?.text([*byte].as_slice())?.words("=..")?;
+            what = what.words(" ").text([*byte].as_slice()).words("=..");
         }
         last = *byte;
     }
-    Ok(what)
+    what
 }

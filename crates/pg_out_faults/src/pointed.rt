@@ -1,7 +1,7 @@
 //! Where a refused file is at fault, for who wrote it.
 //!
-//! `point_out` finds the place of a refusal and says what is wrong in words; `three_lines` lays it out. Both take memory, and each
-//! error is want of it.
+//! `point_out` finds the place of a refusal and says what is wrong in words; `three_lines` lays it out. Each error is out of
+//! memory.
 
 ghost use Rattle.std.specs.Prelude.{◌≡◌, is_some, IfOk};
 ghost use Rattle.pg_out_faults.specs.Refusals.{is_of_file};
@@ -12,7 +12,7 @@ use crate::held::Held;
 use crate::image::image;
 use crate::lines::{certificate, saved};
 use crate::sources::source;
-use pg_out_place::{Sentence, Shown, show, spot_at};
+use pg_out_place::{Shown, show, spot_at};
 use pg_report::RefusalLine;
 use pg_text::dec;
 use std::alloc::{AllocError, Global};
@@ -30,7 +30,7 @@ pub struct Place {
 #[derive(Drop)]
 pub struct Point {
     /// What is wrong.
-    pub what: Sentence,
+    pub what: Vec<u8>,
     /// Where; nothing where it is the file as a whole.
     pub place: Option<Place>,
     /// The line there, where it is held.
@@ -60,9 +60,9 @@ pub fn point_out(
     let told = match refusal {
         RefusalLine::Description(why) => description(alloc, why, held.bytes)?,
         RefusalLine::Image(_, why) => alone(alloc, image(alloc, why, held)?),
-        RefusalLine::Certificate(why) => alone(alloc, certificate(alloc, why, held)?),
+        RefusalLine::Certificate(why) => alone(alloc, certificate(alloc, why, held)),
         RefusalLine::Source(why) => alone(alloc, source(alloc, why, held)?),
-        RefusalLine::Saved(why) => alone(alloc, saved(alloc, why, held)?),
+        RefusalLine::Saved(why) => alone(alloc, saved(alloc, why, held)),
         RefusalLine::Room(_, _) => return Ok(None),
     };
     Ok(Some(all_shown(alloc, told, held)?))
@@ -84,7 +84,7 @@ fn all_shown(alloc: Global, told: Told, held: &Held<'_>) -> Result<Pointed, Allo
 
 /// What is found, with its line.
 fn shown_at(alloc: Global, found: Found, held: &Held<'_>) -> Result<Point, AllocError> {
-    let what = found.what;
+    let what = found.what.finish()?;
     match found.at {
         At::Whole => Ok(Point {
             what,
@@ -144,7 +144,7 @@ fn push_point(text: &mut Vec<u8>, name: &[u8], point: &Point) -> Result<(), Allo
         push_place(text, place)?;
     }
     text.extend_from_slice(b": ")?;
-    text.extend_from_slice(point.what.as_bytes())?;
+    text.extend_from_slice(point.what.as_slice())?;
     text.push(b'\n')?;
     if let Some(shown) = &point.shown {
         push_shown(text, shown)?;

@@ -1,23 +1,20 @@
 //! Why no token begins at a place of a description: signs and numbers of other languages, and bytes of a pattern.
-//!
-//! Each error is out of memory.
 
 use crate::found::{At, Found, plain};
 use crate::held::bytes_from;
 use pg_out_place::Sentence;
-use pg_text::dec;
-use std::alloc::{AllocError, Global};
+use std::alloc::Global;
 
 /// Why no token begins at this place, and where what is wrong stands.
-pub fn no_token(alloc: Global, bytes: &[u8], place: usize) -> Result<Found, AllocError> {
+pub fn no_token(alloc: Global, bytes: &[u8], place: usize) -> Found {
     let rest = bytes_from(bytes, place);
     match rest {
         [b'"', ..] => in_pattern(alloc, place, rest),
         [b'\'', base, digits @ ..] => {
             let width = number_before(bytes, place);
-            as_number(alloc, place, sized(alloc, *base, digits, width)?)
+            as_number(alloc, place, sized(*base, digits, width))
         }
-        [b'0', b'b' | b'B', digits @ ..] => as_number(alloc, place, binary(alloc, digits)?),
+        [b'0', b'b' | b'B', digits @ ..] => as_number(alloc, place, binary(digits)),
         _ => plain(alloc, At::Place(place), no_sign(rest)),
     }
 }
@@ -87,68 +84,88 @@ fn binary_value(digits: &[u8]) -> Option<(u64, u64)> {
     }
 }
 
-/// How binary digits are written, if they are some.
-fn binary(alloc: Global, text: &[u8]) -> Result<Option<Vec<u8>>, AllocError> {
-    let Some((value, count)) = binary_value(word_front(text)) else {
-        return Ok(None);
-    };
-    let mut written = Vec::new(alloc);
-    written.extend_from_slice(dec(value).as_slice())?;
-    written.push(b':')?;
-    written.extend_from_slice(dec(count).as_slice())?;
-    Ok(Some(written))
+/// How a number is given.
+#[derive(Clone, Copy)]
+enum Digits<'t> {
+    /// By its value.
+    Value(u64),
+    /// By its decimal digits.
+    Decimal(&'t [u8]),
+    /// By its hexadecimal digits.
+    Hexadecimal(&'t [u8]),
 }
 
-/// How a number of another language is written, whose width stands before `'`, its base and its digits behind, if that is known.
-fn sized(
-    alloc: Global,
-    base: u8,
-    text: &[u8],
-    width: &[u8],
-) -> Result<Option<Vec<u8>>, AllocError> {
-    let digits = word_front(text);
-    let mut written = Vec::new(alloc);
+/// A number of another language: its value, and how many bits it has.
+#[derive(Clone, Copy)]
+struct Number<'t> {
+    value: Digits<'t>,
+    width: Digits<'t>,
+}
+
+/// The number that binary digits give, if they are some.
+fn binary(text: &[u8]) -> Option<Number<'_>> {
+    match binary_value(word_front(text)) {
+        None => None,
+        Some((value, count)) => Some(Number {
+            value: Digits::Value(value),
+            width: Digits::Value(count),
+        }),
+    }
+}
+
+/// The number whose width stands before `'`, its base and its digits behind, if it is one.
+fn sized<'t>(base: u8, text: &'t [u8], width: &'t [u8]) -> Option<Number<'t>> {
+    if width.is_empty() {
+        return None;
+    }
+    match digits_of(base, word_front(text)) {
+        None => None,
+        Some(value) => Some(Number {
+            value,
+            width: Digits::Decimal(width),
+        }),
+    }
+}
+
+/// What digits to this base give, if they are some.
+fn digits_of(base: u8, digits: &[u8]) -> Option<Digits<'_>> {
     match base {
-        b'h' | b'H' => {
-            if digits.is_empty() || !digits.iter().all(|digit| digit.is_ascii_hexdigit()) {
-                return Ok(None);
-            }
-            written.extend_from_slice(b"0x")?;
-            written.extend_from_slice(digits)?;
-        }
-        b'd' | b'D' => {
-            if digits.is_empty() || !digits.iter().all(|digit| digit.is_ascii_digit()) {
-                return Ok(None);
-            }
-            written.extend_from_slice(digits)?;
+        b'h' | b'H' if !digits.is_empty() && digits.iter().all(|digit| digit.is_ascii_hexdigit()) =>
+            { Some(Digits::Hexadecimal(digits)) }
+        b'd' | b'D' if !digits.is_empty() && digits.iter().all(|digit| digit.is_ascii_digit()) => {
+            Some(Digits::Decimal(digits))
         }
         b'b' | b'B' => match binary_value(digits) {
-            None => return Ok(None),
-            Some((value, _)) => written.extend_from_slice(dec(value).as_slice())?,
+            None => None,
+            Some((value, _)) => Some(Digits::Value(value)),
         },
-        _ => return Ok(None),
+        _ => None,
     }
-    if width.is_empty() {
-        return Ok(None);
-    }
-    written.push(b':')?;
-    written.extend_from_slice(width)?;
-    Ok(Some(written))
 }
 
-/// That a number is written so, or the form of numbers where it is not known how.
-fn as_number(alloc: Global, place: usize, written: Option<Vec<u8>>) -> Result<Found, AllocError> {
+/// And a number that is given so.
+fn push_digits(what: Sentence, digits: Digits<'_>) -> Sentence {
+    match digits {
+        Digits::Value(value) => what.number(value),
+        Digits::Decimal(digits) => what.text(digits),
+        Digits::Hexadecimal(digits) => what.words("0x").text(digits),
+    }
+}
+
+/// How a number is written, or the form of numbers where it is not known.
+fn as_number(alloc: Global, place: usize, number: Option<Number<'_>>) -> Found {
     let what = Sentence::new(alloc);
-    let what = match written {
-        None => what.words("a number is its value, `:` and how many bits it has, as in `0xff:32`")?,
-        Some(written) => what
-            .words("a number is its value, `:` and how many bits it has: write ")?
-            .name(written.as_slice())?,
+    let what = match number {
+        None => what.words("a number is its value, `:` and how many bits it has, as in `0xff:32`"),
+        Some(number) => {
+            let what = what.words("a number is its value, `:` and how many bits it has: write `");
+            push_digits(push_digits(what, number.value).words(":"), number.width).words("`")
+        }
     };
-    Ok(Found {
+    Found {
         at: At::Place(place),
         what,
-    })
+    }
 }
 
 /// Whether a byte may stand in a pattern.
@@ -160,7 +177,7 @@ fn is_pattern_byte(byte: u8) -> bool {
 }
 
 /// What is wrong with the pattern that begins with these bytes, `"` first, at this place.
-fn in_pattern(alloc: Global, place: usize, rest: &[u8]) -> Result<Found, AllocError> {
+fn in_pattern(alloc: Global, place: usize, rest: &[u8]) -> Found {
     let inside = bytes_from(rest, 1);
     let front = match inside.iter().position(|byte| !is_pattern_byte(*byte)) {
         None => inside.len(),
@@ -174,14 +191,14 @@ fn in_pattern(alloc: Global, place: usize, rest: &[u8]) -> Result<Found, AllocEr
             At::Place(place),
             "this pattern is not closed",
         ),
-        [letter @ b'A'..=b'Z', ..] => Ok(Found {
+        [letter @ b'A'..=b'Z', ..] => Found {
             at,
             what: Sentence::new(alloc)
-                .words("`")?
-                .text([*letter].as_slice())?
-                .words("` is no field: a field is a small letter, ")?
-                .name([letter.to_ascii_lowercase()].as_slice())?,
-        }),
+                .words("`")
+                .text([*letter].as_slice())
+                .words("` is no field: a field is a small letter, ")
+                .name([letter.to_ascii_lowercase()].as_slice()),
+        },
         [b' ' | b'\t', ..] => plain(
             alloc,
             at,

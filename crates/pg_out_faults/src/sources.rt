@@ -14,7 +14,17 @@ use std::alloc::{AllocError, Global};
 /// What is wrong with a source, and where.
 pub fn source(alloc: Global, why: &SourceLine, held: &Held<'_>) -> Result<Found, AllocError> {
     match why {
-        SourceLine::Long => plain(alloc, At::Whole, "a source has at most 1,048,576 bytes"),
+        SourceLine::Name(line)
+        | SourceLine::Field(line)
+        | SourceLine::Label(line)
+        | SourceLine::Range(line) => meant(alloc, why, held, *line as u64),
+        _ => Ok(formed(alloc, why, held)),
+    }
+}
+
+/// What is wrong with the bytes of a source, or the form of its lines.
+fn formed(alloc: Global, why: &SourceLine, held: &Held<'_>) -> Found {
+    match why {
         SourceLine::Token(place) => plain(
             alloc,
             At::Place(*place),
@@ -35,10 +45,7 @@ pub fn source(alloc: Global, why: &SourceLine, held: &Held<'_>) -> Result<Found,
             first_at(held, *line as u64),
             "an earlier line gives the cell of this line",
         ),
-        SourceLine::Name(line)
-        | SourceLine::Field(line)
-        | SourceLine::Label(line)
-        | SourceLine::Range(line) => meant(alloc, why, held, *line as u64),
+        _ => plain(alloc, At::Whole, "a source has at most 1,048,576 bytes"),
     }
 }
 

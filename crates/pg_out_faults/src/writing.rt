@@ -1,12 +1,10 @@
 //! What to write in place of forms of other languages: bits of a value, and assignments to a name.
-//!
-//! Each error is out of memory.
 
 use crate::grammar::{ends_expression, last_instr};
 use crate::near::Near;
 use pg_lang_token::{Sign, is_reserved};
 use pg_out_place::{Placed, Sentence, is_sign, is_word, number_of, pattern_of, word_of};
-use std::alloc::{AllocError, Global};
+use std::alloc::Global;
 
 /// Whether an instruction, of which these are the tokens up to some place, has a let of this name before that.
 fn has_let(instr: &[Placed], name: &[u8]) -> bool {
@@ -77,12 +75,12 @@ const NO_REGISTERS: &str =
     "there are no registers and no arrays: a cell stands for each, as in `mem[cat(1:5, x)]`";
 
 /// What to write for brackets behind a value, if the token is such a bracket.
-pub fn bits_cut(alloc: Global, near: Near<'_>) -> Result<Option<Sentence>, AllocError> {
+pub fn bits_cut(alloc: Global, near: Near<'_>) -> Option<Sentence> {
     let [.., before] = near.before else {
-        return Ok(None);
+        return None;
     };
     if !is_sign(near.here, Sign::OpenBracket) || !ends_expression(before) {
-        return Ok(None);
+        return None;
     }
     let what = Sentence::new(alloc);
     let instr = last_instr(near.before);
@@ -90,24 +88,24 @@ pub fn bits_cut(alloc: Global, near: Near<'_>) -> Result<Option<Sentence>, Alloc
         None => b"..".as_slice(),
         Some(name) => {
             if !is_range(near.behind) && !has_name(instr, name) {
-                return Ok(Some(what.words(NO_REGISTERS)?));
+                return Some(what.words(NO_REGISTERS));
             }
             name
         }
     };
     let what = what
-        .words("bits are cut out by `cut`: write `cut(")?
-        .text(value)?;
+        .words("bits are cut out by `cut`: write `cut(")
+        .text(value);
     let what = match bits_of(near.behind) {
-        None => what.words(", HIGH, LOW)`")?,
+        None => what.words(", HIGH, LOW)`"),
         Some(bits) => what
-            .words(", ")?
-            .number(bits.high)?
-            .words(", ")?
-            .number(bits.low)?
-            .words(")`")?,
+            .words(", ")
+            .number(bits.high)
+            .words(", ")
+            .number(bits.low)
+            .words(")`"),
     };
-    Ok(Some(what))
+    Some(what)
 }
 
 /// Whether a statement may begin behind a token.
@@ -116,30 +114,30 @@ fn ends_statement(tok: &Placed) -> bool {
 }
 
 /// What to write for a name that begins a statement, if the token is one.
-pub fn named(alloc: Global, near: Near<'_>) -> Result<Option<Sentence>, AllocError> {
+pub fn named(alloc: Global, near: Near<'_>) -> Option<Sentence> {
     let ([.., before], Some(name)) = (near.before, word_of(near.here)) else {
-        return Ok(None);
+        return None;
     };
     let instr = last_instr(near.before);
     if !ends_statement(before) || instr.is_empty() || is_reserved(name) {
-        return Ok(None);
+        return None;
     }
     let what = Sentence::new(alloc);
     let what = match near.behind {
-        [next, ..] if is_sign(next, Sign::OpenBracket) => what.words(NO_REGISTERS)?,
-        _ if has_let(instr, name) => what.name(name)?.words(
+        [next, ..] if is_sign(next, Sign::OpenBracket) => what.words(NO_REGISTERS),
+        _ if has_let(instr, name) => what.name(name).words(
             " is a let, which has one value: give the new value a name of its own, `let NAME = ..;`",
-        )?,
-        _ if has_field(instr, name) => what.name(name)?.words(
+        ),
+        _ if has_field(instr, name) => what.name(name).words(
             " is a field, which is not assigned: give the value a name, `let NAME = ..;`",
-        )?,
+        ),
         [next, ..] if is_sign(next, Sign::Equals) => what
-            .words("`let` is due before a name that is given a value: write `let ")?
-            .text(name)?
-            .words(" = ..;`")?,
+            .words("`let` is due before a name that is given a value: write `let ")
+            .text(name)
+            .words(" = ..;`"),
         _ => what.words(
             "a statement begins with `let`, `mem[`, `pc`, `mode`, `rel`, `bound`, `trap` or `if`",
-        )?,
+        ),
     };
-    Ok(Some(what))
+    Some(what)
 }

@@ -3,12 +3,11 @@
 ghost use Rattle.std.specs.Prelude.{◌<◌, length};
 
 use crate::state::{push_begun, push_cell, push_ended};
-use crate::value::Text;
 use pg_edge::Sink;
 use pg_hw::Hardware;
 use pg_mach_ready::Machine;
+use pg_out_place::Text;
 use pg_out_steps::TraceFault;
-use std::alloc::AllocError;
 
 /// How many bytes of a state are held before they are put.
 const HELD: usize = 16_384;
@@ -20,17 +19,17 @@ pub fn put_held<H: Hardware, S: Sink>(
     m: &Machine,
     hw: &H,
 ) -> Result<(), TraceFault> {
-    push_begun(text, u64::from(hw.size()), hw.psw())?;
+    push_begun(text, u64::from(hw.size()), hw.psw());
     let mut next = None;
     for at in 0..hw.size() {
-        next = push_held(text, m, hw, next, at)?;
+        next = push_held(text, m, hw, next, at);
         if text.len() > HELD {
-            out.put(text.as_slice())?;
+            out.put(text.whole()?)?;
             text.clear();
         }
     }
-    push_ended(text, next)?;
-    out.put(text.as_slice())?;
+    push_ended(text, next);
+    out.put(text.whole()?)?;
     text.clear();
     Ok(())
 }
@@ -42,11 +41,11 @@ fn push_held<H: Hardware>(
     hw: &H,
     next: Option<u64>,
     at: u32,
-) -> Result<Option<u64>, AllocError>
+) -> Option<u64>
     requires { at < length (H.machinery hw.now).state.cells }
 {
     match hw.peek(at) {
-        0 => Ok(next),
+        0 => next,
         word => push_cell(text, m, next, at, word),
     }
 }

@@ -1,10 +1,11 @@
 //! What the side programs tell, as JSON.
 //!
-//! A text is pushed piece by piece at the end of a buffer, which whoever owns it puts and clears, so no whole answer is ever held. It
+//! A text is pushed piece by piece at the end of a buffer, which whoever owns it puts and clears, so no whole answer is ever held; a
+//! piece for which there is no memory is told when it is put. It
 //! is UTF-8. Numbers are decimal, and a word of the machine is a string of hexadecimal digits, since the numbers of many readers
 //! have fewer than 64 bits. `docs/DATA.md` says each key, and `share/page/data.schema.json` the form.
 //!
-//! - `value`: bytes, numbers, words and strings. `list`: lines and names. `state`: states.
+//! - `value`: flags, words and strings. `list`: lines and names. `state`: states.
 //! - `head`: how a text begins. `instr`: an instruction; `source`: its place in the text of the description; `touched`: what a body
 //!   reads and sets of the mode and of the window.
 //! - `finding`: a finding. `log`: how long the logs of a certificate are.
@@ -39,4 +40,4 @@ pub use list::push_lines;
 pub use log::{LogLen, Logs};
 pub use run::put_run;
 pub use source::{Source, SourceList, read_sources};
-pub use value::{Text, push, push_flag, push_number, push_string, push_word};
+pub use value::{push_flag, push_string, push_word};

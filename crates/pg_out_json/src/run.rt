@@ -8,10 +8,10 @@ ghost use Rattle.pg_lang_valid.specs.Valid.{IsValid};
 use crate::counts::push_tally;
 use crate::held::put_held;
 use crate::turns::put_turns;
-use crate::value::{Text, push};
 use pg_edge::Sink;
 use pg_hw::{Hardware, power_on};
 use pg_mach_ready::Machine;
+use pg_out_place::Text;
 use pg_out_steps::{Monitor, Tally, TraceFault};
 use std::alloc::Global;
 
@@ -39,7 +39,7 @@ pub fn put_run<H: Hardware, S: Sink>(
 {
     hw.install(image.len() as u32)?;
     power_on(hw, image);
-    push(text, b",\n\"pieces\":")?;
+    text.push(b",\n\"pieces\":");
     let tally = put_turns(alloc, m, hw, out, text, n, monitor)?;
     put_end(out, text, m, hw, &tally, monitor)
 }
@@ -53,11 +53,11 @@ fn put_end<H: Hardware, S: Sink>(
     tally: &Tally,
     monitor: Option<Monitor>,
 ) -> Result<(), TraceFault> {
-    push(text, b"]}],\n\"counts\":")?;
-    push_tally(text, m, tally, monitor)?;
-    push(text, b",\n\"end\":")?;
+    text.push(b"]}],\n\"counts\":");
+    push_tally(text, m, tally, monitor);
+    text.push(b",\n\"end\":");
     put_held(out, text, m, hw)?;
-    push(text, b"}\n")?;
-    out.put(text.as_slice())?;
+    text.push(b"}\n");
+    out.put(text.whole()?)?;
     Ok(())
 }

@@ -1,10 +1,11 @@
 //! One step of a run. Each error is out of memory.
 
 use crate::state::push_psw;
-use crate::value::{Text, push, push_number, push_string, push_word};
+use crate::value::{push_string, push_word};
 use pg_asm::{decode, fields_of};
 use pg_interp::Write;
 use pg_mach_ready::Machine;
+use pg_out_place::Text;
 use pg_out_steps::{Handling, Stepped};
 use pg_routine::compose;
 use pg_word::{Cause, Psw};
@@ -36,19 +37,20 @@ pub(crate) fn push_turn(
     turn: &Turn<'_>,
 ) -> Result<(), AllocError> {
     let stepped = turn.stepped;
-    push(text, b"{\"psw\":")?;
-    push_psw(text, stepped.psw)?;
+    text.push(b"{\"psw\":");
+    push_psw(text, stepped.psw);
     push_said(alloc, text, m, stepped.word)?;
     match stepped.cause {
-        None => push_stores(text, m, stepped.psw.l, turn.stores)?,
-        Some(cause) => push_trap(text, m, cause, stepped.kept)?,
+        None => push_stores(text, m, stepped.psw.l, turn.stores),
+        Some(cause) => push_trap(text, m, cause, stepped.kept),
     }
-    push(text, b",\"next\":")?;
-    push_psw(text, stepped.next)?;
+    text.push(b",\"next\":");
+    push_psw(text, stepped.next);
     if let Some(handling) = stepped.handling {
-        push_handling(text, turn, handling)?;
+        push_handling(text, turn, handling);
     }
-    push(text, b"}")
+    text.push(b"}");
+    Ok(())
 }
 
 /// Pushes the word that was fetched, where one was, and the instruction that it is decoded to, where there is one.
@@ -61,58 +63,58 @@ fn push_said(
     let Some(word) = word else {
         return Ok(());
     };
-    push(text, b",\"word\":")?;
-    push_word(text, m, word)?;
+    text.push(b",\"word\":");
+    push_word(text, m, word);
     let Some((instr, values)) = decode(alloc, m, word)? else {
         return Ok(());
     };
     let Some(found) = m.desc.instrs.as_slice().get(instr) else {
         return Ok(());
     };
-    push(text, b",\"instr\":\"")?;
-    push(text, found.name.as_bytes())?;
-    push_values(text, found.pattern.as_bytes(), values.as_slice())?;
-    push(text, b"\"")
-}
-
-/// Pushes the values of the fields of a pattern: ` i=0 d=1`. A pattern of a machine has at most 64 places.
-fn push_values(text: &mut Text, pattern: &[u8], values: &[u64]) -> Result<(), AllocError> {
-    let fields = fields_of(&pattern[..pattern.len().min(64)]);
-    for (k, value) in values.iter().enumerate() {
-        if let Some(field) = fields.as_slice().get(k) {
-            push(text, b" ")?;
-            push(text, &[field.letter])?;
-            push(text, b"=")?;
-            push_number(text, *value)?;
-        }
-    }
+    text.push(b",\"instr\":\"");
+    text.push(found.name.as_bytes());
+    push_values(text, found.pattern.as_bytes(), values.as_slice());
+    text.push(b"\"");
     Ok(())
 }
 
-/// Pushes the stores, in order: each cell by its address in the storage, and its new word.
-fn push_stores(text: &mut Text, m: &Machine, l: u32, stores: &[Write]) -> Result<(), AllocError> {
-    if stores.is_empty() {
-        return Ok(());
+/// Pushes the values of the fields of a pattern: ` i=0 d=1`. A pattern of a machine has at most 64 places.
+fn push_values(text: &mut Text, pattern: &[u8], values: &[u64]) {
+    let fields = fields_of(&pattern[..pattern.len().min(64)]);
+    for (k, value) in values.iter().enumerate() {
+        if let Some(field) = fields.as_slice().get(k) {
+            text.push(b" ");
+            text.push(&[field.letter]);
+            text.push(b"=");
+            text.push_number(*value);
+        }
     }
-    push(text, b",\"stores\":[")?;
+}
+
+/// Pushes the stores, in order: each cell by its address in the storage, and its new word.
+fn push_stores(text: &mut Text, m: &Machine, l: u32, stores: &[Write]) {
+    if stores.is_empty() {
+        return;
+    }
+    text.push(b",\"stores\":[");
     let mut is_first = true;
     for store in stores {
-        push(text, if is_first { b"[" } else { b",[" })?;
-        push_number(text, u64::from(l) + u64::from(store.at))?;
-        push(text, b",")?;
-        push_word(text, m, store.cell)?;
-        push(text, b"]")?;
+        text.push(if is_first { b"[" } else { b",[" });
+        text.push_number(u64::from(l) + u64::from(store.at));
+        text.push(b",");
+        push_word(text, m, store.cell);
+        text.push(b"]");
         is_first = false;
     }
-    push(text, b"]")
+    text.push(b"]");
 }
 
 /// Pushes why a step traps, and the word that the trap stores in cell 0.
-fn push_trap(text: &mut Text, m: &Machine, cause: Cause, kept: u64) -> Result<(), AllocError> {
-    push(text, b",\"cause\":")?;
-    push_string(text, cause_name(cause))?;
-    push(text, b",\"kept\":")?;
-    push_word(text, m, kept)
+fn push_trap(text: &mut Text, m: &Machine, cause: Cause, kept: u64) {
+    text.push(b",\"cause\":");
+    push_string(text, cause_name(cause));
+    text.push(b",\"kept\":");
+    push_word(text, m, kept);
 }
 
 /// The word of a cause.
@@ -125,21 +127,18 @@ fn cause_name(cause: Cause) -> &'static [u8] {
 }
 
 /// Pushes how a monitor handles a step.
-fn push_handling(text: &mut Text, turn: &Turn<'_>, handling: Handling) -> Result<(), AllocError> {
-    push(
-        text,
-        match handling {
-            Handling::Direct => b",\"how\":\"direct\"",
-            Handling::Emulated => b",\"how\":\"emulated\"",
-        },
-    )?;
-    push(text, b",\"composed\":")?;
-    push_psw(text, composed(turn.stepped.psw, turn.size))?;
+fn push_handling(text: &mut Text, turn: &Turn<'_>, handling: Handling) {
+    text.push(match handling {
+        Handling::Direct => b",\"how\":\"direct\"",
+        Handling::Emulated => b",\"how\":\"emulated\"",
+    });
+    text.push(b",\"composed\":");
+    push_psw(text, composed(turn.stepped.psw, turn.size));
     match turn.asked {
-        None => Ok(()),
+        None => {}
         Some(cause) => {
-            push(text, b",\"asked\":")?;
-            push_string(text, cause_name(cause))
+            text.push(b",\"asked\":");
+            push_string(text, cause_name(cause));
         }
     }
 }

@@ -10,11 +10,11 @@ use crate::asked::asked_cause;
 use crate::held::put_held;
 use crate::pieces::Pieces;
 use crate::turn::{Turn, push_turn};
-use crate::value::{Text, push, push_number};
 use pg_edge::Sink;
 use pg_hw::Hardware;
 use pg_interp::Frame;
 use pg_mach_ready::Machine;
+use pg_out_place::Text;
 use pg_out_steps::{Monitor, Tally, TraceFault, Tracer};
 use pg_word::{Cause, Mode};
 use std::alloc::Global;
@@ -83,11 +83,11 @@ fn put_piece<H: Hardware, S: Sink>(
     before: &[u8],
     done: u64,
 ) -> Result<(), TraceFault> {
-    push(text, before)?;
-    push_number(text, done)?;
-    push(text, b",\"state\":")?;
+    text.push(before);
+    text.push_number(done);
+    text.push(b",\"state\":");
     put_held(out, text, m, hw)?;
-    push(text, b",\"turns\":[")?;
+    text.push(b",\"turns\":[");
     Ok(())
 }
 
@@ -118,9 +118,9 @@ fn put_turn<S: Sink>(
     if !pieces.tells() {
         return Ok(());
     }
-    push(text, if text.is_empty() { b",\n" } else { b"\n" })?;
+    text.push(if text.is_empty() { b",\n" } else { b"\n" });
     push_turn(alloc, text, m, turn)?;
-    out.put(text.as_slice())?;
+    out.put(text.whole()?)?;
     text.clear();
     Ok(())
 }

@@ -5,7 +5,7 @@
 //! (`specs/Places.antt`); what is found in tokens is tested.
 //!
 //! - `chars`: characters of a text. `places`: lines and columns.
-//! - `shown`: a line, and the caret below it. `sentence`: a sentence that says what is wrong.
+//! - `shown`: a line, and the caret below it. `text`: a text that is put together. `sentence`: one that says what is wrong.
 //! - `tokens`: the tokens of a description, instruction by instruction. `names`: where names stand.
 //! - `parts`: where the expressions of a statement stand. `near`: names that are near to another.
 #![tactic(auto)]
@@ -17,6 +17,7 @@ mod parts;
 mod places;
 mod sentence;
 mod shown;
+mod text;
 mod tokens;
 
 pub use names::{Twice, Unknown, find_twice, find_unknown};
@@ -25,6 +26,7 @@ pub use parts::{expression, operation, operator};
 pub use places::{Spot, place_of_line, spot_at};
 pub use sentence::Sentence;
 pub use shown::{Shown, show};
+pub use text::Text;
 pub use tokens::{
     Placed, count_statements, count_word, first_place, instruction, is_sign, is_word, nth_word,
     number_of, pattern_of, statement, word_of,

@@ -5,11 +5,12 @@ ghost use Rattle.pg_cert.specs.Verdicts.{kind_count};
 
 use crate::pair::{Pair, push_pair, push_states};
 use crate::part::Wish;
-use crate::push::{Text, push, push_name, push_word};
+use crate::push::{push_name, push_word};
 use pg_cert::{Mark, Report};
 use pg_mach_ready::Machine;
 use pg_out_guarded::marks_at;
 use pg_out_pair::{Explained, explain, words_part};
+use pg_out_place::Text;
 use pg_out_readable::readable;
 use pg_type::Kind;
 use pg_word::Sparse;
@@ -39,22 +40,21 @@ pub(crate) fn push_instr(
                 }
                 match kind {
                     Kind::Privileged => unprivileged = Some(now),
-                    _ => push_words(text, m, unprivileged.as_ref(), &now)?,
+                    _ => push_words(text, m, unprivileged.as_ref(), &now),
                 }
             }
         }
     }
-    if is_told {
-        Ok(())
-    } else {
-        push_nothing(text, m, instr)
+    if !is_told {
+        push_nothing(text, m, instr);
     }
+    Ok(())
 }
 
 /// Pushes that no states were told.
-fn push_nothing(text: &mut Text, m: &Machine, instr: usize) -> Result<(), AllocError> {
-    push_name(text, m, instr)?;
-    push(text, b": the certificate has no states that show it.\n")
+fn push_nothing(text: &mut Text, m: &Machine, instr: usize) {
+    push_name(text, m, instr);
+    text.push(b": the certificate has no states that show it.\n");
 }
 
 /// Pushes a mark that two states show: what they come to, where they do show the kind.
@@ -100,15 +100,12 @@ fn push_readable(
         return Ok(());
     };
     let Some(pair) = readable(alloc, m, instr, kind, known)? else {
-        return push(
-            text,
+        text.push(
             b"  No states of at most 24 cells were found with each operand in a cell of its own.\n",
         );
+        return Ok(());
     };
-    push(
-        text,
-        b"  The same with each operand in a cell of its own:\n",
-    )?;
+    text.push(b"  The same with each operand in a cell of its own:\n");
     push_found(alloc, text, m, instr, kind, &pair.first, &pair.second)
 }
 
@@ -143,21 +140,16 @@ fn push_found(
 
 /// Pushes that some words of a pattern trap in user mode and others do not, where this pair and one that shows the instruction
 /// unprivileged tell it.
-fn push_words(
-    text: &mut Text,
-    m: &Machine,
-    unprivileged: Option<&Explained>,
-    now: &Explained,
-) -> Result<(), AllocError> {
+fn push_words(text: &mut Text, m: &Machine, unprivileged: Option<&Explained>, now: &Explained) {
     let Some(done) = unprivileged else {
-        return Ok(());
+        return;
     };
     if !words_part(done, now) {
-        return Ok(());
+        return;
     }
-    push(text, b"  The word ")?;
-    push_word(text, m, done.second.word)?;
-    push(text, b" is done in user mode, and the word ")?;
-    push_word(text, m, now.user.word)?;
-    push(text, b" traps there: split the pattern.\n")
+    text.push(b"  The word ");
+    push_word(text, m, done.second.word);
+    text.push(b" is done in user mode, and the word ");
+    push_word(text, m, now.user.word);
+    text.push(b" traps there: split the pattern.\n");
 }

@@ -1,10 +1,11 @@
 //! Two states that show a kind, and what is left behind a step from each. Each error is out of memory.
 
 use crate::outcome::{push_control, push_outcome};
-use crate::push::{Text, push, push_name};
+use crate::push::push_name;
 use crate::state::{push_bound, push_state, push_window};
 use pg_mach_ready::Machine;
 use pg_out_pair::Explained;
+use pg_out_place::Text;
 use pg_type::Kind;
 use pg_word::Sparse;
 use std::alloc::{AllocError, Global};
@@ -31,8 +32,8 @@ pub(crate) fn push_pair(
     m: &Machine,
     pair: &Pair<'_>,
 ) -> Result<(), AllocError> {
-    push_name(text, m, pair.instr)?;
-    push(text, headline(pair.kind, pair.told))?;
+    push_name(text, m, pair.instr);
+    text.push(headline(pair.kind, pair.told));
     push_states(alloc, text, m, pair)
 }
 
@@ -46,27 +47,28 @@ pub(crate) fn push_states(
     push_state(alloc, text, m, pair.kind, pair.first, pair.told.first.word)?;
     match pair.kind {
         Kind::Control | Kind::UControl => {
-            push_control(text, &pair.first.psw, &pair.told.first.after.psw)
+            push_control(text, &pair.first.psw, &pair.told.first.after.psw);
         }
         Kind::Privileged | Kind::ModeDep => {
-            push(text, b"  B: user mode, else the same\n")?;
-            push_outcome(text, m, pair.told)
+            text.push(b"  B: user mode, else the same\n");
+            push_outcome(text, m, pair.told);
         }
         Kind::Location | Kind::ULocation | Kind::Bound | Kind::UBound => {
-            push_second(text, pair)?;
-            push_outcome(text, m, pair.told)
+            push_second(text, pair);
+            push_outcome(text, m, pair.told);
         }
     }
+    Ok(())
 }
 
 /// Pushes what the second state of two windows has of its own.
-fn push_second(text: &mut Text, pair: &Pair<'_>) -> Result<(), AllocError> {
-    push(text, b"  B: ")?;
-    push_window(text, pair.second)?;
+fn push_second(text: &mut Text, pair: &Pair<'_>) {
+    text.push(b"  B: ");
+    push_window(text, pair.second);
     if matches!(pair.kind, Kind::Bound | Kind::UBound) {
-        push_bound(text, pair.second)?;
+        push_bound(text, pair.second);
     }
-    push(text, b", else the same\n")
+    text.push(b", else the same\n");
 }
 
 /// What two states show, behind the name of the instruction.

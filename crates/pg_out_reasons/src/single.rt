@@ -3,9 +3,9 @@
 ghost use Rattle.std.specs.Prelude.{◌<◌, length};
 
 use crate::pair::{Pair, push_pair};
-use crate::push::Text;
 use pg_mach_ready::Machine;
 use pg_out_pair::{Explained, explain};
+use pg_out_place::Text;
 use pg_type::Kind;
 use pg_word::Sparse;
 use std::alloc::{AllocError, Global};
@@ -46,5 +46,6 @@ pub fn tell_single(
             told: &told,
         },
     )?;
+    let says = says.finish()?;
     Ok(Some(Single { told, says }))
 }

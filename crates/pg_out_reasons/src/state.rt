@@ -1,8 +1,9 @@
 //! One state, in a line or two. Each error is out of memory.
 
-use crate::push::{Text, push, push_name, push_number, push_word};
+use crate::push::{push_name, push_word};
 use pg_asm::{decode, fields_of};
 use pg_mach_ready::Machine;
+use pg_out_place::Text;
 use pg_type::Kind;
 use pg_word::{Mode, Sparse, window_len};
 use std::alloc::{AllocError, Global};
@@ -19,20 +20,21 @@ pub(crate) fn push_state(
     s: &Sparse,
     word: u64,
 ) -> Result<(), AllocError> {
-    push(text, b"  A: ")?;
-    push(text, mode_name(s.psw.mode))?;
-    push(text, b" mode, ")?;
-    push_window(text, s)?;
+    text.push(b"  A: ");
+    text.push(mode_name(s.psw.mode));
+    text.push(b" mode, ");
+    push_window(text, s);
     if is_of_bound(kind) {
-        push_bound(text, s)?;
+        push_bound(text, s);
     }
-    push(text, b", P ")?;
-    push_number(text, u64::from(s.psw.p))?;
-    push(text, b": ")?;
-    push_word(text, m, word)?;
+    text.push(b", P ");
+    text.push_number(u64::from(s.psw.p));
+    text.push(b": ");
+    push_word(text, m, word);
     push_instr(alloc, text, m, word)?;
-    push(text, b"\n")?;
-    push_cells(text, m, s)
+    text.push(b"\n");
+    push_cells(text, m, s);
+    Ok(())
 }
 
 /// The word of a mode.
@@ -49,21 +51,21 @@ pub(crate) fn is_of_bound(kind: Kind) -> bool {
 }
 
 /// Pushes the cells of the window: `window 0..33`.
-pub(crate) fn push_window(text: &mut Text, s: &Sparse) -> Result<(), AllocError> {
+pub(crate) fn push_window(text: &mut Text, s: &Sparse) {
     let cells = u64::from(window_len(s.psw, s.size));
-    push(text, b"window ")?;
-    push_number(text, u64::from(s.psw.l))?;
-    push(text, b"..")?;
-    push_number(text, (u64::from(s.psw.l) + cells).saturating_sub(1))
+    text.push(b"window ");
+    text.push_number(u64::from(s.psw.l));
+    text.push(b"..");
+    text.push_number((u64::from(s.psw.l) + cells).saturating_sub(1))
 }
 
 /// Pushes the bound, and how many cells the storage has.
-pub(crate) fn push_bound(text: &mut Text, s: &Sparse) -> Result<(), AllocError> {
-    push(text, b", bound ")?;
-    push_number(text, u64::from(s.psw.b))?;
-    push(text, b" in ")?;
-    push_number(text, u64::from(s.size))?;
-    push(text, b" cells")
+pub(crate) fn push_bound(text: &mut Text, s: &Sparse) {
+    text.push(b", bound ");
+    text.push_number(u64::from(s.psw.b));
+    text.push(b" in ");
+    text.push_number(u64::from(s.size));
+    text.push(b" cells");
 }
 
 /// Pushes the instruction that a word is decoded to, and the values of its fields.
@@ -71,44 +73,42 @@ fn push_instr(alloc: Global, text: &mut Text, m: &Machine, word: u64) -> Result<
     let Some((instr, values)) = decode(alloc, m, word)? else {
         return Ok(());
     };
-    push(text, b"  ")?;
-    push_name(text, m, instr)?;
-    match m.desc.instrs.as_slice().get(instr) {
-        None => Ok(()),
-        Some(found) => push_values(text, found.pattern.as_bytes(), values.as_slice()),
-    }
-}
-
-/// Pushes the values of the fields of a pattern: ` i=0 d=1`. A pattern of a machine has at most 64 places.
-fn push_values(text: &mut Text, pattern: &[u8], values: &[u64]) -> Result<(), AllocError> {
-    let fields = fields_of(&pattern[..pattern.len().min(64)]);
-    for (k, value) in values.iter().enumerate() {
-        if let Some(field) = fields.as_slice().get(k) {
-            text.push(b' ')?;
-            text.push(field.letter)?;
-            text.push(b'=')?;
-            push_number(text, *value)?;
-        }
+    text.push(b"  ");
+    push_name(text, m, instr);
+    if let Some(found) = m.desc.instrs.as_slice().get(instr) {
+        push_values(text, found.pattern.as_bytes(), values.as_slice());
     }
     Ok(())
 }
 
+/// Pushes the values of the fields of a pattern: ` i=0 d=1`. A pattern of a machine has at most 64 places.
+fn push_values(text: &mut Text, pattern: &[u8], values: &[u64]) {
+    let fields = fields_of(&pattern[..pattern.len().min(64)]);
+    for (k, value) in values.iter().enumerate() {
+        if let Some(field) = fields.as_slice().get(k) {
+            text.push(b" ");
+            text.push(&[field.letter]);
+            text.push(b"=");
+            text.push_number(*value);
+        }
+    }
+}
+
 /// Pushes a line of the cells of the window that are not zero, but for the one at P: the first of them.
-fn push_cells(text: &mut Text, m: &Machine, s: &Sparse) -> Result<(), AllocError> {
+fn push_cells(text: &mut Text, m: &Machine, s: &Sparse) {
     let mut told = 0;
     for (at, word) in s.cells.as_slice() {
         if told > MOST_CELLS {
             break;
         }
         if is_beside(s, *at) {
-            push_cell(text, m, s, *at, *word, told)?;
+            push_cell(text, m, s, *at, *word, told);
             told += 1;
         }
     }
     if told > 0 {
-        push(text, b"\n")?;
+        text.push(b"\n");
     }
-    Ok(())
 }
 
 /// Whether a cell of the storage lies in the window, at another address than P.
@@ -121,19 +121,12 @@ fn is_beside(s: &Sparse, at: u32) -> bool {
 }
 
 /// Pushes a cell of the window, behind so many others.
-fn push_cell(
-    text: &mut Text,
-    m: &Machine,
-    s: &Sparse,
-    at: u32,
-    word: u64,
-    told: usize,
-) -> Result<(), AllocError> {
+fn push_cell(text: &mut Text, m: &Machine, s: &Sparse, at: u32, word: u64, told: usize) {
     if told == MOST_CELLS {
-        return push(text, b", ..");
+        return text.push(b", ..");
     }
-    push(text, if told == 0 { b"     holds " } else { b", " })?;
-    push_number(text, u64::from(at.saturating_sub(s.psw.l)))?;
-    push(text, b": ")?;
-    push_word(text, m, word)
+    text.push(if told == 0 { b"     holds " } else { b", " });
+    text.push_number(u64::from(at.saturating_sub(s.psw.l)));
+    text.push(b": ");
+    push_word(text, m, word);
 }

@@ -8,11 +8,12 @@ ghost use Rattle.pg_out_reasons.specs.Mending.{AreWanted, IsMended, IsMendedBy};
 use crate::instr::push_instr;
 use crate::mending::{push_guarded, push_hybrid};
 use crate::part::{Part, Wish};
-use crate::push::{Text, push, push_name};
+use crate::push::push_name;
 use pg_cert::put::kind_name;
 use pg_cert::{Family, Report, Verdict};
 use pg_mach_ready::Machine;
 use pg_out_guarded::broken_instrs;
+use pg_out_place::Text;
 use std::alloc::{AllocError, Global};
 
 /// What is told of a report, and a machine that is mended.
@@ -53,7 +54,7 @@ pub fn tell_reasons(
     ensures marks { IfOk result (λ told. IfSome told.mended (λ g. IsMended g.marks.items m.now.desc g.machine.desc)) }
 {
     let mut text = Text::new(alloc);
-    push_verdict(&mut text, m, report.verdict())?;
+    push_verdict(&mut text, m, report.verdict());
     let marks = wanted(alloc, m, report, wish.part)?;
     push_instrs(alloc, &mut text, m, report, wish, marks.as_slice())?;
     let mended = push_mending(
@@ -65,6 +66,7 @@ pub fn tell_reasons(
         marks.as_slice(),
         budget,
     )?;
+    let text = text.finish()?;
     match mended {
         None => Ok(Reasons { text, mended: None }),
         Some(machine) => Ok(Reasons {
@@ -75,20 +77,20 @@ pub fn tell_reasons(
 }
 
 /// Pushes the line of a verdict.
-fn push_verdict(text: &mut Text, m: &Machine, verdict: Verdict) -> Result<(), AllocError> {
+fn push_verdict(text: &mut Text, m: &Machine, verdict: Verdict) {
     match verdict {
-        Verdict::Accepted => push(text, b"accepted\n"),
+        Verdict::Accepted => text.push(b"accepted\n"),
         Verdict::Refused(instr) => {
-            push(text, b"refused ")?;
-            push_name(text, m, instr)?;
-            push(text, b"\n")
+            text.push(b"refused ");
+            push_name(text, m, instr);
+            text.push(b"\n");
         }
         Verdict::Unsettled(instr, kind) => {
-            push(text, b"open ")?;
-            push_name(text, m, instr)?;
-            push(text, b" ")?;
-            push(text, kind_name(kind))?;
-            push(text, b"\n")
+            text.push(b"open ");
+            push_name(text, m, instr);
+            text.push(b" ");
+            text.push(kind_name(kind));
+            text.push(b"\n");
         }
     }
 }

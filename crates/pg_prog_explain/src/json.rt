@@ -13,9 +13,10 @@ use pg_edge::{LoadFault, Shelf, Sink};
 use pg_mach_ready::Machine;
 use pg_out_guarded::{broken_instrs, marks_at};
 use pg_out_json::{
-    Logs, Shown, SourceList, Text, push, push_flag, push_head, push_instr, push_lines, push_open,
-    push_refuted, push_shown, push_string, read_sources,
+    Logs, Shown, SourceList, push_flag, push_head, push_instr, push_lines, push_open, push_refuted,
+    push_shown, push_string, read_sources,
 };
+use pg_out_place::Text;
 use pg_out_reasons::{Reasons, tell_single};
 use pg_prog_base::Stop;
 use pg_prog_base::files::{file_name, put};
@@ -81,13 +82,13 @@ fn put_parts<S: Sink>(
     told: &Reasons,
     out: &mut S,
 ) -> Result<(), Stop> {
-    let mut text = Vec::new(alloc);
-    push_begin(&mut text, judged)?;
+    let mut text = Text::new(alloc);
+    push_begin(&mut text, judged);
     for instr in 0..judged.machine.count() {
         put_instr(alloc, out, &mut text, judged, beside, instr)?;
     }
-    push_end(&mut text, told)?;
-    put(out, text.as_slice())
+    push_end(&mut text, told);
+    put(out, text.whole()?)
 }
 
 /// The instructions in the text of the description, as it is now.
@@ -153,46 +154,45 @@ fn stop_of(fault: LoadFault) -> Stop {
 }
 
 /// Pushes what stands before the instructions: the form, the machine, the family and the verdict.
-fn push_begin(text: &mut Text, judged: &JudgedMachine) -> Result<(), AllocError> {
-    push_head(text, b"pg_explain", VERSION, &judged.machine)?;
-    push(text, b",\n\"family\":")?;
+fn push_begin(text: &mut Text, judged: &JudgedMachine) {
+    push_head(text, b"pg_explain", VERSION, &judged.machine);
+    text.push(b",\n\"family\":");
     push_string(
         text,
         match judged.report.family {
             Family::Plain => b"check",
             Family::Hybrid => b"hcheck",
         },
-    )?;
-    push_verdict(text, &judged.machine, judged.report.verdict())?;
-    push(text, b",\n\"instrs\":[")
+    );
+    push_verdict(text, &judged.machine, judged.report.verdict());
+    text.push(b",\n\"instrs\":[");
 }
 
 /// Pushes a verdict, and of which instruction and kind it is.
-fn push_verdict(text: &mut Text, m: &Machine, verdict: Verdict) -> Result<(), AllocError> {
-    push(text, b",\n\"verdict\":{\"is\":")?;
+fn push_verdict(text: &mut Text, m: &Machine, verdict: Verdict) {
+    text.push(b",\n\"verdict\":{\"is\":");
     match verdict {
-        Verdict::Accepted => push(text, b"\"accepted\"")?,
+        Verdict::Accepted => text.push(b"\"accepted\""),
         Verdict::Refused(instr) => {
-            push(text, b"\"refused\"")?;
-            push_name(text, m, instr)?;
+            text.push(b"\"refused\"");
+            push_name(text, m, instr);
         }
         Verdict::Unsettled(instr, kind) => {
-            push(text, b"\"open\"")?;
-            push_name(text, m, instr)?;
-            push(text, b",\"kind\":")?;
-            push_string(text, kind_name(kind))?;
+            text.push(b"\"open\"");
+            push_name(text, m, instr);
+            text.push(b",\"kind\":");
+            push_string(text, kind_name(kind));
         }
     }
-    push(text, b"}")
+    text.push(b"}");
 }
 
 /// Pushes the name of an instruction, where there is one of this number.
-fn push_name(text: &mut Text, m: &Machine, instr: usize) -> Result<(), AllocError> {
+fn push_name(text: &mut Text, m: &Machine, instr: usize) {
     if instr < m.count() {
-        push(text, b",\"instr\":")?;
-        push_string(text, m.name(instr))?;
+        text.push(b",\"instr\":");
+        push_string(text, m.name(instr));
     }
-    Ok(())
 }
 
 /// Puts an instruction with its findings, behind what the buffer holds.
@@ -206,17 +206,17 @@ fn put_instr<S: Sink>(
 ) -> Result<(), Stop>
     requires { instr < length judged.now.machine.desc.instrs }
 {
-    push(text, if instr == 0 { b"\n" } else { b",\n" })?;
+    text.push(if instr == 0 { b"\n" } else { b",\n" });
     let source = beside.sources.as_slice().get(instr);
     let is_broken = beside.broken.as_slice().get(instr) == Some(&true);
     push_instr(alloc, text, &judged.machine, instr, source, is_broken)?;
     let marks = marks_at(&judged.machine, &judged.report, instr);
     for (k, mark) in marks.iter().enumerate() {
         push_mark(alloc, text, judged, beside, instr, k, mark)?;
-        put(out, text.as_slice())?;
+        put(out, text.whole()?)?;
         text.clear();
     }
-    push(text, b"]}")?;
+    text.push(b"]}");
     Ok(())
 }
 
@@ -239,14 +239,15 @@ fn push_mark(
     let log = beside
         .logs
         .of(instr.saturating_mul(kinds.len()).saturating_add(k));
-    push(text, if k == 0 { b"\n" } else { b",\n" })?;
+    text.push(if k == 0 { b"\n" } else { b",\n" });
     match mark {
         Mark::Refuted => push_refuted(text, *kind, log),
         Mark::Spent(budget) => push_open(text, *kind, *budget, log),
         Mark::Shown(first, second) => {
-            push_pair(alloc, text, &judged.machine, instr, *kind, first, second)
+            push_pair(alloc, text, &judged.machine, instr, *kind, first, second)?;
         }
     }
+    Ok(())
 }
 
 /// Pushes two states that show a kind of an instruction, as the certificate's do; `null` where they do not.
@@ -262,7 +263,7 @@ fn push_pair(
     requires { instr < length m.now.desc.instrs }
 {
     match tell_single(alloc, m, instr, kind, first, second)? {
-        None => push(text, b"null"),
+        None => text.push(b"null"),
         Some(single) => push_shown(
             text,
             m,
@@ -275,13 +276,14 @@ fn push_pair(
             },
         ),
     }
+    Ok(())
 }
 
 /// Pushes what stands behind the instructions: the lines of the whole, and whether guards mend the machine.
-fn push_end(text: &mut Text, told: &Reasons) -> Result<(), AllocError> {
-    push(text, b"],\n\"says\":")?;
-    push_lines(text, told.text.as_slice())?;
-    push(text, b",\"mended\":")?;
-    push_flag(text, told.mended.is_some())?;
-    push(text, b"}\n")
+fn push_end(text: &mut Text, told: &Reasons) {
+    text.push(b"],\n\"says\":");
+    push_lines(text, told.text.as_slice());
+    text.push(b",\"mended\":");
+    push_flag(text, told.mended.is_some());
+    text.push(b"}\n");
 }

@@ -25,9 +25,10 @@ use pg_cmd_base::{Status, StopWatcher, stopped};
 use pg_cmd_certs::is_accepted;
 use pg_edge::{Shelf, Sink};
 use pg_hw::Hardware;
-use pg_out_json::{push, push_head, push_number, push_string, put_run};
+use pg_out_json::{push_head, push_string, put_run};
+use pg_out_place::Text;
 use pg_out_steps::{Monitor, TraceFault};
-use std::alloc::{AllocError, Global};
+use std::alloc::Global;
 
 /// Runs what the words ask for, and puts it as JSON; refusals are those of the text, and so is the verdict of a certificate that does
 /// not accept the machine. No file is saved.
@@ -120,8 +121,8 @@ fn put_json<S: Sink, H: Hardware>(
     requires room { 1048575 ≤ H.room (H.fixed hw.old) }
     ensures reached { OnOk result ((H.machinery hw.new).state ≡ reached (planned_run plan.now)) }
 {
-    let mut text = Vec::new(alloc);
-    push_begin(&mut text, plan, monitor)?;
+    let mut text = Text::new(alloc);
+    push_begin(&mut text, plan, monitor);
     let image = plan.image.as_slice();
     put_run(
         alloc,
@@ -136,17 +137,17 @@ fn put_json<S: Sink, H: Hardware>(
 }
 
 /// Pushes what stands before the pieces of a run.
-fn push_begin(text: &mut Vec<u8>, plan: &Plan, monitor: Option<Monitor>) -> Result<(), AllocError> {
-    push_head(text, b"pg_trace", VERSION, &plan.machine)?;
-    push(text, b",\n\"grant\":")?;
-    push_number(text, u64::from(plan.grant))?;
-    push(text, b",\"steps\":")?;
-    push_number(text, plan.steps)?;
+fn push_begin(text: &mut Text, plan: &Plan, monitor: Option<Monitor>) {
+    push_head(text, b"pg_trace", VERSION, &plan.machine);
+    text.push(b",\n\"grant\":");
+    text.push_number(u64::from(plan.grant));
+    text.push(b",\"steps\":");
+    text.push_number(plan.steps);
     match monitor {
-        None => Ok(()),
+        None => {}
         Some(monitor) => {
-            push(text, b",\"monitor\":")?;
-            push_string(text, monitor_name(monitor))
+            text.push(b",\"monitor\":");
+            push_string(text, monitor_name(monitor));
         }
     }
 }
