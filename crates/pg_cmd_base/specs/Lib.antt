@@ -8,3 +8,4 @@ pub mod World
 pub mod Able
 pub mod Commands
 pub mod Answering
+pub mod Usage

@@ -6,6 +6,7 @@
 //!
 //! - `status`: how a command ends. `refusal`, `stop`: why one goes no further, and how that is told. `watching`: who is told of it
 //!   besides.
+//! - `usage`: how a program beside `pgv` answers words that it does not take.
 //! - `loading`: files to bytes. `room`: the room that is wanted, and the room that there is.
 //!
 //! What surrounds a command, shelf, sink and hardware, is one `World` in the contracts (`specs/World.antt`): a shelf `F`, a sink
@@ -17,6 +18,7 @@ mod refusal;
 mod room;
 mod status;
 mod stop;
+mod usage;
 mod watching;
 
 pub use loading::{load_file, stop_of};
@@ -24,4 +26,5 @@ pub use refusal::{Refusal, Stop};
 pub use room::{no_room, try_room};
 pub use status::Status;
 pub use stop::stopped;
+pub use usage::tell_usage;
 pub use watching::StopWatcher;

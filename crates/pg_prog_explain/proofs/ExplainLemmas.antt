@@ -91,7 +91,7 @@ pub judged-came : (desc cert : List ℕ) (told : Option Files) (d : Desc) (repor
 unfolding EitherJudgedDue
 judged-came desc cert told d report came h = (d, came, (report, h, refl))
 
-due-means : (desc cert : List ℕ) (told : Option Files) (j : Judged) → EitherJudgedDue desc cert told (Came j) → VerdictMeans j.desc j.report
+pub due-means : (desc cert : List ℕ) (told : Option Files) (j : Judged) → EitherJudgedDue desc cert told (Came j) → VerdictMeans j.desc j.report
 unfolding EitherJudgedDue EitherDue
 due-means desc cert told j h =
     subst (λ (x : Judged). VerdictMeans x.desc x.report) (sym h.2.2)

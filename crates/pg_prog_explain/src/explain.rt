@@ -1,13 +1,15 @@
 //! What the words ask for, as text or as JSON; and what is said on standard error.
 
-ghost use Rattle.std.specs.Prelude.{◌≡◌, ◌≤◌};
+ghost use Rattle.std.specs.Prelude.{◌≡◌, ◌≤◌, ◌<◌};
 ghost use Rattle.pg_hw.specs.Machinery.{Machinery};
 ghost use Rattle.pg_cmd_certs.specs.Judged.{verdict_on, verdict_status};
 ghost use Rattle.pg_cmd_certs.specs.Views.{judged};
 ghost use Rattle.pg_cmd_base.specs.Answering.{OnlyReads};
 ghost use Rattle.pg_cmd_base.specs.Classes.{class_of};
+ghost use Rattle.pg_cmd_base.specs.Codes.{code_of};
 ghost use Rattle.pg_cmd_base.specs.Commands.{Carries};
 ghost use Rattle.pg_cmd_base.specs.World.{SavesOnly, output};
+ghost use Rattle.pg_prog_explain.specs.Calls.{ExplainedBy, JsonLeaves, TakenBy};
 ghost use Rattle.pg_prog_explain.specs.Explaining.{HaltTold, PutAs, SavesAtMostOne, beside, explain_command, explain_words, stated_as};
 
 use crate::found::{Found, Halt, find};
@@ -15,7 +17,7 @@ use crate::json::put_json;
 use crate::request::{Request, asked_by};
 use crate::source::source_saved;
 use pg_cli_says::{Lacking, WordsWatcher};
-use pg_cmd_base::{Status, StopWatcher, stopped};
+use pg_cmd_base::{Status, StopWatcher, stopped, tell_usage};
 use pg_cmd_certs::status_of;
 use pg_edge::{Failed, Shelf, Sink};
 use pg_io_host::telling::tell as say;
@@ -34,7 +36,8 @@ pub const USAGE: &[u8] =
 const PROGRAM: &str = "pg_explain";
 
 /// Puts why the machine is refused that the words name, the program's name first, and gives the status of the verdict; else puts a
-/// line, and gives another status. `layout` becomes that of the mended description, where one is saved.
+/// line, and gives another status. `layout` becomes that of the mended description, where one is saved. Words that are not taken are
+/// answered by how the program is called, and nothing is touched.
 pub fn run<F: Shelf, S: Sink, W: StopWatcher + WordsWatcher>(
     alloc: Global,
     words: &[String],
@@ -43,14 +46,31 @@ pub fn run<F: Shelf, S: Sink, W: StopWatcher + WordsWatcher>(
     layout: &mut Option<Layout>,
     watcher: &mut W,
 ) -> u8
+    ensures explained { (hw : Machinery) → ExplainedBy (beside F.Shelf S.Sink hw shelf.old out.old) (beside F.Shelf S.Sink hw shelf.new out.new) result }
     ensures files { SavesAtMostOne (F.files shelf.old) (F.files shelf.new) }
 {
     match asked_by(words) {
-        None => stated(put_text(out, USAGE), Status::Words).code(),
-        Some(request) if request.is_json => {
-            carry_json(alloc, &request, shelf, out, layout, watcher)
-        }
-        Some(request) => carry(alloc, &request, shelf, out, layout, watcher).code(),
+        None => tell_usage(out, USAGE).code(),
+        Some(request) => carry_asked(alloc, &request, shelf, out, layout, watcher),
+    }
+}
+
+/// The same for words that are taken.
+fn carry_asked<F: Shelf, S: Sink, W: StopWatcher + WordsWatcher>(
+    alloc: Global,
+    request: &Request<'_>,
+    shelf: &mut F,
+    out: &mut S,
+    layout: &mut Option<Layout>,
+    watcher: &mut W,
+) -> u8
+    ensures taken { (hw : Machinery) → TakenBy (beside F.Shelf S.Sink hw shelf.old out.old) (beside F.Shelf S.Sink hw shelf.new out.new) result }
+    ensures files { SavesOnly (explain_words request.now).mend (F.files shelf.old) (F.files shelf.new) }
+{
+    if request.is_json {
+        carry_json(alloc, request, shelf, out, layout, watcher)
+    } else {
+        carry(alloc, request, shelf, out, layout, watcher).code()
     }
 }
 
@@ -146,6 +166,8 @@ fn carry_json<F: Shelf, S: Sink, W: StopWatcher + WordsWatcher>(
     watcher: &mut W,
 ) -> u8
     ensures files { SavesOnly (explain_words request.now).mend (F.files shelf.old) (F.files shelf.new) }
+    ensures leaves { (hw : Machinery) → JsonLeaves (explain_words request.now) (beside F.Shelf S.Sink hw shelf.old out.old)
+        (beside F.Shelf S.Sink hw shelf.new out.new) result }
 {
     match find(alloc, request, shelf, layout) {
         Ok(found) => put_found_json(alloc, request, &found, shelf, out, watcher),
@@ -162,11 +184,11 @@ fn put_found_json<F: Shelf, S: Sink, W: StopWatcher + WordsWatcher>(
     out: &mut S,
     watcher: &mut W,
 ) -> u8
+    ensures told { result < 3 → result ≡ code_of (verdict_status (verdict_on (judged found.now.judged))) }
     ensures reads { OnlyReads F.Shelf shelf.old shelf.new }
 {
-    let answer = match put_json(alloc, request, &found.judged, &found.told, shelf, out) {
-        Ok(()) => Ok(status_of(found.judged.report.verdict()).code()),
-        Err(stop) => Err(stop),
-    };
-    ended(alloc, USAGE, answer, out, watcher)
+    match put_json(alloc, request, &found.judged, &found.told, shelf, out) {
+        Ok(()) => status_of(found.judged.report.verdict()).code(),
+        Err(stop) => ended(alloc, USAGE, Err(stop), out, watcher),
+    }
 }

@@ -34,11 +34,10 @@
 //!   these of a bare machine.
 #![tactic(auto)]
 
-ghost use Rattle.std.specs.Prelude.{◌≡◌, ◌≤◌, None};
+ghost use Rattle.std.specs.Prelude.{◌≡◌, None};
 ghost use Rattle.pg_cmd_base.specs.Able.{IsAble};
-ghost use Rattle.pg_cmd_base.specs.Classes.{class_of};
-ghost use Rattle.pg_cmd_base.specs.World.{Keeps, around, output};
-ghost use Rattle.pg_prog_go.specs.Calls.{Goes, GoesBy, UsageAs};
+ghost use Rattle.pg_cmd_base.specs.World.{Keeps, around};
+ghost use Rattle.pg_prog_go.specs.Calls.{Goes, GoesBy};
 
 mod bare;
 mod carry;
@@ -48,10 +47,9 @@ mod request;
 
 pub use bare::carry_bare;
 pub use carry::carry_go;
-use pg_cmd_base::{Status, StopWatcher};
+use pg_cmd_base::{Status, StopWatcher, tell_usage};
 use pg_edge::{Shelf, Sink};
 use pg_hw::Settling;
-use pg_report::put_text;
 pub use request::{Asked, BareGoWords, GoWords, MOST_STEPS, StepsAtMost, asked_by};
 use std::alloc::Global;
 
@@ -97,19 +95,8 @@ fn go<F: Shelf, S: Sink, H: Settling, W: StopWatcher>(
 {
     match asked_by(alloc, words) {
         Err(_) => Status::Memory,
-        Ok(None) => put_usage(out),
+        Ok(None) => tell_usage(out, USAGE),
         Ok(Some(Asked::Guests(words))) => carry_go(alloc, &words, shelf, out, hw, watcher),
         Ok(Some(Asked::Bare(words))) => carry_bare(alloc, &words, shelf, out, hw, watcher),
-    }
-}
-
-/// Puts how the program is called.
-fn put_usage<S: Sink>(out: &mut S) -> Status
-    ensures told { UsageAs (output S.Sink out.old) (output S.Sink out.new) result (class_of result) }
-    ensures later { S.faults out.old ≤ S.faults out.new }
-{
-    match put_text(out, USAGE) {
-        Ok(()) => Status::Words,
-        Err(_) => Status::WriteFault,
     }
 }

@@ -4,3 +4,4 @@ pub mod Judging
 pub mod Done
 pub mod Tracing
 pub mod Dumped
+pub mod Calls
