@@ -2,6 +2,7 @@
 
 use crate::program::Program;
 use pg_io_host::streams::write_whole;
+use pg_out_place::Text;
 use std::alloc::{AllocError, Global};
 use std::io::{ErrorKind, Write};
 use std::rt::Env;
@@ -28,20 +29,20 @@ pub fn say_no_text<R: Env + AllocGlobal, W: Write>(rt: &R, to: &mut W, program: 
 
 /// The line of it: `PROGRAM: this word is not UTF-8: WORD`, where it is short enough to be shown.
 fn no_text_line<R: Env + AllocGlobal>(rt: &R, program: Program) -> Result<Vec<u8>, AllocError> {
-    let mut line = Vec::new(rt.alloc());
-    line.extend_from_slice(program.name().as_bytes())?;
+    let mut line = Text::new(rt.alloc());
+    line.push(program.name().as_bytes());
     let mut bytes = [0; SHOWN_BYTES];
     match no_text(rt, &mut bytes) {
-        None => line.extend_from_slice(b": a word is not UTF-8")?,
+        None => line.push(b": a word is not UTF-8"),
         Some(length) => {
-            line.extend_from_slice(b": this word is not UTF-8: ")?;
+            line.push(b": this word is not UTF-8: ");
             for byte in bytes.iter().take(length) {
-                line.push(shown(*byte))?;
+                line.push(&[shown(*byte)]);
             }
         }
     }
-    line.push(b'\n')?;
-    Ok(line)
+    line.push(b"\n");
+    line.finish()
 }
 
 /// How many bytes the first word has that is not UTF-8, which are put to the begin of the buffer; none where it has more than fit.

@@ -7,12 +7,12 @@
 
 use crate::program::Program;
 use crate::rhythm::Rhythm;
-use itoa::Buffer;
 use pg_cert::put::kind_name;
 use pg_io_host::Progress;
 use pg_io_host::telling::note;
+use pg_out_place::Text;
 use pg_type::Kind;
-use std::alloc::{AllocError, Global};
+use std::alloc::Global;
 use std::cell::RefCell;
 use std::io::Write;
 use std::rt::Clock;
@@ -50,7 +50,7 @@ pub struct Lines<'a, E: Write + Drop> {
 #[derive(Drop)]
 struct Question {
     /// The name of the instruction and the kind.
-    name: Vec<u8>,
+    name: Text,
     /// Its number, from 1, and how many there are.
     number: usize,
     count: usize,
@@ -67,7 +67,7 @@ pub struct Ticker<'a, C: Clock, E: Write + Drop> {
     clock: &'a C,
     lines: Lines<'a, E>,
     question: Question,
-    text: Vec<u8>,
+    text: Text,
     /// When the first was told, and how many seconds after that the last.
     begun: Option<Instant>,
     told: u64,
@@ -81,7 +81,7 @@ impl<'a, C: Clock, E: Write + Drop> Ticker<'a, C, E> {
             clock,
             lines,
             question: Question::none(alloc),
-            text: buffer(alloc),
+            text: Text::with_room(alloc, TEXT_BYTES),
             begun: None,
             told: 0,
             rhythm: Rhythm::new(),
@@ -116,9 +116,8 @@ impl<'a, C: Clock, E: Write + Drop> Ticker<'a, C, E> {
             let seconds = self.seconds();
             if (is_first && self.lines.is_terminal) || self.is_due(seconds) {
                 self.told = seconds;
-                if put_read(&mut self.text, name, done, all, seconds).is_ok() {
-                    self.write();
-                }
+                put_read(&mut self.text, name, done, all, seconds);
+                self.write();
             }
         }
     }
@@ -151,20 +150,22 @@ impl<'a, C: Clock, E: Write + Drop> Ticker<'a, C, E> {
     /// Tells which question is searched, and how far.
     fn tell_question(&mut self, seconds: u64) {
         self.told = seconds;
-        if put_question(&mut self.text, &self.question, seconds).is_ok() {
-            self.write();
-        }
+        put_question(&mut self.text, &self.question, seconds);
+        self.write();
     }
 
-    /// Writes the text. That this fails changes nothing.
+    /// Writes the text, if it is whole. That this fails changes nothing.
     fn write(&mut self) {
+        let Ok(text) = self.text.whole() else {
+            return;
+        };
         let program = self.lines.program.name();
         if self.lines.is_terminal {
             if let Ok(mut line) = self.lines.line.try_borrow_mut() {
-                line.show(program, self.text.as_slice());
+                line.show(program, text);
             }
         } else {
-            let _ = note(&mut self.lines.error, program, self.text.as_slice());
+            let _ = note(&mut self.lines.error, program, text);
         }
     }
 
@@ -180,7 +181,7 @@ impl Question {
     /// None yet.
     fn none(alloc: Global) -> Question {
         Question {
-            name: buffer(alloc),
+            name: Text::with_room(alloc, TEXT_BYTES),
             number: 0,
             count: 0,
             learned: 0,
@@ -198,9 +199,7 @@ impl Question {
         self.learned = 0;
         self.budget = None;
         self.is_again = false;
-        if put_name(&mut self.name, name, kind).is_err() {
-            self.name.clear();
-        }
+        put_name(&mut self.name, name, kind);
     }
 
     /// So many clauses were learned. Where they were more before, that is another search.
@@ -211,55 +210,38 @@ impl Question {
     }
 }
 
-/// A buffer with room for a text, if there is memory for it.
-fn buffer(alloc: Global) -> Vec<u8> {
-    match Vec::with_capacity(alloc, TEXT_BYTES) {
-        Ok(made) => made,
-        Err(_) => Vec::new(alloc),
-    }
-}
-
 /// Makes the name of a question.
-fn put_name(to: &mut Vec<u8>, name: &[u8], kind: Kind) -> Result<(), AllocError> {
+fn put_name(to: &mut Text, name: &[u8], kind: Kind) {
     to.clear();
-    to.extend_from_slice(name)?;
-    to.push(b' ')?;
-    to.extend_from_slice(kind_name(kind))?;
-    Ok(())
+    to.push(name);
+    to.push(b" ");
+    to.push(kind_name(kind));
 }
 
-/// Makes the text of a question: `question K of N, LEARNED of BUDGET clauses, S s: NAME`.
-fn put_question(to: &mut Vec<u8>, question: &Question, seconds: u64) -> Result<(), AllocError> {
+/// Makes the text of a question: `question K of N, LEARNED of BUDGET clauses, S s: NAME`. The name is left out where it is not whole.
+fn put_question(to: &mut Text, question: &Question, seconds: u64) {
     to.clear();
-    to.extend_from_slice(b"question ")?;
-    put_share(to, question.number as u64, question.count as u64)?;
-    to.extend_from_slice(b", ")?;
+    to.push(b"question ");
+    put_share(to, question.number as u64, question.count as u64);
+    to.push(b", ");
     if let Some(budget) = question.budget {
-        if question.is_again {
-            to.extend_from_slice(b"again ")?;
-        }
-        put_share(to, question.learned as u64, u64::from(budget))?;
-        to.extend_from_slice(b" clauses, ")?;
+        to.push(if question.is_again { b"again " } else { b"" });
+        put_share(to, question.learned as u64, u64::from(budget));
+        to.push(b" clauses, ");
     }
-    put_seconds(to, seconds)?;
-    to.extend_from_slice(question.name.as_slice())?;
-    Ok(())
+    put_seconds(to, seconds);
+    if let Ok(name) = question.name.whole() {
+        to.push(name);
+    }
 }
 
 /// Makes the text of a file that is read: `DONE of ALL bytes read, S s: NAME`.
-fn put_read(
-    to: &mut Vec<u8>,
-    name: &str,
-    done: u64,
-    all: u64,
-    seconds: u64,
-) -> Result<(), AllocError> {
+fn put_read(to: &mut Text, name: &str, done: u64, all: u64, seconds: u64) {
     to.clear();
-    put_share(to, done, all)?;
-    to.extend_from_slice(b" bytes read, ")?;
-    put_seconds(to, seconds)?;
-    to.extend_from_slice(front(name.as_bytes()))?;
-    Ok(())
+    put_share(to, done, all);
+    to.push(b" bytes read, ");
+    put_seconds(to, seconds);
+    to.push(front(name.as_bytes()));
 }
 
 /// As much of a file's name as there is room for.
@@ -268,16 +250,14 @@ fn front(name: &[u8]) -> &[u8] {
 }
 
 /// Pushes `PART of WHOLE`.
-fn put_share(to: &mut Vec<u8>, part: u64, whole: u64) -> Result<(), AllocError> {
-    to.extend_from_slice(Buffer::new().format(part).as_bytes())?;
-    to.extend_from_slice(b" of ")?;
-    to.extend_from_slice(Buffer::new().format(whole).as_bytes())?;
-    Ok(())
+fn put_share(to: &mut Text, part: u64, whole: u64) {
+    to.push_number(part);
+    to.push(b" of ");
+    to.push_number(whole);
 }
 
 /// Pushes `S s: `.
-fn put_seconds(to: &mut Vec<u8>, seconds: u64) -> Result<(), AllocError> {
-    to.extend_from_slice(Buffer::new().format(seconds).as_bytes())?;
-    to.extend_from_slice(b" s: ")?;
-    Ok(())
+fn put_seconds(to: &mut Text, seconds: u64) {
+    to.push_number(seconds);
+    to.push(b" s: ");
 }

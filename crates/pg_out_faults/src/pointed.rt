@@ -12,9 +12,8 @@ use crate::held::Held;
 use crate::image::image;
 use crate::lines::{certificate, saved};
 use crate::sources::source;
-use pg_out_place::{Shown, show, spot_at};
+use pg_out_place::{Shown, Text, show, spot_at};
 use pg_report::RefusalLine;
-use pg_text::dec;
 use std::alloc::{AllocError, Global};
 
 /// A place of a file.
@@ -112,68 +111,64 @@ fn shown_at(alloc: Global, found: Found, held: &Held<'_>) -> Result<Point, Alloc
 }
 
 /// Pushes a place between colons.
-fn push_place(text: &mut Vec<u8>, place: Place) -> Result<(), AllocError> {
-    text.push(b':')?;
-    text.extend_from_slice(dec(place.line).as_slice())?;
-    text.push(b':')?;
-    text.extend_from_slice(dec(place.column).as_slice())?;
-    Ok(())
+fn push_place(text: &mut Text, place: Place) {
+    text.push(b":");
+    text.push_number(place.line);
+    text.push(b":");
+    text.push_number(place.column);
 }
 
 /// Pushes a file's name, each control character of it as `?`.
-fn push_name(text: &mut Vec<u8>, name: &[u8]) -> Result<(), AllocError> {
+fn push_name(text: &mut Text, name: &[u8]) {
     for byte in name {
-        text.push(if byte.is_ascii_control() { b'?' } else { *byte })?;
+        text.push(&[if byte.is_ascii_control() { b'?' } else { *byte }]);
     }
-    Ok(())
 }
 
 /// Pushes a line and the caret below it.
-fn push_shown(text: &mut Vec<u8>, shown: &Shown) -> Result<(), AllocError> {
-    text.extend_from_slice(shown.line.as_slice())?;
-    text.push(b'\n')?;
-    text.extend_from_slice(shown.caret.as_slice())?;
-    text.push(b'\n')?;
-    Ok(())
+fn push_shown(text: &mut Text, shown: &Shown) {
+    text.push(shown.line.as_slice());
+    text.push(b"\n");
+    text.push(shown.caret.as_slice());
+    text.push(b"\n");
 }
 
 /// Pushes what is wrong: `NAME:LINE:COLUMN: WHAT`, and where the line is held that line, and `^` below the place.
-fn push_point(text: &mut Vec<u8>, name: &[u8], point: &Point) -> Result<(), AllocError> {
-    push_name(text, name)?;
+fn push_point(text: &mut Text, name: &[u8], point: &Point) {
+    push_name(text, name);
     if let Some(place) = point.place {
-        push_place(text, place)?;
+        push_place(text, place);
     }
-    text.extend_from_slice(b": ")?;
-    text.extend_from_slice(point.what.as_slice())?;
-    text.push(b'\n')?;
+    text.push(b": ");
+    text.push(point.what.as_slice());
+    text.push(b"\n");
     if let Some(shown) = &point.shown {
-        push_shown(text, shown)?;
+        push_shown(text, shown);
     }
-    Ok(())
 }
 
 /// Pushes how many more statements there are whose widths do not fit, which are the faults that are told of more than one.
-fn push_left(text: &mut Vec<u8>, name: &[u8], left: u64) -> Result<(), AllocError> {
-    push_name(text, name)?;
-    text.extend_from_slice(b": and ")?;
-    text.extend_from_slice(dec(left).as_slice())?;
-    text.extend_from_slice(if left == 1 {
-        b" more statement whose widths do not fit\n".as_slice()
+fn push_left(text: &mut Text, name: &[u8], left: u64) {
+    push_name(text, name);
+    text.push(b": and ");
+    text.push_number(left);
+    text.push(if left == 1 {
+        b" more statement whose widths do not fit\n"
     } else {
-        b" more statements whose widths do not fit\n".as_slice()
-    })
+        b" more statements whose widths do not fit\n"
+    });
 }
 
 /// The text for a file of this name, three lines for each fault whose line is held: `NAME:LINE:COLUMN: WHAT`, that line, and `^`
 /// below the place; and last how many more faults there are, if there are more.
 pub fn three_lines(alloc: Global, name: &[u8], pointed: &Pointed) -> Result<Vec<u8>, AllocError> {
-    let mut text = Vec::new(alloc);
-    push_point(&mut text, name, &pointed.first)?;
+    let mut text = Text::new(alloc);
+    push_point(&mut text, name, &pointed.first);
     for point in pointed.more.as_slice() {
-        push_point(&mut text, name, point)?;
+        push_point(&mut text, name, point);
     }
     if pointed.left > 0 {
-        push_left(&mut text, name, pointed.left)?;
+        push_left(&mut text, name, pointed.left);
     }
-    Ok(text)
+    text.finish()
 }

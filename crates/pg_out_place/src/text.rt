@@ -3,8 +3,8 @@
 use pg_text::dec;
 use std::alloc::{AllocError, Global};
 
-/// A text so far. A piece for which there is no memory is left out, and `whole` and `finish` say so, so that who makes a long text
-/// asks once.
+/// A text so far. A piece for which there is no memory is left out, and `whole` and `finish` say so: who makes a text asks once, at its
+/// end.
 #[derive(Drop)]
 pub struct Text {
     bytes: Vec<u8>,
@@ -17,6 +17,18 @@ impl Text {
     pub fn new(alloc: Global) -> Text {
         Text {
             bytes: Vec::new(alloc),
+            is_whole: true,
+        }
+    }
+
+    /// No byte, and room for so many if there is memory for it.
+    pub fn with_room(alloc: Global, room: usize) -> Text {
+        let bytes = match Vec::with_capacity(alloc, room) {
+            Ok(made) => made,
+            Err(_) => Vec::new(alloc),
+        };
+        Text {
+            bytes,
             is_whole: true,
         }
     }
@@ -41,12 +53,13 @@ impl Text {
         self.bytes.is_empty()
     }
 
-    /// Takes all bytes away.
+    /// Begins anew, with the room that there is.
     pub fn clear(&mut self) {
         self.bytes.clear();
+        self.is_whole = true;
     }
 
-    /// The bytes. An error is out of memory, for some piece since the text was new.
+    /// The bytes of the whole text. An error is out of memory, for some piece of it.
     pub fn whole(&self) -> Result<&[u8], AllocError> {
         if self.is_whole {
             Ok(self.bytes.as_slice())
