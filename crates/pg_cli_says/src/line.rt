@@ -2,7 +2,6 @@
 
 use crate::program::Program;
 use pg_out_place::Text;
-use pg_text::dec;
 use std::alloc::{AllocError, Global};
 
 /// The most characters that are shown of a word.
@@ -31,14 +30,7 @@ impl Line {
 
     /// And a number, with a comma between each three digits.
     pub fn number(mut self, number: u64) -> Line {
-        let digits = dec(number);
-        let digits = digits.as_slice();
-        for (at, digit) in digits.iter().enumerate() {
-            if at > 0 && digits.len().saturating_sub(at) % 3 == 0 {
-                self.text.push(b",");
-            }
-            self.text.push(&[*digit]);
-        }
+        self.text.push_count(number);
         self
     }
 

@@ -11,6 +11,7 @@ use pg_cert::put::kind_name;
 use pg_io_host::Progress;
 use pg_io_host::telling::note;
 use pg_out_place::Text;
+use pg_run_base::Pace;
 use pg_type::Kind;
 use std::alloc::Global;
 use std::cell::RefCell;
@@ -67,6 +68,8 @@ pub struct Ticker<'a, C: Clock, E: Write + Drop> {
     clock: &'a C,
     lines: Lines<'a, E>,
     question: Question,
+    /// How far a run has come, where one goes on or has ended.
+    pace: Option<Pace>,
     text: Text,
     /// When the first was told, and how many seconds after that the last.
     begun: Option<Instant>,
@@ -81,6 +84,7 @@ impl<'a, C: Clock, E: Write + Drop> Ticker<'a, C, E> {
             clock,
             lines,
             question: Question::none(alloc),
+            pace: None,
             text: Text::with_room(alloc, TEXT_BYTES),
             begun: None,
             told: 0,
@@ -120,6 +124,42 @@ impl<'a, C: Clock, E: Write + Drop> Ticker<'a, C, E> {
                 self.write();
             }
         }
+    }
+
+    /// A run has come so far. Its seconds begin with the first call.
+    pub fn run(&mut self, pace: Pace) {
+        if self.pace.is_none() {
+            self.begin_anew();
+        }
+        self.pace = Some(pace);
+        if self.rhythm.beats() {
+            let seconds = self.seconds();
+            if self.is_due(seconds) {
+                self.told = seconds;
+                put_pace(&mut self.text, pace, seconds);
+                self.write();
+            }
+        }
+    }
+
+    /// Tells how fast a run went, where it took a second or more.
+    pub fn end_run(&mut self) {
+        let Some(pace) = self.pace else {
+            return;
+        };
+        let seconds = self.seconds();
+        if seconds > 0 {
+            put_speed(&mut self.text, pace, seconds);
+            if let Ok(text) = self.text.whole() {
+                let _ = note(&mut self.lines.error, self.lines.program.name(), text);
+            }
+        }
+    }
+
+    /// Forgets what was told.
+    fn begin_anew(&mut self) {
+        (self.begun, self.told) = (None, 0);
+        self.rhythm = Rhythm::new();
     }
 
     /// How many seconds ago the first was told. A clock that fails stands still.
@@ -242,6 +282,31 @@ fn put_read(to: &mut Text, name: &str, done: u64, all: u64, seconds: u64) {
     to.push(b" bytes read, ");
     put_seconds(to, seconds);
     to.push(front(name.as_bytes()));
+}
+
+/// Makes the text of a run that goes on: `STEPS steps, N a second, S s: K of G guests still`.
+fn put_pace(to: &mut Text, pace: Pace, seconds: u64) {
+    put_speed(to, pace, seconds);
+    if pace.guests > 0 {
+        to.push(b": ");
+        put_share(to, pace.still as u64, pace.guests as u64);
+        to.push(if pace.guests == 1 {
+            b" guest still"
+        } else {
+            b" guests still"
+        });
+    }
+}
+
+/// Makes the text of how fast a run goes: `STEPS steps, N a second, S s`.
+fn put_speed(to: &mut Text, pace: Pace, seconds: u64) {
+    to.clear();
+    to.push_count(pace.turns);
+    to.push(b" steps, ");
+    to.push_count(pace.turns / seconds.max(1));
+    to.push(b" a second, ");
+    to.push_number(seconds);
+    to.push(b" s");
 }
 
 /// As much of a file's name as there is room for.

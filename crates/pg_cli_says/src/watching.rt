@@ -16,6 +16,7 @@ use pg_cmd_certs::{JudgedMachine, VerdictWatcher, tell_verdict};
 use pg_io_host::streams::write_whole;
 use pg_io_host::{Refused, StdSink};
 use pg_report::{CertificateLine, RefusalLine};
+use pg_run_base::{Pace, RunWatcher};
 use pg_type::Kind;
 use std::alloc::{AllocError, Global};
 use std::cell::RefCell;
@@ -113,6 +114,7 @@ impl<'a, 't, R: Files + Clock, E: Write + Drop> Watching<'a, 't, R, E> {
     pub fn ends(&mut self, ended: &Ended<'_>) {
         if let Ok(mut ticker) = self.seen.ticker.try_borrow_mut() {
             ticker.erase();
+            ticker.end_run();
         }
         let _ = write_whole(&mut self.error, self.pointed.as_slice());
         let _ = write_whole(&mut self.error, self.advice.as_slice());
@@ -290,6 +292,15 @@ impl<R: Files + Clock, E: Write + Drop> ReadWatcher for Watching<'_, '_, R, E> {
             if let Ok(read) = self.seen.held.try_borrow() {
                 ticker.read(read.name.as_str(), done as u64, all as u64);
             }
+        }
+    }
+}
+
+impl<R: Files + Clock, E: Write + Drop> RunWatcher for Watching<'_, '_, R, E> {
+    /// Tells how far the run has come, from time to time.
+    fn goes(&mut self, pace: Pace) {
+        if let Ok(mut ticker) = self.seen.ticker.try_borrow_mut() {
+            ticker.run(pace);
         }
     }
 }

@@ -43,6 +43,18 @@ impl Text {
         self.push(dec(number).as_slice());
     }
 
+    /// Pushes a number, as decimal digits with a comma between each three.
+    pub fn push_count(&mut self, number: u64) {
+        let digits = dec(number);
+        let digits = digits.as_slice();
+        for (at, digit) in digits.iter().enumerate() {
+            if at > 0 && digits.len().saturating_sub(at) % 3 == 0 {
+                self.push(b",");
+            }
+            self.push(&[*digit]);
+        }
+    }
+
     /// How many bytes there are.
     pub fn len(&self) -> usize {
         self.bytes.len()

@@ -21,12 +21,13 @@ use pg_cmd_inputs::{load_image, load_machine};
 use pg_edge::{Shelf, Sink};
 use pg_hw::Settling;
 use pg_mach_words::learned;
+use pg_run_base::RunWatcher;
 use pg_run_still::{put_stood, run_bare_until_still};
 use std::alloc::Global;
 use std::slice::from_ref;
 
 /// Carries out `pg_go --bare`.
-pub fn carry_bare<F: Shelf, S: Sink, H: Settling, W: StopWatcher>(
+pub fn carry_bare<F: Shelf, S: Sink, H: Settling, W: StopWatcher + RunWatcher>(
     alloc: Global,
     words: &BareGoWords,
     shelf: &mut F,
@@ -48,7 +49,7 @@ pub fn carry_bare<F: Shelf, S: Sink, H: Settling, W: StopWatcher>(
 }
 
 /// The same. What is due is one thing, so `carries` alone is shown here.
-fn carry_out<F: Shelf, S: Sink, H: Settling, W: StopWatcher>(
+fn carry_out<F: Shelf, S: Sink, H: Settling, W: StopWatcher + RunWatcher>(
     alloc: Global,
     words: &BareGoWords,
     shelf: &mut F,
@@ -68,7 +69,14 @@ fn carry_out<F: Shelf, S: Sink, H: Settling, W: StopWatcher>(
         Err(stop) => return stopped(&stop, out, watcher),
     };
     let image = plan.image.as_slice();
-    let still = match run_bare_until_still(&plan.machine, image, plan.grant, plan.steps, hw) {
+    let still = match run_bare_until_still(
+        &plan.machine,
+        image,
+        plan.grant,
+        plan.steps,
+        hw,
+        watcher,
+    ) {
         Ok(still) => still,
         Err(_) => return Status::Memory,
     };

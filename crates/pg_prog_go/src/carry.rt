@@ -18,11 +18,12 @@ use pg_cmd_base::{Status, StopWatcher, stopped};
 use pg_cmd_certs::{is_accepted, tell_verdict};
 use pg_edge::{Shelf, Sink};
 use pg_hw::Settling;
+use pg_run_base::RunWatcher;
 use pg_run_still::{put_rested, run_until_still};
 use std::alloc::Global;
 
 /// Carries out `pg_go`.
-pub fn carry_go<F: Shelf, S: Sink, H: Settling, W: StopWatcher>(
+pub fn carry_go<F: Shelf, S: Sink, H: Settling, W: StopWatcher + RunWatcher>(
     alloc: Global,
     words: &GoWords,
     shelf: &mut F,
@@ -44,7 +45,7 @@ pub fn carry_go<F: Shelf, S: Sink, H: Settling, W: StopWatcher>(
 }
 
 /// The same. What is due is one thing, so `carries` alone is shown here.
-fn carry_out<F: Shelf, S: Sink, H: Settling, W: StopWatcher>(
+fn carry_out<F: Shelf, S: Sink, H: Settling, W: StopWatcher + RunWatcher>(
     alloc: Global,
     words: &GoWords,
     shelf: &mut F,
@@ -68,7 +69,7 @@ fn carry_out<F: Shelf, S: Sink, H: Settling, W: StopWatcher>(
     }
     let accepted = pg_type::Accepted::of(&plan.judged.machine);
     let images = plan.images.as_slice();
-    let ran = match run_until_still(alloc, accepted, images, plan.slice, plan.steps, hw) {
+    let ran = match run_until_still(alloc, accepted, images, plan.slice, plan.steps, hw, watcher) {
         Ok(ran) => ran,
         Err(_) => return Status::Memory,
     };

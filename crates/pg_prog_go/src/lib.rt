@@ -50,6 +50,7 @@ pub use carry::carry_go;
 use pg_cmd_base::{Status, StopWatcher, tell_usage};
 use pg_edge::{Shelf, Sink};
 use pg_hw::Settling;
+use pg_run_base::RunWatcher;
 pub use request::{Asked, BareGoWords, GoWords, MOST_STEPS, StepsAtMost, asked_by};
 use std::alloc::Global;
 
@@ -59,7 +60,7 @@ pub const USAGE: &[u8] =
 
 /// Runs what the words ask for, the program's name first, and gives the number of the status. Words that are not taken are answered by
 /// how the program is called, and nothing is touched.
-pub fn run<F: Shelf, S: Sink, H: Settling, W: StopWatcher>(
+pub fn run<F: Shelf, S: Sink, H: Settling, W: StopWatcher + RunWatcher>(
     alloc: Global,
     words: &[String],
     shelf: &mut F,
@@ -78,7 +79,7 @@ pub fn run<F: Shelf, S: Sink, H: Settling, W: StopWatcher>(
 }
 
 /// Runs what the words ask for.
-fn go<F: Shelf, S: Sink, H: Settling, W: StopWatcher>(
+fn go<F: Shelf, S: Sink, H: Settling, W: StopWatcher + RunWatcher>(
     alloc: Global,
     words: &[String],
     shelf: &mut F,

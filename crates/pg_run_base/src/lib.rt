@@ -6,7 +6,7 @@
 //!
 //! # Modules
 //!
-//! - `telling`: the text. `summing`: the text in short, a line for each guest.
+//! - `telling`: the text. `summing`: the text in short, a line for each guest. `watching`: who is told how far a run has come.
 //!
 //! `specs/Runs.antt` says what a run is and what it reaches, and `specs/Setting.antt` what the hardware is before the first
 //! turn.
@@ -14,6 +14,8 @@
 
 mod summing;
 mod telling;
+mod watching;
 
 pub use summing::put_summaries;
 pub use telling::{put_guests, put_one_guest};
+pub use watching::{Pace, RunWatcher};

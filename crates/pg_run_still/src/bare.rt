@@ -6,7 +6,7 @@
 //! Then the machine is switched on once more, runs up to there, and the state is looked at (`first_about`). So a run that a trap ends
 //! takes twice the time, and no other.
 
-ghost use Rattle.std.specs.Prelude.{◌≡◌, ◌≤◌, ◌-◌, ◌+◌, IfOk, OnErr, Some, true, false, length};
+ghost use Rattle.std.specs.Prelude.{◌≡◌, ◌≤◌, ◌<◌, ◌-◌, ◌+◌, IfOk, OnErr, Some, true, false, length};
 ghost use Rattle.pg_hw.specs.Bursts.{traps};
 ghost use Rattle.pg_hw.specs.Serving.{IsServed};
 ghost use Rattle.pg_hw.specs.Stillness.{IsStill};
@@ -20,7 +20,11 @@ use pg_hw::{Hardware, Settling, bare, power_on};
 use pg_interp::Frame;
 use pg_mach_ready::Machine;
 use pg_routine::{Emulated, emulate_seen};
+use pg_run_base::{Pace, RunWatcher};
 use std::alloc::AllocError;
+
+/// How many steps a machine does, at most, until its watcher is told.
+const MOST_UNTOLD: u64 = 1 << 20;
 
 /// What a run met.
 pub(crate) enum Met {
@@ -32,16 +36,17 @@ pub(crate) enum Met {
 
 /// Runs a bare machine on the hardware, switched on with an image of `grant` cells, until it is still or has done `most` steps; behind
 /// how many steps it is first still, none where it was not found so before the last of them. The hardware is then at the state behind
-/// these steps. What its counts say means nothing.
+/// these steps. What its counts say means nothing. The watcher is told how far it has come.
 ///
 /// # Errors
 /// The hardware is as it was.
-pub fn run_bare_until_still<H: Settling>(
+pub fn run_bare_until_still<H: Settling, W: RunWatcher>(
     machine: &Machine,
     image: &[u64],
     grant: u32,
     most: u64,
     hw: &mut H,
+    watcher: &mut W,
 ) -> Result<Option<u64>, AllocError>
     requires served { IsServed (H.serves (H.fixed hw.old)) machine.now.desc }
     requires room { grant ≤ H.room (H.fixed hw.old) }
@@ -55,7 +60,7 @@ pub fn run_bare_until_still<H: Settling>(
         Err(refused) => return Err(refused),
     }
     power_on(hw, image);
-    match run_until(machine, hw, most) {
+    match run_until(machine, hw, most, watcher) {
         Met::First(still) => Ok(still),
         Met::About(n) => {
             power_on(hw, image);
@@ -65,7 +70,7 @@ pub fn run_bare_until_still<H: Settling>(
 }
 
 /// Does steps from the state of a hardware until one is met that is still, `most` at most.
-fn run_until<H: Settling>(m: &Machine, hw: &mut H, most: u64) -> Met
+fn run_until<H: Settling, W: RunWatcher>(m: &Machine, hw: &mut H, most: u64, watcher: &mut W) -> Met
     requires served { IsServed (H.serves (H.fixed hw.old)) m.now.desc }
     requires state { IsState m.now.desc (H.machinery hw.old).state }
     ensures met { IsMet m.now.desc most (H.machinery hw.old).state result (H.machinery hw.new).state }
@@ -74,7 +79,9 @@ fn run_until<H: Settling>(m: &Machine, hw: &mut H, most: u64) -> Met
     let mut frame = Frame::new();
     let mut done = 0;
     while done < most {
-        let burst = hw.burst_settling(m, most - done - 1);
+        watcher.goes(steps_done(done));
+        let untold = at_once(most - done);
+        let burst = hw.burst_settling(m, untold);
         match burst.still {
             Some(n) => return Met::First(Some(done + n)),
             None => {}
@@ -86,7 +93,25 @@ fn run_until<H: Settling>(m: &Machine, hw: &mut H, most: u64) -> Met
         }
         done = at + 1;
     }
+    watcher.goes(steps_done(done));
     Met::First(None)
+}
+
+/// How many steps are done in a burst, where so many are left: the last one is left to be looked at.
+fn at_once(left: u64) -> u64
+    requires { 1 ≤ left }
+    ensures { result < left }
+{
+    (left - 1).min(MOST_UNTOLD)
+}
+
+/// How far a machine has come that has done so many steps.
+fn steps_done(steps: u64) -> Pace {
+    Pace {
+        turns: steps,
+        still: 0,
+        guests: 0,
+    }
 }
 
 /// What is met behind a burst of so many steps, where the state is still; and whether the step there traps.

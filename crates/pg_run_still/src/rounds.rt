@@ -14,6 +14,7 @@ ghost use Rattle.pg_run_still.specs.Resting.{AfterRound, AfterSlice, AreBefore, 
 use arrayvec::ArrayVec;
 use pg_hw::Settling;
 use pg_monitor::Monitor;
+use pg_run_base::{Pace, RunWatcher};
 
 /// The most guests of a run.
 pub const MOST_GUESTS: usize = 8;
@@ -32,12 +33,13 @@ pub type Rests = ArrayVec<Rest, MOST_GUESTS>;
 
 /// Turns of each guest of a monitor, by slices of `slice` turns, one or more: guest 0 has a slice, then guest 1, and so on, and round
 /// again. Each has its turns until it was found still, or has had `steps` of them; the last slice is shorter where need be. What is
-/// told of each.
-pub fn run_rounds<H: Settling>(
+/// told of each. The watcher is told how far they have come, before the first round and behind each.
+pub fn run_rounds<H: Settling, W: RunWatcher>(
     monitor: &mut Monitor<'_>,
     hw: &mut H,
     slice: u64,
     steps: u64,
+    watcher: &mut W,
 ) -> Rests
     requires served { IsServed (H.serves (H.fixed hw.old)) (desc_of monitor.old) }
     requires stands { Stands (desc_of monitor.old) (H.machinery hw.old).state monitor.old.guests monitor.old.current }
@@ -53,6 +55,7 @@ pub fn run_rounds<H: Settling>(
 {
     let mut rests = none_had(monitor.len());
     let mut done = 0;
+    watcher.goes(pace_of(rests.as_slice()));
     while done < steps {
         if !is_any_going(rests.as_slice()) {
             return rests;
@@ -60,8 +63,23 @@ pub fn run_rounds<H: Settling>(
         let turns = slice.min(steps - done);
         go_round(monitor, hw, rests.as_mut_slice(), done, turns);
         done += turns;
+        watcher.goes(pace_of(rests.as_slice()));
     }
     rests
+}
+
+/// How far guests have come.
+fn pace_of(rests: &[Rest]) -> Pace {
+    let mut pace = Pace {
+        turns: 0,
+        still: 0,
+        guests: rests.len(),
+    };
+    for rest in rests {
+        pace.turns = pace.turns.saturating_add(rest.turns);
+        pace.still = pace.still.saturating_add(usize::from(rest.still.is_some()));
+    }
+    pace
 }
 
 /// So many guests, none of which has had a turn.

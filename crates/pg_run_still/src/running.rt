@@ -12,6 +12,7 @@ use crate::rounds::{Rest, Rests, run_rounds};
 use pg_hw::Settling;
 use pg_image::Image;
 use pg_monitor::{Guest, Monitor};
+use pg_run_base::RunWatcher;
 use pg_run_guests::start;
 use pg_type::Accepted;
 use std::alloc::{AllocError, Global};
@@ -60,17 +61,19 @@ impl<'m> Rested<'m> {
 /// Runs images as guests of one monitor on the hardware, by slices, each until it is still or has had `steps` turns.
 ///
 /// The hardware is given the machine's greatest size. Each image has a grant of its own size, one behind the other from cell
-/// 2 on, and is switched on in it. A slice is one burst of the hardware as long as its steps are direct.
+/// 2 on, and is switched on in it. A slice is one burst of the hardware as long as its steps are direct. The watcher is told how far
+/// they have come.
 ///
 /// # Errors
 /// Only for lack of memory, and then no turn was made: the hardware is as it was, installed, or some images are loaded.
-pub fn run_until_still<'m, H: Settling>(
+pub fn run_until_still<'m, H: Settling, W: RunWatcher>(
     alloc: Global,
     accepted: Accepted<'m>,
     images: &[Image],
     slice: u64,
     steps: u64,
     hw: &mut H,
+    watcher: &mut W,
 ) -> Result<Rested<'m>, AllocError>
     requires served { IsServed (H.serves (H.fixed hw.old)) accepted.machine.now.desc }
     requires room { accepted.machine.now.desc.size ≤ H.room (H.fixed hw.old) }
@@ -86,7 +89,7 @@ pub fn run_until_still<'m, H: Settling>(
         Err(refused) => return Err(refused),
     };
     let before = hw.counts();
-    let rests = run_rounds(&mut monitor, hw, slice, steps);
+    let rests = run_rounds(&mut monitor, hw, slice, steps, watcher);
     let after = hw.counts();
     Ok(Rested {
         monitor,

@@ -31,6 +31,7 @@ use pg_io_host::{DirShelf, Progress, StdSink};
 use pg_prog_proofs::{dimacs, export};
 use pg_report::put_text;
 use pg_rig::Rig;
+use pg_run_base::RunWatcher;
 use std::cell::RefCell;
 use std::io::IsTerminal;
 use std::process::ExitCode;
@@ -172,7 +173,7 @@ fn run_watched(rt: &HostRuntime, side: Side, words: &[String]) -> u8 {
 }
 
 /// Carries out a program: files are of the shelf, its text goes to the sink, and the hardware is one in memory.
-fn carry<F: Shelf, S: Sink, W: StopWatcher + WordsWatcher>(
+fn carry<F: Shelf, S: Sink, W: StopWatcher + WordsWatcher + RunWatcher>(
     rt: &HostRuntime,
     side: Side,
     words: &[String],

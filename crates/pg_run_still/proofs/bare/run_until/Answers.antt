@@ -37,20 +37,20 @@ overflow_add-result g c =
     let told = subst (TellsStill d c.burst_settling-burst.result.done t) c.in-Some.is c.burst_settling-burst.ensures.still in
     let before = told.before in
     let count = c.burst_settling-burst.ensures.count in
-    let all = burst_length-most d (c.args.most - c.loop-done.done - 1) t in
-    omega (arith, before, count, all, c.loop-done-test.true, c.ranges.most.fits)
+    let all = burst_length-most d c.at_once-untold.result t in
+    omega (arith, before, count, all, c.at_once-untold.ensures, c.loop-done-test.true, c.ranges.most.fits)
 
 pub overflow_add-at : goal.overflow_add-at
 overflow_add-at g c =
     let count = c.burst_settling-burst.ensures.count in
-    let all = burst_length-most c.args.m.now.desc (c.args.most - c.loop-done.done - 1) (g.H.Hardware.machinery c.loop-done.hw).state in
-    omega (arith, count, all, c.loop-done-test.true, c.ranges.most.fits)
+    let all = burst_length-most c.args.m.now.desc c.at_once-untold.result (g.H.Hardware.machinery c.loop-done.hw).state in
+    omega (arith, count, all, c.at_once-untold.ensures, c.loop-done-test.true, c.ranges.most.fits)
 
 pub overflow_add-done : goal.overflow_add-done
 overflow_add-done g c =
     let count = c.burst_settling-burst.ensures.count in
-    let all = burst_length-most c.args.m.now.desc (c.args.most - c.loop-done.done - 1) (g.H.Hardware.machinery c.loop-done.hw).state in
-    omega (arith, count, all, c.loop-done-test.true, c.ranges.most.fits)
+    let all = burst_length-most c.args.m.now.desc c.at_once-untold.result (g.H.Hardware.machinery c.loop-done.hw).state in
+    omega (arith, count, all, c.at_once-untold.ensures, c.loop-done-test.true, c.ranges.most.fits)
 
 -- ---- what is met
 
@@ -63,10 +63,10 @@ returns-in-Some-clause-met g c =
     let n = c.burst_settling-burst.result.done in
     let before = c.loop-done.invariant in
     let count = c.burst_settling-burst.ensures.count in
-    let all = burst_length-most d (c.args.most - c.loop-done.done - 1) t in
+    let all = burst_length-most d c.at_once-untold.result t in
     let told = subst (TellsStill d n t) c.in-Some.is c.burst_settling-burst.ensures.still in
     record {
-      first = first-burst d (c.args.most - c.loop-done.done - 1) c.loop-done.done n c.in-Some.n c.args.most s t before.reached count (omega (arith, count, all, c.loop-done-test.true)) before.none told;
+      first = first-burst d c.at_once-untold.result c.loop-done.done n c.in-Some.n c.args.most s t before.reached count (omega (arith, count, all, c.at_once-untold.ensures, c.loop-done-test.true)) before.none told;
       reached = reached-burst d c.loop-done.done n c.in-Some.n s t _ before.reached c.burst_settling-burst.ensures.state told;
     }
 
@@ -80,11 +80,11 @@ returns-then-seen-clause-met g c =
     let n = c.burst_settling-burst.result.done in
     let before = c.loop-done.invariant in
     let count = c.burst_settling-burst.ensures.count in
-    let all = burst_length-most d (c.args.most - c.loop-done.done - 1) t in
+    let all = burst_length-most d c.at_once-untold.result t in
     let stays = subst (TellsStill d n t) c.in-None.is c.burst_settling-burst.ensures.still in
     let still = c.step_seen-seen.ensures.still c.if-seen.true in
-    met-behind d c.args.most c.loop-done.done (c.args.most - c.loop-done.done - 1) n s t now _ c.step_seen-seen.result.trapped c.behind_burst.result before.reached c.burst_settling-burst.ensures.state count
-    (omega (arith, count, all, c.loop-done-test.true)) before.none stays c.step_seen-seen.ensures.trapped still (c.step_seen-seen.ensures.state ∙ still)
+    met-behind d c.args.most c.loop-done.done c.at_once-untold.result n s t now _ c.step_seen-seen.result.trapped c.behind_burst.result before.reached c.burst_settling-burst.ensures.state count
+    (omega (arith, count, all, c.at_once-untold.ensures, c.loop-done-test.true)) before.none stays c.step_seen-seen.ensures.trapped still (c.step_seen-seen.ensures.state ∙ still)
     c.behind_burst.ensures.about c.behind_burst.ensures.calm c.behind_burst.ensures.none
 
 -- it goes on
@@ -97,14 +97,14 @@ loop-done-preserved g c =
     let n = c.burst_settling-burst.result.done in
     let before = c.loop-done.invariant in
     let count = c.burst_settling-burst.ensures.count in
-    let all = burst_length-most d (c.args.most - done - 1) t in
+    let all = burst_length-most d c.at_once-untold.result t in
     let stays = subst (TellsStill d n t) c.in-None.is c.burst_settling-burst.ensures.still in
     let there = c.burst_settling-burst.ensures.state ∙ ap (steps d n) before.reached ∙ steps-add d done n s in
     record {
       reached = c.step_seen-seen.ensures.state ∙ ap (step d) there ∙ step-next d (done + n) s;
-      none = none-moves d (done + (n - 1)) (done + n) s (omega arith) (none-burst d (c.args.most - done - 1) done n s t before.reached count before.none stays)
+      none = none-moves d (done + (n - 1)) (done + n) s (omega arith) (none-burst d c.at_once-untold.result done n s t before.reached count before.none stays)
           (λ still. c.step_seen-seen.ensures.moves c.if-seen.false (subst (IsStill d) (sym there) still));
-      most = omega (arith, count, all, c.loop-done-test.true);
+      most = omega (arith, count, all, c.at_once-untold.ensures, c.loop-done-test.true);
       fixed = c.step_seen-seen.ensures.fixed ∙ c.burst_settling-burst.ensures.fixed ∙ before.fixed;
     }
 
