@@ -5,3 +5,5 @@ pub mod OneSteps
 pub mod OnlySteps
 pub mod OneRoom
 pub mod AbleLemmas
+pub mod ImageLemmas
+pub mod OneInput

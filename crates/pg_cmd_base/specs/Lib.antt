@@ -9,3 +9,5 @@ pub mod Able
 pub mod Commands
 pub mod Answering
 pub mod Usage
+pub mod Descriptions
+pub mod Images

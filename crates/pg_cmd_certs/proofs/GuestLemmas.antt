@@ -6,9 +6,9 @@ use Rattle.pg_cert.specs.declared.cert.Family.TheVariants.{Plain}
 use Rattle.pg_cert.specs.declared.report.Report.{Report}
 use Rattle.pg_cert.specs.declared.report.Verdict.TheVariants.{Accepted}
 use Rattle.pg_edge.specs.Shelf.{Files}
-use Rattle.pg_cmd_inputs.specs.Descriptions.{DescDue}
-use Rattle.pg_cmd_inputs.specs.Images.{ImageDue}
-use Rattle.pg_cmd_inputs.proofs.OneInput.{one-desc, one-image}
+use Rattle.pg_cmd_base.specs.Descriptions.{DescDue}
+use Rattle.pg_cmd_base.specs.Images.{ImageDue}
+use Rattle.pg_cmd_base.proofs.OneInput.{one-desc, one-image}
 use Rattle.pg_cmd_certs.specs.Certificates.{CertDue}
 use Rattle.pg_cmd_certs.specs.Guests.{GuestFiles, Loaded, judged_of, behind_image, behind_room, behind_desc, GuestDue}
 use Rattle.pg_cmd_certs.specs.Judged.{verdict_on}

@@ -11,7 +11,7 @@ use Rattle.pg_cmd_base.specs.declared.refusal.Refusal.{Refusal}
 use Rattle.pg_cmd_base.specs.declared.refusal.Stop.{Stop}
 use Rattle.pg_cmd_base.specs.Answering.{Comes}
 use Rattle.pg_cmd_certs.specs.Certificates.{IsCertificate, CertDue}
-use Rattle.pg_cmd_inputs.specs.Descriptions.{DescDue}
+use Rattle.pg_cmd_base.specs.Descriptions.{DescDue}
 use Rattle.pg_cmd_certs.specs.Judged.{Judged, JudgedDue}
 use Rattle.pg_cmd_certs.specs.Meaning.{AreShown, VerdictMeans}
 use Rattle.pg_cmd_base.specs.Steps.{Step, Came, Then, Gives}

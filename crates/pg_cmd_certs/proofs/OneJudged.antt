@@ -2,8 +2,8 @@
 use Rattle.std.proofs.Common.{List, ℕ, Some}
 use Rattle.pg_cert.specs.declared.cert.Family.{Family}
 use Rattle.pg_edge.specs.Shelf.{Files}
-use Rattle.pg_cmd_inputs.specs.Descriptions.{DescDue}
-use Rattle.pg_cmd_inputs.proofs.OneInput.{one-desc}
+use Rattle.pg_cmd_base.specs.Descriptions.{DescDue}
+use Rattle.pg_cmd_base.proofs.OneInput.{one-desc}
 use Rattle.pg_cmd_base.specs.Steps.{IsOne}
 use Rattle.pg_cmd_base.proofs.OneSteps.{one-gives, one-then}
 use Rattle.pg_cmd_certs.specs.Certificates.{CertDue}

@@ -4,8 +4,8 @@ use Rattle.pg_ast.specs.declared.tree.Desc.{Desc}
 use Rattle.pg_cert.specs.declared.cert.Family.TheVariants.{Plain}
 use Rattle.pg_cert.specs.declared.report.Report.{Report}
 use Rattle.pg_edge.specs.Shelf.{Files}
-use Rattle.pg_cmd_inputs.specs.Descriptions.{DescDue}
-use Rattle.pg_cmd_inputs.specs.Images.{ImageDue}
+use Rattle.pg_cmd_base.specs.Descriptions.{DescDue}
+use Rattle.pg_cmd_base.specs.Images.{ImageDue}
 use Rattle.pg_cmd_certs.specs.Certificates.{CertDue}
 use Rattle.pg_cmd_certs.specs.Judged.{Judged}
 use Rattle.pg_cmd_base.specs.declared.refusal.Refusal.{Refusal}

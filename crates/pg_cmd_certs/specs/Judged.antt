@@ -15,7 +15,7 @@ use Rattle.pg_cmd_base.specs.declared.status.Status.{Status}
 use Rattle.pg_cmd_base.specs.declared.status.Status.TheVariants as status
 use Rattle.pg_cmd_base.specs.declared.refusal.Refusal.{Refusal}
 use Rattle.pg_cmd_certs.specs.Certificates.{CertDue}
-use Rattle.pg_cmd_inputs.specs.Descriptions.{DescDue}
+use Rattle.pg_cmd_base.specs.Descriptions.{DescDue}
 use Rattle.pg_cmd_base.specs.Steps.{Step, Then, Gives}
 
 -- a description, and what is kept of a certificate of it

@@ -6,7 +6,7 @@
 
 ghost use Rattle.std.specs.Prelude.{◌≡◌, ◌≤◌, ◌+◌, IfOk};
 ghost use Rattle.pg_cert.specs.declared.report.Verdict.TheVariants.{Accepted};
-ghost use Rattle.pg_cmd_inputs.specs.Images.{Fills};
+ghost use Rattle.pg_cmd_base.specs.Images.{Fills};
 ghost use Rattle.pg_cmd_certs.specs.GuestViews.{guest_source, loaded_guest};
 ghost use Rattle.pg_cmd_certs.specs.Guests.{GuestDue, behind_image, behind_room};
 ghost use Rattle.pg_cmd_certs.specs.Judged.{verdict_on};
@@ -18,8 +18,7 @@ use crate::certified::load_certificate;
 use crate::machine::JudgedMachine;
 use crate::source::{GuestSource, LoadedGuest};
 use pg_cert::Family;
-use pg_cmd_base::{Stop, try_room};
-use pg_cmd_inputs::{load_image, load_machine};
+use pg_cmd_base::{Stop, load_image, load_machine, try_room};
 use pg_edge::Shelf;
 use pg_image::Image;
 use pg_mach_ready::Machine;

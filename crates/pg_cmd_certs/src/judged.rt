@@ -11,8 +11,7 @@ use crate::certified::load_certificate;
 use crate::machine::JudgedMachine;
 use pg_cert::Family;
 use pg_cli_table::FileName;
-use pg_cmd_base::Stop;
-use pg_cmd_inputs::load_machine;
+use pg_cmd_base::{Stop, load_machine};
 use pg_edge::Shelf;
 use std::alloc::Global;
 

@@ -11,8 +11,8 @@ use Rattle.pg_cert.specs.declared.report.Verdict.{Verdict}
 use Rattle.pg_cert.specs.declared.report.Verdict.TheVariants as verdict
 use Rattle.pg_cert.specs.Verdicts.{verdict_of}
 use Rattle.pg_cli_table.specs.declared.generating.GenWords.{GenWords}
-use Rattle.pg_lang_generate.specs.Generated.{IsGenerated}
-use Rattle.pg_lang_generate.specs.Images.{image_cells, image_count, images_of, IsFilled}
+use Rattle.pg_cmd_gen.specs.Generated.{IsGenerated}
+use Rattle.pg_cmd_gen.specs.Images.{image_cells, image_count, images_of, IsFilled}
 use Rattle.pg_run_guests.specs.declared.running.Ran.{Ran}
 use Rattle.pg_run_guests.specs.Begun.{HaveRun}
 use Rattle.pg_run_guests.proofs.ToldLemmas.{summary-is}

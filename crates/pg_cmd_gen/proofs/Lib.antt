@@ -1,2 +1,11 @@
 pub mod GeneratingLemmas
 pub mod OneGenerated
+pub mod Tables
+pub mod NameLemmas
+pub mod BodyLemmas
+pub mod FromState
+pub mod InstrLemmas
+pub mod ValidLemmas
+pub mod OneDescription
+pub mod DrawLemmas
+pub mod ImageLemmas

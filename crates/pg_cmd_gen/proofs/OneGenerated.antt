@@ -2,7 +2,7 @@
 use Rattle.std.proofs.Common.{Some, Ok, Err, ap}
 use Rattle.pg_cli_table.specs.declared.generating.GenWords.{GenWords}
 use Rattle.pg_edge.specs.Shelf.{Files}
-use Rattle.pg_lang_generate.proofs.OneDescription.{one-generated}
+use Rattle.pg_cmd_gen.proofs.OneDescription.{one-generated}
 use Rattle.pg_cmd_base.specs.Steps.{IsOne}
 use Rattle.pg_cmd_gen.specs.Generating.{GenDue}
 

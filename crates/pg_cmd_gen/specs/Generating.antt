@@ -9,8 +9,8 @@ use Rattle.pg_cert.specs.declared.report.Verdict.TheVariants as verdict
 use Rattle.pg_cert.specs.Verdicts.{verdict_of}
 use Rattle.pg_cli_table.specs.declared.generating.GenWords.{GenWords}
 use Rattle.pg_edge.specs.Shelf.{Files}
-use Rattle.pg_lang_generate.specs.Generated.{IsGenerated}
-use Rattle.pg_lang_generate.specs.Images.{images_of}
+use Rattle.pg_cmd_gen.specs.Generated.{IsGenerated}
+use Rattle.pg_cmd_gen.specs.Images.{images_of}
 use Rattle.pg_run_guests.specs.declared.running.Ran.{Ran}
 use Rattle.pg_run_guests.specs.Begun.{HaveRun}
 use Rattle.pg_alloc.specs.Fit.{kept_cells}

@@ -1,6 +1,6 @@
 //! `gen`: a description and images that are made of a number, classified and run.
 //!
-//! The input is made (`pg_lang_generate`), and its certificate is found and its text made whole. The text is saved. Where the
+//! The input is made (`whole`), and its certificate is found and its text made whole. The text is saved. Where the
 //! verdict accepts the machine the images run as guests of one monitor, as under `run`, and then the text of the command is
 //! put. Memory is taken before the save, and for the guests behind it, before their first turn.
 
@@ -8,8 +8,8 @@ ghost use Rattle.std.specs.Prelude.{◌≡◌, ◌≤◌, IfOk, OnOk, OnErr};
 ghost use Rattle.pg_cert.specs.declared.cert.Family.TheVariants.{Plain};
 ghost use Rattle.pg_cert.specs.declared.report.Verdict.TheVariants.{Accepted};
 ghost use Rattle.pg_edge.specs.Sink.{Puts};
-ghost use Rattle.pg_lang_generate.specs.Generated.{IsGenerated};
-ghost use Rattle.pg_lang_generate.specs.Images.{images_of};
+ghost use Rattle.pg_cmd_gen.specs.Generated.{IsGenerated};
+ghost use Rattle.pg_cmd_gen.specs.Images.{images_of};
 ghost use Rattle.pg_run_base.specs.Setting.{SetUp};
 ghost use Rattle.pg_cmd_certs.specs.Judged.{verdict_on};
 ghost use Rattle.pg_cmd_base.specs.Able.{IsAble};
@@ -22,6 +22,7 @@ ghost use Rattle.pg_type.specs.Accepting.{IsAccepted};
 
 mod plan;
 
+use crate::whole::generate;
 use pg_cert::Family;
 use pg_classify::Watcher;
 use pg_cli_table::GenWords;
@@ -30,7 +31,6 @@ use pg_cmd_certs::{VerdictWatcher, is_accepted, status_of};
 use pg_cmd_outputs::{checked, save_text};
 use pg_edge::{Failed, Shelf, Sink};
 use pg_hw::Hardware;
-use pg_lang_generate::generate;
 use pg_lang_valid::TypeFault;
 use pg_mach_ready::check;
 use pg_report::{put_instructions, put_outcome};

@@ -1,3 +1,5 @@
 pub mod RightLemmas
 pub mod LineLemmas
 pub mod ReplaceLemmas
+pub mod CommentLemmas
+pub mod Texts

@@ -1,1 +1,3 @@
 pub mod Imported
+pub mod Dimacs
+pub mod Lrat

@@ -22,8 +22,8 @@ use Rattle.pg_cmd_base.specs.declared.refusal.Refusal.{Refusal}
 use Rattle.pg_cmd_base.specs.declared.refusal.Stop.{Stop}
 use Rattle.pg_cmd_plain.specs.Bare.{BareRun, BareDue, reached, RanBare}
 use Rattle.pg_cmd_plain.specs.CanRuns.{CanRun}
-use Rattle.pg_cmd_inputs.specs.Descriptions.{DescDue}
-use Rattle.pg_cmd_inputs.specs.Images.{ImageDue}
+use Rattle.pg_cmd_base.specs.Descriptions.{DescDue}
+use Rattle.pg_cmd_base.specs.Images.{ImageDue}
 use Rattle.pg_cmd_base.specs.Answering.{Comes}
 use Rattle.pg_cmd_base.specs.Rooms.{of_room, RoomDue}
 use Rattle.pg_cmd_base.specs.Steps.{Step, Came, Refused, Then, Gives}

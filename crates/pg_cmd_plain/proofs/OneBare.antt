@@ -7,11 +7,11 @@ use Rattle.pg_cli_table.specs.declared.print.PrintWords.{PrintWords}
 use Rattle.pg_cmd_base.specs.declared.refusal.Refusal.{Refusal}
 use Rattle.pg_cmd_base.specs.Rooms.{of_room, RoomDue}
 use Rattle.pg_cmd_base.specs.Steps.{IsOne}
-use Rattle.pg_cmd_inputs.specs.Descriptions.{DescDue}
-use Rattle.pg_cmd_inputs.specs.Images.{ImageDue}
+use Rattle.pg_cmd_base.specs.Descriptions.{DescDue}
+use Rattle.pg_cmd_base.specs.Images.{ImageDue}
 use Rattle.pg_cmd_plain.specs.Bare.{BareRun, BareDue}
 use Rattle.pg_cmd_plain.specs.Print.{PrintDue}
-use Rattle.pg_cmd_inputs.proofs.OneInput.{desc_answer, only-desc, one-desc, image_answer, only-image}
+use Rattle.pg_cmd_base.proofs.OneInput.{desc_answer, only-desc, one-desc, image_answer, only-image}
 use Rattle.pg_cmd_base.proofs.OneRoom.{room_answer, only-room}
 use Rattle.pg_cmd_base.proofs.OnlySteps.{Only, one-of, only-gives, lifted, bind, only-then}
 use Rattle.pg_cmd_plain.proofs.BareLemmas as bare

@@ -11,8 +11,8 @@ use Rattle.pg_cmd_base.specs.declared.status.Status.{Status}
 use Rattle.pg_cmd_base.specs.declared.status.Status.TheVariants as status
 use Rattle.pg_cmd_base.specs.declared.refusal.Refusal.{Refusal}
 use Rattle.pg_cmd_base.specs.Commands.{Command}
-use Rattle.pg_cmd_inputs.specs.Descriptions.{DescDue}
-use Rattle.pg_cmd_inputs.specs.Images.{ImageDue}
+use Rattle.pg_cmd_base.specs.Descriptions.{DescDue}
+use Rattle.pg_cmd_base.specs.Images.{ImageDue}
 use Rattle.pg_cmd_base.specs.Rooms.{RoomDue}
 use Rattle.pg_cmd_base.specs.Steps.{Step, Then, Gives}
 use Rattle.pg_hw.specs.Machinery.{Machinery}

@@ -2,3 +2,8 @@ pub mod CanRuns
 pub mod Bare
 pub mod Print
 pub mod Plans
+pub mod Machines
+pub mod Sources
+pub mod Asm
+pub mod Disasm
+pub mod AsmPlans

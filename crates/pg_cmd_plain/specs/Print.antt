@@ -8,7 +8,7 @@ use Rattle.pg_cmd_base.specs.declared.status.Status.{Status}
 use Rattle.pg_cmd_base.specs.declared.status.Status.TheVariants as status
 use Rattle.pg_cmd_base.specs.declared.refusal.Refusal.{Refusal}
 use Rattle.pg_cmd_base.specs.Commands.{Command}
-use Rattle.pg_cmd_inputs.specs.Descriptions.{DescDue}
+use Rattle.pg_cmd_base.specs.Descriptions.{DescDue}
 use Rattle.pg_cmd_base.specs.Steps.{Step}
 use Rattle.pg_cmd_base.specs.World.{World, IsUntouched}
 

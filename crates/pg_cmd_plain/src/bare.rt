@@ -19,8 +19,7 @@ ghost use Rattle.pg_cmd_base.specs.World.{Keeps, around};
 mod plan;
 
 use pg_cli_table::BareWords;
-use pg_cmd_base::{Status, Stop, StopWatcher, no_room, stopped};
-use pg_cmd_inputs::{load_image, load_machine};
+use pg_cmd_base::{Status, Stop, StopWatcher, load_image, load_machine, no_room, stopped};
 use pg_edge::{Failed, Shelf, Sink};
 use pg_hw::{Hardware, bare, power_on};
 use pg_mach_words::learned;

@@ -12,8 +12,7 @@ ghost use Rattle.pg_cmd_base.specs.World.{Keeps, around};
 mod plan;
 
 use pg_cli_table::PrintWords;
-use pg_cmd_base::{Status, Stop, StopWatcher, stopped};
-use pg_cmd_inputs::load_machine;
+use pg_cmd_base::{Status, Stop, StopWatcher, load_machine, stopped};
 use pg_edge::{Shelf, Sink};
 use pg_hw::Hardware;
 use pg_lang_print::print;

@@ -3,3 +3,5 @@ pub mod RunLemmas
 pub mod EndsLemmas
 pub mod HybridLemmas
 pub mod OneRun
+mod NestLemmas
+pub mod OneNested

@@ -3,9 +3,9 @@ use Rattle.std.proofs.Common.{◌≡◌, ◌-◌, ◌*◌, ℕ, List, length, Op
 use Rattle.pg_ast.specs.declared.tree.Desc.{Desc}
 use Rattle.pg_cert.specs.declared.cert.Family.{Family}
 use Rattle.pg_edge.specs.Shelf.{Files}
-use Rattle.pg_cmd_inputs.specs.Descriptions.{DescDue}
-use Rattle.pg_cmd_inputs.specs.Images.{ImagesDue}
-use Rattle.pg_cmd_inputs.proofs.OneInput.{one-desc, one-images}
+use Rattle.pg_cmd_base.specs.Descriptions.{DescDue}
+use Rattle.pg_cmd_base.specs.Images.{ImagesDue}
+use Rattle.pg_cmd_base.proofs.OneInput.{one-desc, one-images}
 use Rattle.pg_cmd_certs.specs.Certificates.{CertDue}
 use Rattle.pg_cmd_certs.proofs.JudgedLemmas.{IsRead, certificate-read, desc-valid}
 use Rattle.pg_cmd_certs.proofs.OneCertificate.{one-certificate}

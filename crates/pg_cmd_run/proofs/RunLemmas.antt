@@ -4,7 +4,7 @@ use Rattle.std.proofs.lemmas.List.Elements.{All-head, All-tail, All-weaker}
 use Rattle.std.proofs.lemmas.Nat.{mul-le}
 use Rattle.pg_alloc.specs.Fit.{kept_cells}
 use Rattle.pg_mach_ready.specs.declared.machine.Machine.{Machine}
-use Rattle.pg_cmd_inputs.specs.Images.{Fills}
+use Rattle.pg_cmd_base.specs.Images.{Fills}
 use Rattle.pg_run_base.specs.Runs.{run_of}
 use Rattle.pg_run_base.specs.Setting.{IsImage, CanRun, image_cells}
 use Rattle.pg_run_base.proofs.ReachedLemmas as reached

@@ -3,3 +3,5 @@ pub mod Run
 pub mod Hybrid
 pub mod Views
 pub mod Plans
+pub mod Nest
+pub mod NestPlans

@@ -6,7 +6,7 @@
 
 ghost use Rattle.std.specs.Prelude.{◌≡◌, ◌≤◌, ◌*◌, ◌+◌, All, IfOk, length};
 ghost use Rattle.pg_cert.specs.declared.report.Verdict.TheVariants.{Accepted};
-ghost use Rattle.pg_cmd_inputs.specs.Images.{Fills};
+ghost use Rattle.pg_cmd_base.specs.Images.{Fills};
 ghost use Rattle.pg_cmd_certs.specs.Judged.{verdict_on};
 ghost use Rattle.pg_cmd_certs.specs.Meaning.{IsAcceptedBy};
 ghost use Rattle.pg_cmd_certs.specs.Views.{judged};
@@ -16,9 +16,8 @@ ghost use Rattle.pg_cmd_run.specs.Views.{guest_files, loaded};
 
 use crate::files::{GuestFiles, LoadedGuests};
 use pg_cert::Family;
-use pg_cmd_base::{Stop, try_room};
+use pg_cmd_base::{Stop, load_images, load_machine, try_room};
 use pg_cmd_certs::{JudgedMachine, load_certificate};
-use pg_cmd_inputs::{load_images, load_machine};
 use pg_edge::Shelf;
 use pg_image::Image;
 use pg_mach_ready::Machine;

@@ -6,8 +6,8 @@ use Rattle.pg_cli_table.specs.declared.save.SaveWords.{SaveWords}
 use Rattle.pg_ast.specs.declared.tree.Desc.{Desc}
 use Rattle.pg_cert.specs.declared.cert.Family.TheVariants.{Plain}
 use Rattle.pg_edge.specs.Shelf.{Files}
-use Rattle.pg_cmd_inputs.specs.Descriptions.{DescDue}
-use Rattle.pg_cmd_inputs.proofs.OneInput.{one-desc}
+use Rattle.pg_cmd_base.specs.Descriptions.{DescDue}
+use Rattle.pg_cmd_base.proofs.OneInput.{one-desc}
 use Rattle.pg_cmd_certs.specs.Certificates.{CertDue}
 use Rattle.pg_cmd_certs.specs.Guests.{GuestDue}
 use Rattle.pg_cmd_certs.proofs.GuestLemmas.{one-guest}

@@ -10,7 +10,7 @@ use Rattle.pg_run_guests.specs.Begun.{HaveRun}
 use Rattle.pg_run_guests.specs.Runs.{RanGuests, state_run}
 use Rattle.pg_run_guests.specs.declared.running.Ran.{Ran}
 use Rattle.pg_hw.specs.Machinery.{Machinery}
-use Rattle.pg_cmd_inputs.specs.Images.{Fills}
+use Rattle.pg_cmd_base.specs.Images.{Fills}
 use Rattle.pg_mach_ready.specs.declared.machine.Machine.{Machine}
 use Rattle.pg_lang_meaning.specs.States.{State, shape_of, IsState}
 use Rattle.pg_lang_meaning.specs.Steps.{bare, power_on, steps}

@@ -8,7 +8,7 @@ use Rattle.pg_cert.specs.declared.report.Report.{Report}
 use Rattle.pg_cert.specs.declared.report.Verdict.TheVariants as verdict
 use Rattle.pg_edge.specs.Shelf.{Files}
 use Rattle.pg_run_guests.specs.Runs.{RanGuests}
-use Rattle.pg_cmd_inputs.specs.Descriptions.{DescDue}
+use Rattle.pg_cmd_base.specs.Descriptions.{DescDue}
 use Rattle.pg_cmd_certs.specs.Certificates.{CertDue}
 use Rattle.pg_cmd_certs.specs.Judged.{Judged, verdict_on}
 use Rattle.pg_cmd_certs.specs.Telling.{EndsBy}

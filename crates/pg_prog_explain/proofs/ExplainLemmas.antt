@@ -9,7 +9,7 @@ use Rattle.pg_edge.specs.ShelfView.{content_of}
 use Rattle.pg_edge.specs.Sink.{Puts}
 use Rattle.pg_edge.specs.Told.{BothTold}
 use Rattle.pg_edge.specs.declared.shelf.Failed.{Failed}
-use Rattle.pg_cmd_inputs.specs.Descriptions.{DescDue, TextDue}
+use Rattle.pg_cmd_base.specs.Descriptions.{DescDue, TextDue}
 use Rattle.pg_cmd_certs.specs.Judged.{Judged, verdict_on, verdict_status}
 use Rattle.pg_cmd_certs.specs.Meaning.{VerdictMeans}
 use Rattle.pg_cmd_certs.proofs.JudgedLemmas.{certificate-read, desc-valid}

@@ -8,7 +8,7 @@ use Rattle.pg_edge.specs.Told.{BothTold}
 use Rattle.pg_edge.specs.declared.shelf.Shelf as shelf
 use Rattle.pg_edge.specs.declared.sink.Sink as sink
 use Rattle.pg_hw.specs.Machinery.{Machinery}
-use Rattle.pg_cmd_inputs.specs.Descriptions.{DescDue}
+use Rattle.pg_cmd_base.specs.Descriptions.{DescDue}
 use Rattle.pg_cmd_certs.specs.Judged.{Judged, verdict_on, verdict_status}
 use Rattle.pg_cmd_certs.specs.Meaning.{VerdictMeans}
 use Rattle.pg_cmd_base.specs.Answering.{Comes, Stops}

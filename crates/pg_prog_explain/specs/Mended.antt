@@ -3,7 +3,7 @@ use Rattle.std.specs.Prelude.{◌≡◌, ℕ, List, Some}
 use Rattle.pg_ast.specs.declared.tree.Desc.{Desc}
 use Rattle.pg_cert.specs.declared.report.Report.{Report}
 use Rattle.pg_edge.specs.Shelf.{Files}
-use Rattle.pg_cmd_inputs.specs.Descriptions.{ReadsAs}
+use Rattle.pg_cmd_base.specs.Descriptions.{ReadsAs}
 use Rattle.pg_out_reasons.specs.Mending.{IsMendedBy}
 
 -- the file of this name has a text that reads as the description with guards, before bodies that a report shows to want them, with

@@ -21,7 +21,7 @@ use pg_cmd_base::{Status, StopWatcher, stopped, tell_usage};
 use pg_cmd_certs::status_of;
 use pg_edge::{Failed, Shelf, Sink};
 use pg_io_host::telling::tell as say;
-use pg_out_mended::Layout;
+use pg_out_guarded::Layout;
 use pg_prog_base::ended;
 use pg_report::put_text;
 use std::alloc::Global;

@@ -13,7 +13,7 @@ use crate::request::Request;
 use pg_cmd_base::Stop;
 use pg_cmd_certs::JudgedMachine;
 use pg_edge::Shelf;
-use pg_out_mended::Layout;
+use pg_out_guarded::Layout;
 use pg_out_reasons::{Part, Reasons, Wish, tell_reasons};
 use std::alloc::{AllocError, Global};
 

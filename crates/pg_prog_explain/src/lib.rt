@@ -6,7 +6,7 @@
 //! is the verdict, for each instruction that is refused the states that show why, with one step from each, and what would mend the
 //! machine (`pg_out_reasons`). With INSTR that instruction alone is told, and with KIND that kind of it: `privileged`, `control`, `mode`,
 //! `location`, `bound`, `ucontrol`, `ulocation` or `ubound`. Under `--mend` the description with guards is saved, where it is
-//! accepted: its own text with the guards put in (`pg_out_mended`). Under `--readable` two states that are laid out for a reader are told
+//! accepted: its own text with the guards put in (`pg_out_guarded`). Under `--readable` two states that are laid out for a reader are told
 //! beside each pair (`pg_out_readable`). With `--json` the machine, all findings and all of
 //! the text are one JSON object (`json`).
 //!

@@ -3,7 +3,7 @@
 ghost use Rattle.std.specs.Prelude.{◌≡◌, ◌∷◌, [], ℕ, IfOk, IfErr, Err, Option};
 ghost use Rattle.pg_ast.specs.declared.tree.Desc.{Desc};
 ghost use Rattle.pg_edge.specs.Shelf.{Files};
-ghost use Rattle.pg_cmd_inputs.specs.Descriptions.{DescDue};
+ghost use Rattle.pg_cmd_base.specs.Descriptions.{DescDue};
 ghost use Rattle.pg_cmd_certs.specs.Views.{judged};
 ghost use Rattle.pg_read.specs.Answer.{most_desc_bytes};
 ghost use Rattle.pg_cmd_base.specs.Answering.{Comes, OnlyReads};
@@ -12,9 +12,8 @@ ghost use Rattle.pg_prog_explain.specs.Explaining.{ExplainDue, EitherJudgedDue, 
 
 use crate::request::Request;
 use pg_cli_table::FileName;
-use pg_cmd_base::{Stop, load_file, stop_of};
+use pg_cmd_base::{Stop, load_file, load_machine, stop_of};
 use pg_cmd_certs::JudgedMachine;
-use pg_cmd_inputs::load_machine;
 use pg_edge::{MemShelf, Shelf};
 use pg_mach_ready::Machine;
 use pg_prog_base::load_either;

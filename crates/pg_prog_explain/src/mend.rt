@@ -12,7 +12,7 @@ ghost use Rattle.pg_prog_explain.specs.Mended.{HoldsMended};
 use crate::load::Loaded;
 use crate::request::Request;
 use pg_edge::{Failed, Shelf};
-use pg_out_mended::{Layout, mended_text};
+use pg_out_guarded::{Layout, mended_text};
 use pg_out_reasons::{Mended, Reasons};
 use std::alloc::{AllocError, Global};
 

@@ -16,8 +16,7 @@ ghost use Rattle.pg_prog_go.specs.Plans.{bare_go};
 
 use crate::plan::BareGoPlan;
 use crate::request::BareGoWords;
-use pg_cmd_base::{Status, Stop, StopWatcher, no_room, stopped};
-use pg_cmd_inputs::{load_image, load_machine};
+use pg_cmd_base::{Status, Stop, StopWatcher, load_image, load_machine, no_room, stopped};
 use pg_edge::{Shelf, Sink};
 use pg_hw::Settling;
 use pg_mach_words::learned;

@@ -1,3 +1,6 @@
 mod ExportLemmas
 mod LogLemmas
 mod WordLemmas
+pub mod ImportLemmas
+mod TakenLemmas
+pub mod ClauseLemmas

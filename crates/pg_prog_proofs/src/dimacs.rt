@@ -3,14 +3,14 @@
 //!     pg_dimacs DESC INSTR KIND
 //!
 //! KIND is `privileged`, `control`, `mode`, `location`, `bound`, `ucontrol`, `ulocation` or `ubound`. What is written is a
-//! formula in the format DIMACS CNF, which can be true exactly where two states show the kind of the instruction (`pg_out_dimacs`).
+//! formula in the format DIMACS CNF, which can be true exactly where two states show the kind of the instruction (`pg_cmd_insert`).
 //! Refusals have the lines and statuses of `pgv`, and where the clauses are written the status is 0 (*EndsDimacs*,
 //! `specs/Exported.antt`). The words are read in `request`.
 
 ghost use Rattle.std.specs.Prelude.{◌≡◌, ◌<◌, length, map, slice_get, string_bytes, Some, IfOk, OnOk};
 ghost use Rattle.pg_ast.specs.declared.tree.Instr.{Instr as Instrs};
 ghost use Rattle.pg_ask.specs.Question.{question};
-ghost use Rattle.pg_out_dimacs.specs.Dimacs.{IsQuestionText};
+ghost use Rattle.pg_cmd_insert.specs.Dimacs.{IsQuestionText};
 ghost use Rattle.pg_cmd_base.specs.Answering.{OnlyReads};
 ghost use Rattle.pg_prog_proofs.specs.Exported.{EndsDimacs, IsDimacs, IsOfMachine, PutsDimacs};
 
@@ -20,9 +20,9 @@ use crate::dimacs::request::{Request, asked_by};
 use pg_ask::ask;
 use pg_cli_says::{Lacking, WordsWatcher};
 use pg_cmd_base::StopWatcher;
+use pg_cmd_insert::text_of;
 use pg_edge::{Shelf, Sink};
 use pg_mach_ready::Machine;
-use pg_out_dimacs::text_of;
 use pg_prog_base::files::{file_name, find, machine, put};
 use pg_prog_base::{Stop, ended};
 use std::alloc::{AllocError, Global};

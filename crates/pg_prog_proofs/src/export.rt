@@ -4,7 +4,7 @@
 //!
 //! CERT is a certificate of the description in DESC, of either family. It is verified whole, and made anew as `pgv migrate` makes
 //! it, before anything is written. The log that it has of INSTR and KIND is written in the format LRAT, and under `--cnf` the
-//! clauses that it refutes are saved, as `pg_dimacs` writes them (`pg_out_dimacs`). A finding that has no log is told in a line.
+//! clauses that it refutes are saved, as `pg_dimacs` writes them (`pg_cmd_insert`). A finding that has no log is told in a line.
 //!
 //! The status is 0 where the log is written (*EndsExported*, `specs/Exported.antt`); refusals are those of `pgv`. The words are
 //! read in `request`, and the texts made in `making`.

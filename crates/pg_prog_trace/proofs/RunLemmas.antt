@@ -6,7 +6,7 @@ use Rattle.pg_cli_table.specs.declared.bare.BareWords.{BareWords}
 use Rattle.pg_cert.specs.declared.cert.Family.{Family}
 use Rattle.pg_cert.specs.declared.cert.Family.TheVariants.{Plain, Hybrid}
 use Rattle.pg_edge.specs.Shelf.{Files}
-use Rattle.pg_cmd_inputs.specs.Descriptions.{DescDue}
+use Rattle.pg_cmd_base.specs.Descriptions.{DescDue}
 use Rattle.pg_cmd_certs.specs.Meaning.{IsAcceptedBy}
 use Rattle.pg_lang_meaning.specs.Steps.{power_on}
 use Rattle.pg_cmd_base.specs.declared.refusal.Refusal.{Refusal}

@@ -4,8 +4,8 @@ use Rattle.pg_alloc.specs.Fit.{kept_cells}
 use Rattle.pg_ast.specs.declared.tree.Desc.{Desc}
 use Rattle.pg_cli_table.specs.declared.bare.BareWords.{BareWords}
 use Rattle.pg_edge.specs.Shelf.{Files}
-use Rattle.pg_cmd_inputs.specs.Descriptions.{DescDue}
-use Rattle.pg_cmd_inputs.specs.Images.{ImageDue}
+use Rattle.pg_cmd_base.specs.Descriptions.{DescDue}
+use Rattle.pg_cmd_base.specs.Images.{ImageDue}
 use Rattle.pg_cmd_base.specs.declared.refusal.Refusal.{Refusal}
 use Rattle.pg_cmd_base.specs.Rooms.{RoomDue}
 use Rattle.pg_cmd_base.specs.Steps.{Step, Then, Gives}

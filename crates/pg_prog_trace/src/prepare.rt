@@ -6,8 +6,7 @@ ghost use Rattle.pg_prog_trace.specs.Plans.{planned_run, RunDue, behind_room};
 
 use crate::plan::Plan;
 use pg_cli_table::BareWords;
-use pg_cmd_base::{Stop, try_room};
-use pg_cmd_inputs::{load_image, load_machine};
+use pg_cmd_base::{Stop, load_image, load_machine, try_room};
 use pg_edge::Shelf;
 use pg_mach_ready::Machine;
 use std::alloc::Global;

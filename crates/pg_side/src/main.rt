@@ -8,9 +8,8 @@
 //! word behind the name are answered on standard output.
 //!
 //! Here it is found which program is meant (`words`), and that one is called. How they take their words is in `pg_cli_forms`, why a
-//! machine is refused in `pg_prog_explain`, what each step of a run does in `pg_prog_trace`, runs that end in `pg_prog_go`, findings of other solvers in
-//! `pg_prog_import`, the clauses of a question and logs for other checkers in `pg_prog_proofs`, and the solver on clauses in
-//! `pg_prog_solve`.
+//! machine is refused in `pg_prog_explain`, what each step of a run does in `pg_prog_trace`, runs that end in `pg_prog_go`, and what is
+//! for other solvers and checkers, or from them, in `pg_prog_proofs`.
 //!
 //! A program beside these is a variant of `Side` and a `run` of its own. Nothing that `pgv` does stands on any of them.
 #![tactic(auto)]
@@ -28,7 +27,7 @@ use pg_cmd_base::{Status, StopWatcher};
 use pg_edge::{Failed, Shelf, Sink};
 use pg_io_host::streams::write_whole;
 use pg_io_host::{DirShelf, Progress, StdSink};
-use pg_prog_proofs::{dimacs, export};
+use pg_prog_proofs::{dimacs, export, import, solve};
 use pg_report::put_text;
 use pg_rig::Rig;
 use pg_run_base::RunWatcher;
@@ -60,7 +59,7 @@ fn run(rt: &HostRuntime, call: Call) -> u8 {
 /// The status of a program for whose words there is no memory.
 fn starved(rt: &HostRuntime, side: Side) -> u8 {
     match side {
-        Side::Solve => pg_prog_solve::starved(rt),
+        Side::Solve => solve::starved(rt),
         Side::Explain | Side::Trace | Side::Go | Side::Dimacs | Side::Import | Side::Export => {
             say_why(&mut rt.stderr(), side.program(), Status::Memory, None, None);
             Status::Memory.code()
@@ -101,8 +100,8 @@ fn usage(side: Side) -> &'static [u8] {
         Side::Trace => pg_prog_trace::USAGE,
         Side::Go => pg_prog_go::USAGE,
         Side::Dimacs => dimacs::USAGE,
-        Side::Solve => pg_prog_solve::USAGE,
-        Side::Import => pg_prog_import::USAGE,
+        Side::Solve => solve::USAGE,
+        Side::Import => import::USAGE,
         Side::Export => export::USAGE,
     }
 }
@@ -126,7 +125,7 @@ fn run_on(rt: &HostRuntime, side: Side, words: &[String]) -> u8 {
 /// reads. None of any other.
 fn unwatched(rt: &HostRuntime, side: Side, words: &[String]) -> Option<u8> {
     match side {
-        Side::Solve => Some(pg_prog_solve::run(rt, words)),
+        Side::Solve => Some(solve::run(rt, words)),
         Side::Explain => pg_prog_explain::refused(rt, &mut rt.stderr(), words),
         Side::Trace | Side::Go | Side::Dimacs | Side::Import | Side::Export => None,
     }
@@ -198,8 +197,8 @@ fn carry<F: Shelf, S: Sink, W: StopWatcher + WordsWatcher + RunWatcher>(
             pg_prog_go::run(alloc, words, shelf, out, &mut hw, watcher)
         }
         Side::Dimacs => dimacs::run(alloc, words, shelf, out, watcher),
-        Side::Solve => pg_prog_solve::run(rt, words),
-        Side::Import => pg_prog_import::run(alloc, words, shelf, out, watcher),
+        Side::Solve => solve::run(rt, words),
+        Side::Import => import::run(alloc, words, shelf, out, watcher),
         Side::Export => export::run(alloc, words, shelf, out, watcher),
     }
 }

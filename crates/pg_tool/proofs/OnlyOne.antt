@@ -5,14 +5,14 @@ use Rattle.pg_cli_parse.specs.Asked.{request_of}
 use Rattle.pg_cli_table.specs.declared.ask.Request.{Request}
 use Rattle.pg_cli_table.specs.declared.ask.Request.TheVariants as request
 use Rattle.pg_edge.specs.Shelf.{Files}
-use Rattle.pg_cmd_inputs.proofs.OneInput.{one-desc}
+use Rattle.pg_cmd_base.proofs.OneInput.{one-desc}
 use Rattle.pg_cmd_certs.proofs.OneJudged.{one-judged}
 use Rattle.pg_cmd_base.specs.Steps.{IsOne}
 use Rattle.pg_cmd_plain.proofs.OneBare.{one-bare, one-print}
 use Rattle.pg_cmd_gen.proofs.OneGenerated.{one-gen}
 use Rattle.pg_cmd_run.proofs.OneRun.{one-run}
-use Rattle.pg_cmd_nest.proofs.OneNested.{one-nest}
-use Rattle.pg_cmd_asm.proofs.OneAssembled.{one-asm, one-disasm}
+use Rattle.pg_cmd_run.proofs.OneNested.{one-nest}
+use Rattle.pg_cmd_plain.proofs.OneAssembled.{one-asm, one-disasm}
 use Rattle.pg_cmd_save.proofs.OneSaved.{one-save, one-resume}
 use Rattle.pg_tool.specs.Asking.{WordsRefused, command_of, command_or_none, command_for}
 

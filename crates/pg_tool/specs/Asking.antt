@@ -15,15 +15,15 @@ use Rattle.pg_cmd_base.specs.Steps.{Step, Came, Refused, Misread}
 use Rattle.pg_cmd_plain.specs.Bare.{bare_command}
 use Rattle.pg_cmd_run.specs.Run.{run_command}
 use Rattle.pg_cmd_run.specs.Hybrid.{hybrid_command}
-use Rattle.pg_cmd_nest.specs.Nest.{nest_command}
+use Rattle.pg_cmd_run.specs.Nest.{nest_command}
 use Rattle.pg_cmd_plain.specs.Print.{print_command}
 use Rattle.pg_cmd_check.specs.Verify.{verify_command}
 use Rattle.pg_cmd_check.specs.Replay.{replay_command}
 use Rattle.pg_cmd_check.specs.Migrate.{migrate_command}
 use Rattle.pg_cmd_check.specs.Check.{check_command}
 use Rattle.pg_cmd_gen.specs.Generating.{gen_command}
-use Rattle.pg_cmd_asm.specs.Asm.{asm_command}
-use Rattle.pg_cmd_asm.specs.Disasm.{disasm_command}
+use Rattle.pg_cmd_plain.specs.Asm.{asm_command}
+use Rattle.pg_cmd_plain.specs.Disasm.{disasm_command}
 use Rattle.pg_cmd_save.specs.Save.{save_command}
 use Rattle.pg_cmd_save.specs.Resume.{resume_command}
 

@@ -7,7 +7,7 @@
 //! not be saved.
 //!
 //! What a command is, and how its steps join, stands in `pg_cmd_base`; the commands stand in families, crates of their own
-//! (`pg_cmd_plain`, `pg_cmd_asm`, `pg_cmd_check`, `pg_cmd_run`, `pg_cmd_nest`, `pg_cmd_gen`, `pg_cmd_save`). Here a command
+//! (`pg_cmd_plain`, `pg_cmd_plain`, `pg_cmd_check`, `pg_cmd_run`, `pg_cmd_run`, `pg_cmd_gen`, `pg_cmd_save`). Here a command
 //! has one line in each of three places: the definition (`command_of`, `specs/Asking.antt`), `carry` below, and the proof that it
 //! comes to one thing (`proofs/OnlyOne.antt`).
 //!
@@ -32,15 +32,13 @@ pub use pg_cert_migrate::ReadWatcher;
 pub use pg_classify::{SearchWatcher, Watcher};
 use pg_cli_parse::request;
 use pg_cli_table::{Fault, Request};
-use pg_cmd_asm::{carry_asm, carry_disasm};
 use pg_cmd_base::stopped;
 pub use pg_cmd_base::{Refusal, Status, Stop, StopWatcher};
 pub use pg_cmd_certs::{JudgedMachine, VerdictWatcher};
 use pg_cmd_check::{carry_check, carry_migrate, carry_replay, carry_verify};
 use pg_cmd_gen::carry_gen;
-use pg_cmd_nest::carry_nest;
-use pg_cmd_plain::{carry_bare, carry_print};
-use pg_cmd_run::{carry_hybrid, carry_run};
+use pg_cmd_plain::{carry_asm, carry_bare, carry_disasm, carry_print};
+use pg_cmd_run::{carry_hybrid, carry_nest, carry_run};
 use pg_cmd_save::{carry_resume, carry_save};
 use pg_edge::{Shelf, Sink};
 use pg_hw::Hardware;

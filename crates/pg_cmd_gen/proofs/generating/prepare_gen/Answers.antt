@@ -1,7 +1,7 @@
 use Rattle.std.proofs.Common.{◌≡◌, ◌∙◌, ℕ, sym, subst}
 use Rattle.pg_ast.specs.declared.tree.Desc.{Desc}
-use Rattle.pg_lang_generate.specs.Generated.{IsGenerated}
-use Rattle.pg_lang_generate.specs.Images.{images_of}
+use Rattle.pg_cmd_gen.specs.Generated.{IsGenerated}
+use Rattle.pg_cmd_gen.specs.Images.{images_of}
 use Rattle.pg_cmd_gen.proofs.GeneratingLemmas.{input-runs}
 use Rattle.pg_cmd_gen.proofs.generating.prepare_gen.Goals as goal
 

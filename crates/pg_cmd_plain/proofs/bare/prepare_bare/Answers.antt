@@ -1,7 +1,7 @@
 use Rattle.std.proofs.Common.{◌≡◌, ℕ, List, Err, sym, ap, subst, arith}
 use Rattle.pg_mach_ready.specs.declared.machine.Machine.{Machine}
 use Rattle.pg_cmd_plain.specs.Bare.{BareDue}
-use Rattle.pg_cmd_inputs.specs.Images.{ImageDue}
+use Rattle.pg_cmd_base.specs.Images.{ImageDue}
 use Rattle.pg_cmd_base.specs.Answering.{Comes}
 use Rattle.pg_cmd_plain.specs.Plans.{bare_run}
 use Rattle.pg_cmd_base.specs.Rooms.{of_room}

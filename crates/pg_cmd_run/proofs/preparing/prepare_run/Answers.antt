@@ -1,7 +1,7 @@
 use Rattle.std.proofs.Common.{◌≡◌, ◌∙◌, ◌≤◌, ℕ, List, length, Err, ap, subst, arith}
 use Rattle.std.proofs.lemmas.List.Elements.{All-weaker}
 use Rattle.pg_alloc.specs.Fit.{kept_cells}
-use Rattle.pg_cmd_inputs.specs.Images.{Fills}
+use Rattle.pg_cmd_base.specs.Images.{Fills}
 use Rattle.pg_cmd_base.specs.Answering.{Comes}
 use Rattle.pg_cmd_base.specs.Steps.{Came, Gives}
 use Rattle.pg_cmd_base.proofs.StepLemmas.{comes-stopped}

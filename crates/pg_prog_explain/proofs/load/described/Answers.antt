@@ -1,6 +1,6 @@
 use Rattle.std.proofs.Common.{Some, Err, subst}
 use Rattle.pg_edge.specs.ShelfView.{content_of}
-use Rattle.pg_cmd_inputs.specs.Descriptions.{DescDue}
+use Rattle.pg_cmd_base.specs.Descriptions.{DescDue}
 use Rattle.pg_mach_ready.specs.declared.machine.Machine.{Machine}
 use Rattle.pg_cmd_base.specs.Answering.{Comes}
 use Rattle.pg_cmd_base.specs.declared.refusal.Stop.{Stop}

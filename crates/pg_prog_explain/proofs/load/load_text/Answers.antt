@@ -1,6 +1,6 @@
 use Rattle.std.proofs.Common.{Err, sym, ap, subst}
 use Rattle.pg_ast.specs.declared.tree.Desc.{Desc}
-use Rattle.pg_cmd_inputs.specs.Descriptions.{DescDue, TextDue}
+use Rattle.pg_cmd_base.specs.Descriptions.{DescDue, TextDue}
 use Rattle.pg_read.specs.Answer.{most_desc_bytes}
 use Rattle.pg_report.specs.declared.line.DescriptionLine.TheVariants as told_line
 use Rattle.pg_report.specs.declared.line.RefusalLine.TheVariants.{Description}

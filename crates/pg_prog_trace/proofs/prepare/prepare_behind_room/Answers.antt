@@ -1,5 +1,5 @@
 use Rattle.std.proofs.Common.{ℕ, List, Err, refl, ◌∙◌, ap, arith}
-use Rattle.pg_cmd_inputs.specs.Images.{ImageDue}
+use Rattle.pg_cmd_base.specs.Images.{ImageDue}
 use Rattle.pg_cmd_base.specs.Answering.{Comes}
 use Rattle.pg_cmd_base.specs.Steps.{Came, Gives}
 use Rattle.pg_cmd_base.proofs.StepLemmas.{comes-stopped, same_three}

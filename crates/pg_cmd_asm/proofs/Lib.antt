@@ -1,4 +1,0 @@
-pub mod MachineLemmas
-pub mod ImageLemmas
-pub mod OneAssembled
-pub mod EndsLemmas

@@ -1,0 +1,4 @@
+use Rattle.pg_cmd_gen.proofs.instrs.+put_bits.Given as goal
+
+abbrev pub decreases-put_bits : goal.decreases-put_bits
+decreases-put_bits l = l.n

@@ -1,2 +1,0 @@
-mod NestLemmas
-pub mod OneNested

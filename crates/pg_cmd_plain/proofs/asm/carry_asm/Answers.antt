@@ -1,0 +1,26 @@
+use Rattle.std.proofs.Common.{◌≡◌, ◌∙◌, refl}
+use Rattle.pg_cmd_base.specs.declared.status.Status.TheVariants.{Done}
+use Rattle.pg_cmd_base.specs.World.{IsUntouched, around}
+use Rattle.pg_cmd_base.proofs.CarryLemmas.{carries-done, carries-broken}
+use Rattle.pg_cmd_plain.specs.Asm.{asm_command}
+use Rattle.pg_cmd_plain.specs.AsmPlans.{assembled}
+use Rattle.pg_cmd_plain.proofs.EndsLemmas.{asm-ends}
+use Rattle.pg_cmd_plain.proofs.asm.carry_asm.Goals as goal
+
+pub returns-in-Ok-put_text-clause-carries : goal.returns-in-Ok-put_text-clause-carries
+returns-in-Ok-put_text-clause-carries g c =
+    let p = c.in-Ok.plan in
+    let old = around g.F.Shelf g.S.Sink g.H.Hardware c.args.shelf.now c.args.out.now c.args.hw.now in
+    let new = around g.F.Shelf g.S.Sink g.H.Hardware c.prepare_asm.new.shelf c.put_text.new.out c.args.hw.now in
+    let same : IsUntouched old new = record { files = c.prepare_asm.ensures.reads.same_files; saves = c.prepare_asm.ensures.reads.same_saves; hw = refl } in
+    let ends = asm-ends (assembled p) old new c.deref.result.now (record { valid = p.machine.valid; within = p.within; words = p.words }) (c.deref.ensures.value ∙ p.listed) same in
+    carries-done (asm_command c.args.words.now) old new (assembled p) c.deref.result.now c.in-Ok.ensures.comes ends c.in-Ok-put_text.ensures.whole
+
+pub returns-clause-carries : goal.returns-clause-carries
+returns-clause-carries g c =
+    let p = c.in-Ok.plan in
+    let old = around g.F.Shelf g.S.Sink g.H.Hardware c.args.shelf.now c.args.out.now c.args.hw.now in
+    let new = around g.F.Shelf g.S.Sink g.H.Hardware c.prepare_asm.new.shelf c.put_text.new.out c.args.hw.now in
+    let same : IsUntouched old new = record { files = c.prepare_asm.ensures.reads.same_files; saves = c.prepare_asm.ensures.reads.same_saves; hw = refl } in
+    let ends = asm-ends (assembled p) old new c.deref.result.now (record { valid = p.machine.valid; within = p.within; words = p.words }) (c.deref.ensures.value ∙ p.listed) same in
+    carries-broken (asm_command c.args.words.now) old new (assembled p) Done c.deref.result.now c.in-Ok.ensures.comes ends (record { cause = c.in-Err-put_text.ensures.cause; front = c.in-Err-put_text.ensures.front })

@@ -1,9 +1,0 @@
-pub mod Tables
-pub mod NameLemmas
-pub mod BodyLemmas
-pub mod FromState
-pub mod InstrLemmas
-pub mod ValidLemmas
-pub mod OneDescription
-pub mod DrawLemmas
-pub mod ImageLemmas

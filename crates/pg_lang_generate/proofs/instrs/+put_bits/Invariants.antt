@@ -1,4 +1,0 @@
-use Rattle.pg_lang_generate.proofs.instrs.+put_bits.Given as goal
-
-abbrev pub decreases-put_bits : goal.decreases-put_bits
-decreases-put_bits l = l.n

@@ -1,6 +1,0 @@
-pub mod Draws
-pub mod Bodies
-pub mod Letters
-pub mod Generated
-pub mod Images
-pub mod Drawing

@@ -1,2 +1,0 @@
-pub mod CommentLemmas
-pub mod Texts

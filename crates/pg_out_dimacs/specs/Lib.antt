@@ -1,2 +1,0 @@
-pub mod Dimacs
-pub mod Lrat
