@@ -8,7 +8,8 @@
 //! Whoever mends a description wants to keep its text: comments, the layout, `_` in patterns. So `mended_text` puts
 //! ` if mode { trap; }` behind the brace of each body that is to have the guard, and leaves every other byte as it was, and each in its
 //! line. Nothing is believed of that: the new text is read again, and taken only where it reads as the description with guards
-//! that was asked about. Where it does not, as where the text became too long to be read, the description is printed.
+//! that was asked about. So it rests on the reader, and not on where the guards were put. Where it does not read so, as where the text
+//! became too long to be read, the description is printed.
 //!
 //! - `guard`: guards are put. `broken`: the instructions that want one. `asking`: what is found.
 //! - `places`: behind which braces guards are put in a text. `putting`: they are put. `mended`: the text is judged.

@@ -5,11 +5,11 @@
 //!
 //! Each image runs as a guest, as under `pgv run`, but not for so many steps: until it is *still*. A guest is still where its next step
 //! leaves its state as it is, as a jump to itself does, or a trap that stores and loads what is there already: every later state is
-//! that one. It has no more turns then. The run ends when each guest is still.
+//! that one. It has the rest of its slice, and no turn after. The run ends when each guest is still, or has had all its steps.
 //!
 //! For each guest stands its number, then `still after N steps`, N the first number of steps behind which it is still, and its state.
 //! With `--steps N` a guest that was not found still in so many steps ends there; it is told as `after N steps`. The last line has the
-//! turns of all guests, and how many of them the hardware executed untrapped. A guest that is found still has the rest of its slice.
+//! turns of all guests, and how many of them the hardware executed untrapped.
 //!
 //! - `--grant G`: how many cells each guest is granted, 2 to 1,048,575. `--slice K`: how many steps a guest does before the next has its
 //!   turn, 1 to 1,000,000; 1,000 where it is left out.
@@ -25,10 +25,10 @@
 //! With `--bare` one image runs on a bare machine of so many cells, without a monitor and so without a certificate. Behind how many steps
 //! it is still is told in the same words, then its state, or what is to be shown of it. There is no line of turns.
 //!
-//! Refusals have the lines and statuses of `pgv run`, in its order: the words (3), the description (4), the room (7), the images (5),
-//! the certificate (6), a verdict that does not accept the machine (1, 2). Those of a bare machine are of `pgv bare`. The status is 8
-//! where a file cannot be read, 9 where the output cannot be written, 10 where memory is refused, and 11 where a file is not there. No
-//! file is saved. What each status means is a clause (`run`, `carry_go`, `carry_bare`).
+//! Words that are not taken are answered by the usage (3). The other refusals have the lines and statuses of `pgv run`, in its order:
+//! the description (4), the room (7), the images (5), the certificate (6), a verdict that does not accept the machine (1, 2). Those of
+//! a bare machine are of `pgv bare`. The status is 8 where a file cannot be read, 9 where the output cannot be written, 10 where memory
+//! is refused, and 11 where a file is not there. No file is saved. What each status means is a clause (`run`, `carry_go`, `carry_bare`).
 //!
 //! - `request`: the words. `preparing`: the files, to a `plan`, a run that can be done. `carry`: the run and its text. `bare`: all of
 //!   these of a bare machine.

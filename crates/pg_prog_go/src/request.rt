@@ -7,7 +7,7 @@ use pg_cli_table::{FileName, Grant, Images, Slice};
 use pg_run_still::{ByteCount, Span, View};
 use std::alloc::{AllocError, Global};
 
-/// The most steps that a guest may be asked for: eight guests of so many have 2^60.
+/// The most steps that a guest may be asked for, instead of 2^60 for all: eight guests of so many have 2^60.
 pub const MOST_STEPS: u64 = 144_115_188_075_855_872;
 
 /// How many steps a guest does in turn where the words do not say it.

@@ -4,8 +4,9 @@
 //!
 //! KIND is `privileged`, `control`, `mode`, `location`, `bound`, `ucontrol`, `ulocation` or `ubound`. What is written is a
 //! formula in the format DIMACS CNF, which can be true exactly where two states show the kind of the instruction (`pg_cmd_insert`).
-//! Refusals have the lines and statuses of `pgv`, and where the clauses are written the status is 0 (*EndsDimacs*,
-//! `specs/Exported.antt`). The words are read in `request`.
+//! Words that are not taken, or name no instruction of the description, are answered by the usage (3). The other refusals have the
+//! lines and statuses of `pgv`. Where the status is 0 the clauses are written (*EndsDimacs*, `specs/Exported.antt`). The words are read
+//! in `request`.
 
 ghost use Rattle.std.specs.Prelude.{◌≡◌, ◌<◌, length, map, slice_get, string_bytes, Some, IfOk, OnOk};
 ghost use Rattle.pg_ast.specs.declared.tree.Instr.{Instr as Instrs};

@@ -4,10 +4,11 @@
 //!
 //! CERT is a certificate of the description in DESC, of either family. It is verified whole, and made anew as `pgv migrate` makes
 //! it, before anything is written. The log that it has of INSTR and KIND is written in the format LRAT, and under `--cnf` the
-//! clauses that it refutes are saved, as `pg_dimacs` writes them (`pg_cmd_insert`). A finding that has no log is told in a line.
+//! clauses that it refutes are saved, as `pg_dimacs` writes them (`pg_cmd_insert`). A finding that has no log is told in a line (3).
 //!
-//! The status is 0 where the log is written (*EndsExported*, `specs/Exported.antt`); refusals are those of `pgv`. The words are
-//! read in `request`, and the texts made in `making`.
+//! Words that are not taken, or name an instruction or a kind that is not there, are answered by the usage (3). The other refusals have
+//! the lines and statuses of `pgv`. Where the status is 0 the log is written (*EndsExported*, `specs/Exported.antt`). The words are read
+//! in `request`, and the texts made in `making`.
 
 ghost use Rattle.std.specs.Prelude.{◌≡◌, map, option_copied, string_bytes, IfOk, OnOk};
 ghost use Rattle.pg_edge.specs.Sink.{Adds};

@@ -10,7 +10,8 @@
 //!
 //! On standard output stands what was imported, and the verdict of the new certificate, as `pgv verify` tells it. The status is
 //! that of the verdict: 0 accepted, 1 refused, 2 open; what is then left, of files and sink, is *EndsImported* (`specs/Saved.antt`).
-//! Refusals are those of `pgv`, with 6 for a refused PROOF too (`pg_prog_base`).
+//! Words that are not taken, or name an instruction or a kind that is not there, are answered by the usage (3). The other refusals are
+//! those of `pgv`, with 6 for a refused PROOF too (`pg_prog_base`).
 //!
 //! - `request`: the words. `answer`: what PROOF says. `making`: the new certificate.
 

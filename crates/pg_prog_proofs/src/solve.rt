@@ -2,8 +2,8 @@
 //!
 //!     pg_solve FILE [BUDGET] [--check]
 //!
-//! `pg_sat_search` solves: each of its two searches learns at most BUDGET clauses, beside the empty one; the checker of `pg_proof` takes the log. What is written is what solvers write,
-//! so that this one can be run beside others.
+//! `pg_sat_search` solves: each of its two searches learns at most BUDGET clauses, beside the empty one; the checker of `pg_proof` takes
+//! the log. What is written is what solvers write, so that this one can be run beside others.
 //!
 //! Why there is no answer is said on standard error.
 //!

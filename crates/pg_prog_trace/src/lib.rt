@@ -21,12 +21,14 @@
 //! - `--json`: the same as one JSON object (`json`). `--vcd`: a value change dump (`vcd`). Neither stands beside `--only-traps`,
 //!   `--counts` or the other.
 //!
-//! Refusals have the lines and statuses of `pgv`, in the order of `pgv bare`: the words (3), the description (4), the room (7),
-//! the image (5). With `--cert` they are those of `pgv run`: the room is beside the cells that a monitor keeps, and behind the
-//! image come the certificate (6) and a verdict that does not accept the machine, which is written (1, 2). The status is 8 where
-//! a file cannot be read, 9 where the output cannot be written, 10 where memory is refused, and 11 where a file is not there.
-//! What was put before a fault stays. Where the status is 0 the state is the one that `pgv bare` reaches; what each other status
-//! means is a clause too (`carry`). No file is saved.
+//! Words that are not taken are answered by the usage (3). The other refusals have the lines and statuses of `pgv`, in the order of
+//! `pgv bare`: the description (4), the room (7), the image (5). With `--cert` they are those of `pgv run`: the room is beside the
+//! cells that a monitor keeps, and behind the image come the certificate (6) and a verdict that does not accept the machine, which is
+//! written (1, 2). The status is 8 where a file cannot be read, 9 where the output cannot be written, 10 where memory is refused, and
+//! 11 where a file is not there. What was put before a fault stays. No file is saved.
+//!
+//! As text or as a dump, on 0 the state is the one that `pgv bare` reaches in the steps done. What each status means is a clause (`run`,
+//! `carry`, `carry_vcd`, `carry_json`), which says less of the run as a dump or as JSON.
 //!
 //! - `trace`: the call. `request`: the words. `prepare`: the files, to a `plan`. `work`: what there is to do, with what is kept of a
 //!   certificate. `monitor`: the monitor of its family. `until`: how many steps are done of a run that ends before. `carry`: the run and

@@ -3,8 +3,8 @@
 //! The hardware does the steps in bursts, and tells of each where its state came to stay without a trap. What traps it does not tell:
 //! a burst ends with it. The step behind a burst is interpreted instead (`step_seen`), which tells of every step whether it leaves the
 //! state as it is. Where that one traps, and leaves the state so, the step before, with which the burst ended, may have done so too.
-//! Then the machine is switched on once more, runs up to there, and the state is looked at (`first_about`). So a run that a trap ends
-//! takes twice the time, and no other.
+//! Then the machine is switched on once more, runs up to there, and the state is looked at (`first_about`), instead of a state being
+//! kept before each trap. So a run that a trap ends takes twice the time, and no other.
 
 ghost use Rattle.std.specs.Prelude.{◌≡◌, ◌≤◌, ◌<◌, ◌-◌, ◌+◌, IfOk, OnErr, Some, true, false, length};
 ghost use Rattle.pg_hw.specs.Bursts.{traps};

@@ -1,8 +1,9 @@
 //! Runs of guests that end: each guest has its turns until it is still, or has had as many as it may have.
 //!
 //! A guest is still where a step leaves its state as it is, as a jump to itself does: every later step then does so too. Guests run by
-//! slices in rounds, as those of `run` do. One that was found still in a round has no turn in later ones, and the run ends when no
-//! guest is left, or all steps were made.
+//! slices in rounds, as those of `run` do. One that was found still in a round has the rest of its slice, instead of leaving at once,
+//! and no turn in later ones: so the turns are rounds of slices, and which guest has which turn follows from when each is first still.
+//! The run ends when no guest is left, or all steps were made.
 //!
 //! # Modules
 //!

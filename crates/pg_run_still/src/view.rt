@@ -1,4 +1,4 @@
-//! What is told of a guest in place of its state.
+//! What is told of a guest in place of its state, and not beside it. Behind bytes stands a line feed, so that what follows begins a line.
 
 ghost use Rattle.std.specs.Prelude.{◌<◌, ◌≤◌};
 
