@@ -108,6 +108,8 @@ class Prover:
         missing = [it.name for it in below if not os.path.exists(f"{it.rlib}/format")]
         if missing:
             raise Unproved(missing)
+        # (it starts a process that ends with this one, which only the main thread may)
+        self.guard = self.rtlib.guarded()
         self.checks, self.kept = 0, None
 
     def start(self):
@@ -135,7 +137,7 @@ class Prover:
                 Path(room, path).write_text(text)
             words = [self.rtlib.RATTLE, "check", *self.crate.words([*JOBS, *words], keeps=False), "--incremental", self.kept.name]
             how = {"cwd": room, "stdin": subprocess.DEVNULL, "stdout": subprocess.PIPE, "stderr": subprocess.STDOUT}
-            ran = subprocess.run([*self.rtlib.guarded(), *words], text=True, errors="replace", check=False, **how)
+            ran = subprocess.run([*self.guard, *words], text=True, errors="replace", check=False, **how)
         self.keep(ran.stdout)
         return Answer(self.crate.name, ran)
 

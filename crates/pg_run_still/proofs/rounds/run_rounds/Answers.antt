@@ -42,7 +42,7 @@ returns-then-not-is_any_going-clause-ran g c =
     let before = c.loop-done.invariant in
     let old = g.H.Hardware.machinery c.args.hw.now in
     let none : All (λ (rest : Rest). rest.still ≡ None → ⊥) c.loop-done.rests.items =
-    All-same (λ (rest : Rest). rest.still ≡ None → ⊥) _ _ (sym c.as_slice.ensures.value) (c.is_any_going.ensures.none c.if-not-is_any_going.true) in
+    All-same (λ (rest : Rest). rest.still ≡ None → ⊥) _ _ (sym c.as_slice-in-loop-done.ensures.value) (c.is_any_going.ensures.none c.if-not-is_any_going.true) in
     Going-end m.desc c.args.slice c.args.steps c.loop-done.done _ _ c.args.monitor.now.guests _ _ _ _ (length-map c.args.monitor.now.guests (virtual old.state.cells)) before.going
     (λ rest held on. absurd (All-at (λ (r : Rest). r.still ≡ None → ⊥) c.loop-done.rests.items held.0 rest none held.1 on))
 
