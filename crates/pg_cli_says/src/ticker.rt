@@ -150,8 +150,9 @@ impl<'a, C: Clock, E: Write + Drop> Ticker<'a, C, E> {
         let seconds = self.seconds();
         if seconds > 0 {
             put_speed(&mut self.text, pace, seconds);
+            let program = self.lines.program.name();
             if let Ok(text) = self.text.whole() {
-                let _ = note(&mut self.lines.error, self.lines.program.name(), text);
+                let _ = note(&mut self.lines.error, program, text);
             }
         }
     }
