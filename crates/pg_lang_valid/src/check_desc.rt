@@ -2,11 +2,9 @@
 //!
 //! `test_all` tests the seven classes of `Valid` in their order, each over the whole description before the next: the fault
 //! that comes is that of the first class that has one, as the definition of that class names it. A class may rest on those
-//! before it, as the widths on names that mean something. The table of names is filled by the test that each is given once,
-//! and is handed on for the machine to keep. `pg_mach_ready`, above, makes a machine of what passes.
+//! before it, as the widths on names that mean something. `pg_mach_ready`, above, makes a machine of what passes.
 
-ghost use Rattle.std.specs.Prelude.{◌≡◌, None, IfOk, IfErr, OnOk};
-ghost use Rattle.pg_lang_valid.specs.Twice.{instr_names};
+ghost use Rattle.std.specs.Prelude.{◌≡◌, None, IfErr, OnOk};
 ghost use Rattle.pg_lang_valid.specs.Valid.{IsValid};
 ghost use Rattle.pg_lang_valid.specs.Verdicts.{IsFaultOf, IsFault, part_fault};
 
@@ -15,15 +13,13 @@ use crate::classes::{
     test_widths,
 };
 use crate::fault::TypeFault;
-use crate::table::NameTable;
 use pg_ast::Desc;
 use std::alloc::Global;
 
-/// Tests each class of validity over the whole description before the next, and gives the names of the instructions. The
-/// error is the fault of the first class that has one, or out of memory.
-pub fn test_all(alloc: Global, desc: &Desc) -> Result<NameTable, TypeFault>
+/// Tests each class of validity over the whole description before the next. The error is the fault of the first class that
+/// has one, or out of memory.
+pub fn test_all(alloc: Global, desc: &Desc) -> Result<(), TypeFault>
     ensures valid { OnOk result (IsValid desc.now) }
-    ensures names { IfOk result (λ names. names ≡ instr_names desc.now.instrs) }
     ensures fault { IfErr result (λ fault. IsFault desc.now fault) }
 {
     match test_shape(desc) {
@@ -34,15 +30,14 @@ pub fn test_all(alloc: Global, desc: &Desc) -> Result<NameTable, TypeFault>
         Err(fault) => return Err(fault),
         Ok(()) => {}
     }
-    let names = match test_names_once(alloc, desc) {
-        Err(fault) => return Err(fault),
-        Ok(names) => names,
-    };
-    match test_parts(alloc, desc) {
+    match test_names_once(alloc, desc) {
         Err(fault) => return Err(fault),
         Ok(()) => {}
     }
-    Ok(names)
+    match test_parts(alloc, desc) {
+        Err(fault) => Err(fault),
+        Ok(()) => Ok(()),
+    }
 }
 
 /// Tests the last four classes, of patterns and of bodies. The error is the fault of the first of them that has one, or out

@@ -6,7 +6,7 @@
 //! and of overlaps take no memory. A name goes into a fault as a copy, since the fault outlives the loan of the
 //! description.
 
-ghost use Rattle.std.specs.Prelude.{◌≡◌, ◌+◌, ◌*◌, nat_le, None, [], IfOk, OnOk, IfErr};
+ghost use Rattle.std.specs.Prelude.{◌≡◌, ◌+◌, ◌*◌, nat_le, None, [], OnOk, IfErr};
 ghost use Rattle.pg_word.specs.Shape.{bits_above};
 ghost use Rattle.pg_lang_valid.specs.Twice.{first_twice, instr_names, let_twice_among};
 ghost use Rattle.pg_lang_valid.specs.Valid.{has_shape, shape_fault, limit_fault, as_twice, twice_fault, pattern_fault, overlap_fault, name_fault, width_fault};
@@ -69,10 +69,9 @@ pub fn test_limits(desc: &Desc) -> Result<(), TypeFault>
     }
 }
 
-/// The names of instructions in a table, or the first that is given twice. The other fault is `Memory`.
+/// Tests the names of instructions. The fault is `Twice` or `Memory`.
 #[tactic(auto, unfolding(crate::specs::Twice::first_twice))]
-fn name_table(alloc: Global, instrs: &[Instr]) -> Result<NameTable, TypeFault>
-    ensures names { IfOk result (λ table. table ≡ instr_names instrs.now) }
+fn test_instr_names(alloc: Global, instrs: &[Instr]) -> Result<(), TypeFault>
     ensures ok { OnOk result (as_twice (first_twice [] (instr_names instrs.now)) ≡ None) }
     ensures err { IfErr result (λ fault. IsFaultOf (as_twice (first_twice [] (instr_names instrs.now))) fault) }
 {
@@ -87,7 +86,7 @@ fn name_table(alloc: Global, instrs: &[Instr]) -> Result<NameTable, TypeFault>
             },
         }
     }
-    Ok(table)
+    Ok(())
 }
 
 /// Tests the names of lets. The fault is `Twice` or `Memory`.
@@ -105,21 +104,19 @@ fn test_lets(alloc: Global, instrs: &[Instr]) -> Result<(), TypeFault>
     }
 }
 
-/// Tests the names of instructions, which it then gives in a table, and after them those of lets. The fault is `Twice` or
-/// `Memory`.
+/// Tests the names of instructions, and after them those of lets. The fault is `Twice` or `Memory`.
 #[tactic(auto, using(crate::proofs::FaultLemmas::twice_rules))]
-pub fn test_names_once(alloc: Global, desc: &Desc) -> Result<NameTable, TypeFault>
-    ensures names { IfOk result (λ table. table ≡ instr_names desc.now.instrs) }
+pub fn test_names_once(alloc: Global, desc: &Desc) -> Result<(), TypeFault>
     ensures ok { OnOk result (twice_fault desc.now ≡ None) }
     ensures err { IfErr result (λ fault. IsFaultOf (twice_fault desc.now) fault) }
 {
-    let table = match name_table(alloc, desc.instrs.as_slice()) {
+    match test_instr_names(alloc, desc.instrs.as_slice()) {
         Err(fault) => return Err(fault),
-        Ok(table) => table,
-    };
+        Ok(()) => {}
+    }
     match test_lets(alloc, desc.instrs.as_slice()) {
         Err(fault) => Err(fault),
-        Ok(()) => Ok(table),
+        Ok(()) => Ok(()),
     }
 }
 

@@ -1,11 +1,10 @@
-//! The names of instructions, found by look-up.
+//! The table of the names of instructions, by which the test that each is given once looks them up.
 //!
-//! The test that each name is given once fills the table, and the machine keeps it, so that an instruction is found by
-//! its name without a walk over the description. Contracts see the names in the order in which they came, which for a
-//! machine is the order of the instructions: a place in it is an instruction's number. The table owns copies of the
-//! names. Only `insert` takes memory.
+//! Contracts see the names in the order in which they came. The table owns copies of the names. Only `insert` takes memory.
+//! No public call names it: a library whose public calls name such a table keeps all statements of `indexmap` for the crates
+//! above it.
 
-ghost use Rattle.std.specs.Prelude.{◌≡◌, ℕ, ◌<◌, not, if◌then◌else◌, List, [], ◌∷◌, ◌++◌, length, position, bytes_eq, slice_get, Some, IfOk, OnErr};
+ghost use Rattle.std.specs.Prelude.{◌≡◌, not, if◌then◌else◌, [], ◌∷◌, ◌++◌, IfOk, OnErr};
 ghost use Rattle.pg_lang_valid.specs.Twice.{is_among};
 
 use indexmap::IndexSet;
@@ -34,28 +33,6 @@ impl NameTable {
         NameTable {
             names: IndexSet::new(alloc),
         }
-    }
-
-    /// How many names there are.
-    pub fn len(&self) -> usize
-        ensures { result ≡ length self.now }
-    {
-        self.names.len()
-    }
-
-    /// The name of a number.
-    pub fn name(&self, number: usize) -> &[u8]
-        requires { number < length self.now }
-        ensures { slice_get self.now number ≡ Some result.now }
-    {
-        self.names.as_slice()[number].as_slice()
-    }
-
-    /// The number of a name.
-    pub fn find(&self, name: &[u8]) -> Option<usize>
-        ensures { result ≡ position (λ n. bytes_eq n name.now) self.now }
-    {
-        self.names.get_index_of(name)
     }
 
     /// Adds a name at the end, if it is not there, and says whether it was not. The error is out of memory, and the names

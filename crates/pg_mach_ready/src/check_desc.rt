@@ -27,11 +27,11 @@ pub fn check(alloc: Global, desc: Desc) -> Result<Machine, (Desc, TypeFault)>
 {
     match test_all(alloc, &desc) {
         Err(fault) => Err((desc, fault)),
-        Ok(names) => match DecodeTable::of(alloc, desc.instrs.as_slice()) {
+        Ok(()) => match DecodeTable::of(alloc, desc.instrs.as_slice()) {
             Err(_) => Err((desc, TypeFault::Memory)),
             Ok(table) => match Codes::of(alloc, &desc, table.decoders.as_slice()) {
                 Err(_) => Err((desc, TypeFault::Memory)),
-                Ok(codes) => Ok(Machine::of(desc, names, table, codes, WordTable::new(alloc))),
+                Ok(codes) => Ok(Machine::of(desc, table, codes, WordTable::new(alloc))),
             },
         },
     }

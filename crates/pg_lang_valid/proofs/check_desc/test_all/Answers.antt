@@ -13,8 +13,5 @@ returns-in-Err-test_names_once-clause-fault c = of_names_once c.args.desc.now c.
 pub returns-in-Err-test_parts-clause-fault : goal.returns-in-Err-test_parts-clause-fault
 returns-in-Err-test_parts-clause-fault c = of_parts c.args.desc.now c.in-Err-test_parts.fault c.in-Ok.ensures.ok c.in-Ok-test_limits.ensures.ok c.in-Ok-test_names_once.ensures.ok c.in-Err-test_parts.ensures.err
 
-pub returns-clause-valid : goal.returns-clause-valid
-returns-clause-valid c = valid_of c.args.desc.now c.in-Ok.ensures.ok c.in-Ok-test_limits.ensures.ok c.in-Ok-test_names_once.ensures.ok c.in-Ok-test_parts.ensures.ok
-
-pub returns-clause-names : goal.returns-clause-names
-returns-clause-names c = c.in-Ok-test_names_once.ensures.names
+pub returns-in-Ok-test_parts-clause-valid : goal.returns-in-Ok-test_parts-clause-valid
+returns-in-Ok-test_parts-clause-valid c = valid_of c.args.desc.now c.in-Ok.ensures.ok c.in-Ok-test_limits.ensures.ok c.in-Ok-test_names_once.ensures.ok c.in-Ok-test_parts.ensures.ok
