@@ -20,7 +20,7 @@ use Rattle.pg_ast.specs.declared.tree.Instr.{Instr}
 use Rattle.pg_ast.specs.declared.tree.Desc.{Desc}
 use Rattle.pg_type.specs.declared.kind.Kind.{Kind}
 use Rattle.pg_symex.specs.Runs.{AllRunRight}
-use Rattle.pg_mach_pairs.specs.Pair.{PairShows}
+use Rattle.pg_type.specs.Pair.{PairShows}
 use Rattle.pg_ask.specs.Question.{Question, question_made}
 use Rattle.pg_ask.specs.Means.{IsQuestion, pair_of, StandFor, AnswersShow}
 use Rattle.pg_ask.proofs.TruthLaws.{pad, length-pad, get_or-pad, padded-same}

@@ -27,7 +27,7 @@ use Rattle.pg_type.specs.declared.kind.Kind.TheVariants.{Privileged, Control, Mo
 use Rattle.pg_type.specs.Kinds.{fetched_word}
 use Rattle.pg_symex.specs.There.{AreBits}
 use Rattle.pg_symex.specs.Runs.{AllRunRight}
-use Rattle.pg_mach_pairs.specs.Pair.{Pair, Relates, IsInBothModes, IsGivenTwice, IsMoved, IsRebounded, Ends, first_course, second_course, PairShows}
+use Rattle.pg_type.specs.Pair.{Pair, Relates, IsInBothModes, IsGivenTwice, IsMoved, IsRebounded, Ends, first_course, second_course, PairShows}
 use Rattle.pg_ask.specs.Unknowns.{moves, rebounds}
 use Rattle.pg_ask.specs.Question.{Question, question_made}
 use Rattle.pg_ask.specs.Means.{pair_of, StandFor, AssignmentsShow}

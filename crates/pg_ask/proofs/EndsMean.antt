@@ -8,7 +8,7 @@ use Rattle.pg_lang_meaning.specs.Bodies.{Course, Going, After}
 use Rattle.pg_type.specs.declared.kind.Kind.{Kind}
 use Rattle.pg_type.specs.declared.kind.Kind.TheVariants.{Privileged, Control, ModeDep, Location, Bound, UControl, ULocation, UBound}
 use Rattle.pg_type.specs.Kinds.{ChangesControl}
-use Rattle.pg_mach_pairs.specs.Pair.{Pair, Ends}
+use Rattle.pg_type.specs.Pair.{Pair, Ends}
 use Rattle.pg_ask.specs.declared.unknowns.Unknowns.{Unknowns}
 use Rattle.pg_ask.specs.declared.ends.End.{End}
 use Rattle.pg_ask.proofs.EndsLaws.{stays_of, seen_apart_of, ends_of, ends_at}

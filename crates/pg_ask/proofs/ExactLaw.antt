@@ -11,10 +11,10 @@ use Rattle.pg_lang_meaning.specs.States.{State}
 use Rattle.pg_type.specs.declared.kind.Kind.{Kind}
 use Rattle.pg_type.specs.Kinds.{Shows}
 use Rattle.pg_symex.specs.Runs.{AllRunRight}
-use Rattle.pg_mach_pairs.specs.Pair.{Pair, PairShows}
-use Rattle.pg_mach_pairs.specs.Placing.{state_around}
-use Rattle.pg_mach_pairs.proofs.PairLemmas.{pairs_show, states_shown}
-use Rattle.pg_mach_pairs.proofs.PlacingLemmas.{states_around}
+use Rattle.pg_type.specs.Pair.{Pair, PairShows}
+use Rattle.pg_type.specs.Placing.{state_around}
+use Rattle.pg_type.proofs.PairLemmas.{pairs_show, states_shown}
+use Rattle.pg_type.proofs.PlacingLemmas.{states_around}
 use Rattle.pg_ask.specs.Question.{Question, question_made}
 use Rattle.pg_ask.specs.Means.{pair_of, StandFor, QuestionsExact}
 use Rattle.pg_ask.proofs.TruthLaws.{pad, length-pad, padded-same}

@@ -19,7 +19,7 @@ use Rattle.pg_ast.specs.declared.tree.Instr.{Instr}
 use Rattle.pg_ast.specs.declared.tree.Desc.{Desc}
 use Rattle.pg_type.specs.declared.kind.Kind.{Kind}
 use Rattle.pg_symex.specs.Runs.{AllRunRight}
-use Rattle.pg_mach_pairs.specs.Pair.{Pair, PairShows}
+use Rattle.pg_type.specs.Pair.{Pair, PairShows}
 use Rattle.pg_ask.specs.Question.{Question, question_made}
 use Rattle.pg_ask.specs.Means.{IsQuestion, pair_of, StandFor, named_cells, named_pair, AnswersName}
 use Rattle.pg_ask.proofs.QuestionLaws.{question-means}

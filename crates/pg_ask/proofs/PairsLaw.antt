@@ -31,7 +31,7 @@ use Rattle.pg_type.specs.declared.kind.Kind.{Kind}
 use Rattle.pg_type.specs.declared.kind.Kind.TheVariants.{Privileged, Control, ModeDep, Location, Bound, UControl, ULocation, UBound}
 use Rattle.pg_symex.specs.Numbers.{entry_psw}
 use Rattle.pg_symex.specs.Runs.{AllRunRight}
-use Rattle.pg_mach_pairs.specs.Pair.{Pair, IsPair, Relates, IsInBothModes, IsGivenTwice, first_course, second_course, PairShows}
+use Rattle.pg_type.specs.Pair.{Pair, IsPair, Relates, IsInBothModes, IsGivenTwice, first_course, second_course, PairShows}
 use Rattle.pg_ask.specs.declared.unknowns.Unknowns.{Unknowns}
 use Rattle.pg_ask.specs.Unknowns.{moves, rebounds, first_regs, second_regs}
 use Rattle.pg_ask.specs.Question.{Question, question_made}

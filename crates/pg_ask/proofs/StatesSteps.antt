@@ -20,9 +20,9 @@ use Rattle.pg_type.specs.declared.kind.Kind.{Kind}
 use Rattle.pg_type.specs.Kinds.{Shows}
 use Rattle.pg_type.specs.Listed.{state_of}
 use Rattle.pg_symex.proofs.RunLaw.{all_run_right}
-use Rattle.pg_mach_pairs.specs.Placing.{window_of, state_around}
-use Rattle.pg_mach_pairs.proofs.PairLemmas.{pairs_show}
-use Rattle.pg_mach_pairs.proofs.PlacingLemmas.{states_around}
+use Rattle.pg_type.specs.Placing.{window_of, state_around}
+use Rattle.pg_type.proofs.PairLemmas.{pairs_show}
+use Rattle.pg_type.proofs.PlacingLemmas.{states_around}
 use Rattle.pg_ask.specs.declared.unknowns.Unknowns.{Unknowns}
 use Rattle.pg_ask.specs.Question.{question_made, question}
 use Rattle.pg_ask.specs.Asked.{IsQuestionOf, IsAsked}

@@ -17,8 +17,8 @@ use Rattle.pg_lang_valid.specs.Valid.{IsValid}
 use Rattle.pg_type.specs.declared.kind.Kind.{Kind}
 use Rattle.pg_symex.specs.Numbers.{entry_psw}
 use Rattle.pg_symex.specs.There.{AreBits}
-use Rattle.pg_mach_pairs.specs.Pair.{Pair, PairShows}
-use Rattle.pg_mach_pairs.specs.Placing.{window_of}
+use Rattle.pg_type.specs.Pair.{Pair, PairShows}
+use Rattle.pg_type.specs.Placing.{window_of}
 use Rattle.pg_ask.specs.Unknowns.{first_regs, second_regs}
 use Rattle.pg_ask.specs.There.{AreUnknowns}
 use Rattle.pg_ask.specs.Ends.{view_for}

@@ -13,7 +13,7 @@ ghost use Rattle.pg_ask.specs.Means.{psw_of, named_cells};
 use crate::asking::Asked;
 use pg_cells::Cell;
 use pg_circuit::Gate;
-use pg_mach_pairs::placed;
+use pg_type::placed;
 use pg_vec::Bits;
 use pg_word::{Mode, Psw, Sparse};
 use std::alloc::{AllocError, Global};

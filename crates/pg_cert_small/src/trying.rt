@@ -6,7 +6,7 @@ ghost use Rattle.pg_cert_small.specs.Trying.{IsShown};
 use crate::extent::Extent;
 use crate::pair::{Aim, Change, Pair};
 use crate::words::words_after;
-use pg_mach_pairs::placed;
+use pg_type::placed;
 use pg_replay::replay;
 use pg_word::{Sparse, window_len};
 use std::alloc::{AllocError, Global};

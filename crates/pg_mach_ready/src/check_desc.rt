@@ -12,9 +12,8 @@ ghost use Rattle.pg_lang_valid.specs.Verdicts.{IsFault};
 use crate::machine::Machine;
 use pg_ast::Desc;
 use pg_lang_valid::{TypeFault, test_all};
-use pg_mach_code::Codes;
-use pg_mach_decode::DecodeTable;
-use pg_mach_short::WordTable;
+use pg_mach_code::{Codes, WordTable};
+use crate::DecodeTable;
 use std::alloc::Global;
 
 /// Tests a description. A valid one becomes a machine; of any other, which comes back, the fault is that of the first class

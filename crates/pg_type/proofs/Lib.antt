@@ -8,3 +8,5 @@ pub mod PaperLemmas
 pub mod AgreeLemmas
 pub mod AgreeRows
 pub mod UserRows
+pub mod PairLemmas
+pub mod PlacingLemmas

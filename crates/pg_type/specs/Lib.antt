@@ -9,6 +9,9 @@ pub mod WorkedRuns
 pub mod WorkedKinds
 pub mod WorkedUserMode
 pub mod WorkedAgreeing
+pub mod Pair
+pub mod PairStates
+pub mod Placing
 pub use Rattle.pg_lang_meaning.specs.Patterns
 pub use Rattle.pg_lang_meaning.specs.Fields
 pub use Rattle.pg_lang_meaning.specs.Decoders

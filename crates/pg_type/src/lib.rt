@@ -10,6 +10,13 @@
 //! of Theorem 3. `alike` says what a monitor gains by it: what is done in user mode is done alike wherever the window and
 //! P are the same. `laws` has what else follows from the definitions alone.
 //!
+//! Whether an instruction has a kind is asked about two states of one window. What it does there depends on the window, on the
+//! two program status words and on the word at P alone, so a question about it need not speak of storages: it has a pair of
+//! states as a window, two program status words and two sizes (`specs/Pair.antt`). `pair_laws` says that nothing is lost by
+//! that: two states show a kind exactly where they are those of a pair that shows it. `placing` goes back from a pair to its
+//! states: it makes the state of a window of which few words are named, with zeros in all other cells, and `pair_laws` says
+//! that two such states are those of their pair.
+//!
 //! What instructions mean stands in `pg_lang_meaning`, which descriptions are valid in `pg_lang_valid`, and a valid one made ready is a
 //! `Machine` of `pg_mach_ready`. Their public names and definitions are passed on from here.
 #![tactic(auto)]
@@ -18,6 +25,8 @@ mod accepted;
 pub mod alike;
 mod kind;
 pub mod laws;
+pub mod pair_laws;
+mod placing;
 pub mod rows;
 
 pub use accepted::{Accepted, HybridAccepted};
@@ -25,3 +34,4 @@ pub use kind::Kind;
 pub use pg_lang_meaning::{Decoder, Field, field_of, matches};
 pub use pg_lang_valid::{Limit, TypeFault};
 pub use pg_mach_ready::{Machine, check};
+pub use placing::placed;

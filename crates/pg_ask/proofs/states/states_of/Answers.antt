@@ -1,5 +1,5 @@
 use Rattle.std.proofs.Common.{◌∙◌, refl, ap}
-use Rattle.pg_mach_pairs.specs.Placing.{window_of, state_around}
+use Rattle.pg_type.specs.Placing.{window_of, state_around}
 use Rattle.pg_ask.proofs.StatesSteps.{stands_as, room_as, placed_show}
 use Rattle.pg_ask.proofs.states.states_of.Goals as goal
 

@@ -2,7 +2,7 @@ use Rattle.std.proofs.Common.{◌≤◌, List, length, All, sym, subst}
 use Rattle.pg_ast.specs.declared.tree.Instr.{Instr}
 use Rattle.pg_lang_valid.proofs.PatternFacts.{valid-short}
 use Rattle.pg_lang_valid.proofs.FaultLemmas.{valid_memory}
-use Rattle.pg_mach_decode.specs.Skips.{IsTable}
+use Rattle.pg_mach_ready.specs.Skips.{IsTable}
 use Rattle.pg_mach_ready.proofs.check_desc.check.Goals as goal
 
 pub returns-in-Err-clause-only_memory : goal.returns-in-Err-clause-only_memory

@@ -1,2 +1,0 @@
-pub mod SkipLemmas
-pub mod TellingLemmas

@@ -1,5 +1,0 @@
-use Rattle.pg_mach_decode.proofs.TellingLemmas.{lie_within}
-use Rattle.pg_mach_decode.proofs.laws.bits_lie_within_the_word.Goals as goal
-
-pub returns : goal.returns
-returns c = lie_within

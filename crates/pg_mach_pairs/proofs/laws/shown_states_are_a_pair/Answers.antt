@@ -1,5 +1,0 @@
-use Rattle.pg_mach_pairs.proofs.PairLemmas.{states_shown}
-use Rattle.pg_mach_pairs.proofs.laws.shown_states_are_a_pair.Goals as goal
-
-pub returns : goal.returns
-returns c = states_shown

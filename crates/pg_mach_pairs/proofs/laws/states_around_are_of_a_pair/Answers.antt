@@ -1,5 +1,0 @@
-use Rattle.pg_mach_pairs.proofs.PlacingLemmas.{states_around}
-use Rattle.pg_mach_pairs.proofs.laws.states_around_are_of_a_pair.Goals as goal
-
-pub returns : goal.returns
-returns c = states_around
