@@ -1,1 +1,4 @@
 pub mod Classified
+pub mod Lowering
+pub mod Changes
+pub mod Trying

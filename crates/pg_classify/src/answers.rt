@@ -13,7 +13,7 @@ ghost use Rattle.pg_classify.specs.Classified.{IsFound};
 
 use pg_ask::{Asked, states_of};
 use pg_cert::Finding;
-use pg_cert_small::small;
+use crate::small;
 use pg_proof::{Act, ActList, trim};
 use pg_sat::{Answer, SearchWatcher, StepList};
 use pg_sat_search::solve_watched;

@@ -11,7 +11,7 @@ use pg_cert::put::kind_name;
 use pg_io_host::Progress;
 use pg_io_host::telling::note;
 use pg_out_place::Text;
-use pg_run_base::Pace;
+use pg_run_guests::Pace;
 use pg_type::Kind;
 use std::alloc::Global;
 use std::cell::RefCell;

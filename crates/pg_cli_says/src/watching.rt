@@ -16,7 +16,7 @@ use pg_cmd_certs::{JudgedMachine, VerdictWatcher, tell_verdict};
 use pg_io_host::streams::write_whole;
 use pg_io_host::{Refused, StdSink};
 use pg_report::{CertificateLine, RefusalLine};
-use pg_run_base::{Pace, RunWatcher};
+use pg_run_guests::{Pace, RunWatcher};
 use pg_type::Kind;
 use std::alloc::{AllocError, Global};
 use std::cell::RefCell;

@@ -5,3 +5,5 @@ pub mod TellingLemmas
 pub mod OneCertificate
 pub mod OneJudged
 pub mod GuestLemmas
+pub mod SavingLemmas
+pub mod CheckedLemmas

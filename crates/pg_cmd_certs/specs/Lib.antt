@@ -6,3 +6,6 @@ pub mod Telling
 pub mod Views
 pub mod Guests
 pub mod GuestViews
+pub mod Saving
+pub mod Checked
+pub mod WrittenViews

@@ -7,10 +7,10 @@ use Rattle.pg_cert.specs.declared.report.Report.{Report}
 use Rattle.pg_cli_table.specs.declared.check.CheckWords.{CheckWords}
 use Rattle.pg_cmd_check.specs.Check.{CheckEnds, CheckUnsaved}
 use Rattle.pg_cmd_certs.specs.Judged.{Judged, verdict_on, verdict_status, verdict_told}
-use Rattle.pg_cmd_outputs.specs.Checked.{IsChecked}
-use Rattle.pg_cmd_outputs.specs.Saving.{HasSaved, LeavesUnsaved}
+use Rattle.pg_cmd_certs.specs.Checked.{IsChecked}
+use Rattle.pg_cmd_certs.specs.Saving.{HasSaved, LeavesUnsaved}
 use Rattle.pg_cmd_base.specs.World.{World}
-use Rattle.pg_cmd_outputs.proofs.SavingLemmas.{ends_saved}
+use Rattle.pg_cmd_certs.proofs.SavingLemmas.{ends_saved}
 
 module _ (family : Family) (c : CheckWords) (j : Judged) (old new : World) (bytes : List ℕ) (valid : IsValid j.desc)
     (h : IsChecked j.desc family c.budget bytes j.report) (hw : new.hw ≡ old.hw) where

@@ -22,14 +22,14 @@ use Rattle.pg_cmd_base.specs.Answering.{Comes}
 use Rattle.pg_cmd_certs.specs.Certificates.{CertTextDue, CertDue}
 use Rattle.pg_cmd_base.specs.FileSteps.{Faulty, HoldsWithin}
 use Rattle.pg_cmd_certs.specs.Judged.{Judged, verdict_on, verdict_status, verdict_told}
-use Rattle.pg_cmd_outputs.specs.Saving.{HasSaved, LeavesUnsaved}
+use Rattle.pg_cmd_certs.specs.Saving.{HasSaved, LeavesUnsaved}
 use Rattle.pg_cmd_check.specs.Migrate.{MigratesFile, IsMigratedText, MigrateEnds, MigrateUnsaved}
 use Rattle.pg_cmd_certs.specs.Parts.{IsStopOf}
 use Rattle.pg_cmd_base.specs.Steps.{Came}
 use Rattle.pg_cmd_base.specs.World.{World}
 use Rattle.pg_cmd_base.proofs.FileLemmas.{file-came}
 use Rattle.pg_cmd_certs.proofs.PartLemmas.{answer_ok, told_known}
-use Rattle.pg_cmd_outputs.proofs.SavingLemmas.{ends_saved}
+use Rattle.pg_cmd_certs.proofs.SavingLemmas.{ends_saved}
 
 -- ---- a certificate that is loaded whole
 

@@ -4,8 +4,8 @@ use Rattle.std.specs.Prelude.{ℕ, List, Option, Some}
 use Rattle.pg_ast.specs.declared.tree.Desc.{Desc}
 use Rattle.pg_cert.specs.declared.cert.Family.{Family}
 use Rattle.pg_cert.specs.declared.report.Report.{Report}
-use Rattle.pg_cmd_outputs.specs.Checked.{IsChecked}
-use Rattle.pg_cmd_outputs.specs.Saving.{EndsSaved, LeavesUnsaved}
+use Rattle.pg_cmd_certs.specs.Checked.{IsChecked}
+use Rattle.pg_cmd_certs.specs.Saving.{EndsSaved, LeavesUnsaved}
 use Rattle.pg_cli_table.specs.declared.check.CheckWords.{CheckWords}
 use Rattle.pg_edge.specs.Shelf.{Files}
 use Rattle.pg_cmd_base.specs.declared.status.Status.{Status}

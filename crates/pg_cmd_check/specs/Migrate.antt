@@ -12,7 +12,7 @@ use Rattle.pg_cmd_base.specs.declared.status.Status.{Status}
 use Rattle.pg_cmd_base.specs.Commands.{Command}
 use Rattle.pg_cmd_base.specs.FileSteps.{HoldsWithin}
 use Rattle.pg_cmd_certs.specs.Judged.{Judged, JudgedDue}
-use Rattle.pg_cmd_outputs.specs.Saving.{IsWritten, EndsSaved, LeavesUnsaved}
+use Rattle.pg_cmd_certs.specs.Saving.{IsWritten, EndsSaved, LeavesUnsaved}
 use Rattle.pg_cmd_base.specs.World.{World}
 
 -- a certificate that is made of the one that a file holds: it has the same findings, with its refutations trimmed

@@ -6,7 +6,7 @@
 //! saved. Then the text is saved, and after that the text of the verdict is put. No more memory is taken for either.
 
 ghost use Rattle.std.specs.Prelude.{IfOk};
-ghost use Rattle.pg_cmd_outputs.specs.Checked.{IsChecked};
+ghost use Rattle.pg_cmd_certs.specs.Checked.{IsChecked};
 ghost use Rattle.pg_cmd_base.specs.Answering.{Comes, OnlyReads};
 ghost use Rattle.pg_cmd_base.specs.Commands.{Carries};
 ghost use Rattle.pg_cmd_base.specs.World.{Keeps, around};
@@ -17,8 +17,7 @@ use pg_cert::Family;
 use pg_classify::Watcher;
 use pg_cli_table::CheckWords;
 use pg_cmd_base::{Status, Stop, StopWatcher, load_machine, stopped};
-use pg_cmd_certs::VerdictWatcher;
-use pg_cmd_outputs::{WrittenCert, checked};
+use pg_cmd_certs::{VerdictWatcher, WrittenCert, checked};
 use pg_edge::{Shelf, Sink};
 use pg_hw::Hardware;
 use std::alloc::Global;

@@ -7,7 +7,7 @@
 ghost use Rattle.std.specs.Prelude.{◌≡◌, IfOk, map};
 ghost use Rattle.pg_cert.specs.Verdicts.{mark_of};
 ghost use Rattle.pg_cert.specs.declared.cert.Family.TheVariants.{Plain};
-ghost use Rattle.pg_cmd_outputs.specs.Views.{written};
+ghost use Rattle.pg_cmd_certs.specs.WrittenViews.{written};
 ghost use Rattle.pg_cmd_certs.specs.Certificates.{CertDue};
 ghost use Rattle.pg_cmd_certs.specs.Judged.{JudgedDue};
 ghost use Rattle.pg_cmd_base.specs.Answering.{Comes, OnlyReads};
@@ -20,8 +20,7 @@ use pg_cert::{Family, write};
 use pg_cert_migrate::{Migrated, ReadWatcher, migrate_watched};
 use pg_cli_table::{FileName, MigrateWords};
 use pg_cmd_base::{Status, Stop, StopWatcher, load_file, load_machine, stop_of, stopped};
-use pg_cmd_certs::{JudgedMachine, VerdictWatcher, stop_of_text};
-use pg_cmd_outputs::WrittenCert;
+use pg_cmd_certs::{JudgedMachine, VerdictWatcher, WrittenCert, stop_of_text};
 use pg_edge::{Shelf, Sink};
 use pg_hw::Hardware;
 use pg_mach_ready::Machine;

@@ -1,15 +1,14 @@
 //! A certificate is saved, and its verdict told behind that. No memory is taken for either.
 
 ghost use Rattle.std.specs.Prelude.{Some};
-ghost use Rattle.pg_cmd_outputs.specs.Saving.{SavedAs};
+ghost use Rattle.pg_cmd_certs.specs.Saving.{SavedAs};
 ghost use Rattle.pg_cmd_certs.specs.Views.{judged};
 ghost use Rattle.pg_cmd_base.specs.Classes.{class_of};
 ghost use Rattle.pg_cmd_base.specs.World.{Keeps, around};
 
 use pg_cli_table::FileName;
 use pg_cmd_base::Status;
-use pg_cmd_certs::{VerdictWatcher, tell_verdict};
-use pg_cmd_outputs::{WrittenCert, save_text};
+use pg_cmd_certs::{VerdictWatcher, WrittenCert, save_text, tell_verdict};
 use pg_edge::{Shelf, Sink};
 use pg_hw::Hardware;
 

@@ -14,25 +14,25 @@ use Rattle.pg_cli_table.specs.declared.generating.GenWords.{GenWords}
 use Rattle.pg_cmd_gen.specs.Generated.{IsGenerated}
 use Rattle.pg_cmd_gen.specs.Images.{image_cells, image_count, images_of, IsFilled}
 use Rattle.pg_run_guests.specs.declared.running.Ran.{Ran}
-use Rattle.pg_run_guests.specs.Begun.{HaveRun}
+use Rattle.pg_run_guests.specs.HaveRun.{HaveRun}
 use Rattle.pg_run_guests.proofs.ToldLemmas.{summary-is}
 use Rattle.pg_mon_control.specs.declared.guest.Guest.{Guest}
 use Rattle.pg_mon_control.specs.Guests.{virtuals}
 use Rattle.pg_report.specs.Summaries.{summary_text}
-use Rattle.pg_run_base.specs.Runs.{GuestRun, run_of, summary_of_run}
-use Rattle.pg_run_base.specs.Setting.{CanRun, IsImage, image_cells as cells_in_images}
-use Rattle.pg_run_base.proofs.ReachedLemmas.{can-run}
+use Rattle.pg_run_guests.specs.Runs.{GuestRun, run_of, summary_of_run}
+use Rattle.pg_run_guests.specs.Setting.{CanRun, IsImage, image_cells as cells_in_images}
+use Rattle.pg_run_guests.proofs.ReachedLemmas.{can-run}
 use Rattle.pg_hw.specs.Machinery.{Machinery}
 use Rattle.pg_type.specs.Accepting.{IsAccepted}
 use Rattle.pg_cmd_gen.specs.declared.generating.plan.GenPlan.{GenPlan}
-use Rattle.pg_cmd_outputs.specs.Checked.{IsChecked}
+use Rattle.pg_cmd_certs.specs.Checked.{IsChecked}
 use Rattle.pg_cmd_gen.specs.Generating.{GenEnds, HaveRunBy, RanBy, gen_budget, gen_slice, gen_steps, generated_run, generated_text, run_told}
 use Rattle.pg_cmd_certs.specs.Judged.{Judged, verdict_on, verdict_status}
-use Rattle.pg_cmd_outputs.specs.Saving.{HasSaved}
+use Rattle.pg_cmd_certs.specs.Saving.{HasSaved}
 use Rattle.pg_cmd_certs.specs.Meaning.{IsAcceptedBy, Means}
 use Rattle.pg_cmd_gen.specs.Plans.{run_of_plan}
 use Rattle.pg_cmd_base.specs.World.{World}
-use Rattle.pg_cmd_outputs.proofs.SavingLemmas.{is_saved, written_means}
+use Rattle.pg_cmd_certs.proofs.SavingLemmas.{is_saved, written_means}
 
 -- ---- there can be a run
 

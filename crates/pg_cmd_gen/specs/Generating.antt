@@ -12,21 +12,21 @@ use Rattle.pg_edge.specs.Shelf.{Files}
 use Rattle.pg_cmd_gen.specs.Generated.{IsGenerated}
 use Rattle.pg_cmd_gen.specs.Images.{images_of}
 use Rattle.pg_run_guests.specs.declared.running.Ran.{Ran}
-use Rattle.pg_run_guests.specs.Begun.{HaveRun}
+use Rattle.pg_run_guests.specs.HaveRun.{HaveRun}
 use Rattle.pg_alloc.specs.Fit.{kept_cells}
-use Rattle.pg_run_guests.specs.Runs.{RanGuests}
-use Rattle.pg_run_base.specs.Runs.{GuestRun, summary_of_run, switched_on}
-use Rattle.pg_run_base.specs.Setting.{SetUp}
+use Rattle.pg_run_guests.specs.UnderMonitor.{RanGuests}
+use Rattle.pg_run_guests.specs.Runs.{GuestRun, summary_of_run, switched_on}
+use Rattle.pg_run_guests.specs.Setting.{SetUp}
 use Rattle.pg_hw.specs.Machinery.{Machinery}
 use Rattle.pg_report.specs.Summaries.{instructions_line}
 use Rattle.pg_report.specs.Verdicts.{outcome_line}
 use Rattle.pg_type.specs.Accepting.{IsAccepted}
 use Rattle.pg_cmd_base.specs.declared.status.Status.{Status}
 use Rattle.pg_cmd_base.specs.declared.refusal.Refusal.{Refusal}
-use Rattle.pg_cmd_outputs.specs.Checked.{IsChecked}
+use Rattle.pg_cmd_certs.specs.Checked.{IsChecked}
 use Rattle.pg_cmd_base.specs.Commands.{Command}
 use Rattle.pg_cmd_certs.specs.Judged.{verdict_status}
-use Rattle.pg_cmd_outputs.specs.Saving.{IsSaved, LeavesUnsaved}
+use Rattle.pg_cmd_certs.specs.Saving.{IsSaved, LeavesUnsaved}
 use Rattle.pg_cmd_base.specs.Steps.{Step, Came, Refused, Misread}
 use Rattle.pg_cmd_base.specs.World.{World}
 

@@ -1,7 +1,7 @@
 -- What the code has for the work of `gen`, as that of the definition.
-use Rattle.pg_run_base.specs.Runs.{GuestRun, run_of}
+use Rattle.pg_run_guests.specs.Runs.{GuestRun, run_of}
 use Rattle.pg_cmd_certs.specs.Judged.{Judged}
-use Rattle.pg_cmd_outputs.specs.Views.{written}
+use Rattle.pg_cmd_certs.specs.WrittenViews.{written}
 use Rattle.pg_cmd_gen.specs.declared.generating.plan.GenPlan.{GenPlan}
 use Rattle.pg_cmd_gen.specs.Generating.{gen_slice, gen_steps}
 

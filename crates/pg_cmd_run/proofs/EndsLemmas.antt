@@ -12,10 +12,10 @@ use Rattle.pg_mon_control.specs.declared.guest.Guest.{Guest}
 use Rattle.pg_mon_control.specs.Guests.{virtuals}
 use Rattle.pg_report.specs.Runs.{run_text}
 use Rattle.pg_run_guests.specs.declared.running.Ran.{Ran}
-use Rattle.pg_run_guests.specs.Begun.{HaveRun}
-use Rattle.pg_run_guests.specs.Runs.{RanGuests}
+use Rattle.pg_run_guests.specs.HaveRun.{HaveRun}
+use Rattle.pg_run_guests.specs.UnderMonitor.{RanGuests}
 use Rattle.pg_run_guests.proofs.ToldLemmas.{text-is}
-use Rattle.pg_run_base.specs.Runs.{GuestRun, reached_by, text_of}
+use Rattle.pg_run_guests.specs.Runs.{GuestRun, reached_by, text_of}
 use Rattle.pg_type.specs.Accepting.{IsAccepted}
 use Rattle.pg_cmd_base.specs.declared.status.Status.TheVariants.{Done}
 use Rattle.pg_cmd_certs.specs.Judged.{verdict_on, verdict_status, verdict_told}

@@ -10,11 +10,11 @@ use Rattle.pg_mon_control.specs.declared.guest.Guest.{Guest}
 use Rattle.pg_mon_control.specs.Guests.{virtuals}
 use Rattle.pg_lang_meaning.specs.Steps.{bare}
 use Rattle.pg_report.specs.Runs.{run_text}
-use Rattle.pg_run_hybrid.specs.declared.running.HybridRan.{HybridRan}
-use Rattle.pg_run_hybrid.specs.Ended.{HaveRunHybrid}
-use Rattle.pg_run_hybrid.specs.Runs.{RanHybrid, hybrid_text}
-use Rattle.pg_run_hybrid.proofs.ToldLemmas.{hybrid-text-is}
-use Rattle.pg_run_base.specs.Runs.{GuestRun, reached_by}
+use Rattle.pg_run_guests.specs.declared.hybrid_running.HybridRan.{HybridRan}
+use Rattle.pg_run_guests.specs.HaveRunHybrid.{HaveRunHybrid}
+use Rattle.pg_run_guests.specs.UnderHybrid.{RanHybrid, hybrid_text}
+use Rattle.pg_run_guests.proofs.HybridToldLemmas.{hybrid-text-is}
+use Rattle.pg_run_guests.specs.Runs.{GuestRun, reached_by}
 use Rattle.pg_type.specs.Accepting.{IsHybridAccepted}
 use Rattle.pg_cmd_base.specs.declared.status.Status.TheVariants.{Done}
 use Rattle.pg_cmd_certs.specs.Judged.{verdict_on, verdict_status, verdict_told}

@@ -15,8 +15,8 @@ use Rattle.pg_cmd_certs.proofs.JudgedLemmas.{IsRead}
 use Rattle.pg_cmd_certs.proofs.TellingLemmas.{ends-told, ends-left, verdict-ends}
 use Rattle.pg_lang_meaning.specs.States.{State, IsState}
 use Rattle.pg_lang_meaning.specs.Steps.{bare, power_on}
-use Rattle.pg_run_nest.specs.Nesting.{CanNest, IsInnermost, RanNested, direct_steps}
-use Rattle.pg_run_nest.specs.declared.nesting.Innermost.{Innermost}
+use Rattle.pg_run_guests.specs.Nesting.{CanNest, IsInnermost, RanNested, direct_steps}
+use Rattle.pg_run_guests.specs.declared.nesting.Innermost.{Innermost}
 use Rattle.pg_report.specs.Runs.{guest_line, run_text, steps_line}
 use Rattle.pg_report.specs.Spans.{span}
 use Rattle.pg_cmd_base.specs.Steps.{Came}

@@ -5,9 +5,9 @@ use Rattle.std.proofs.lemmas.Nat.{mul-le}
 use Rattle.pg_alloc.specs.Fit.{kept_cells}
 use Rattle.pg_mach_ready.specs.declared.machine.Machine.{Machine}
 use Rattle.pg_cmd_base.specs.Images.{Fills}
-use Rattle.pg_run_base.specs.Runs.{run_of}
-use Rattle.pg_run_base.specs.Setting.{IsImage, CanRun, image_cells}
-use Rattle.pg_run_base.proofs.ReachedLemmas as reached
+use Rattle.pg_run_guests.specs.Runs.{run_of}
+use Rattle.pg_run_guests.specs.Setting.{IsImage, CanRun, image_cells}
+use Rattle.pg_run_guests.proofs.ReachedLemmas as reached
 
 cells-filled : (w size : ℕ) (images : List (List ℕ)) → All (Fills w size) images → image_cells images ≡ length images * size
 cells-filled w size [] h = omega arith

@@ -4,8 +4,8 @@ use Rattle.pg_cert.specs.declared.cert.Family.TheVariants.{Hybrid}
 use Rattle.pg_cli_table.specs.declared.run.RunWords.{RunWords}
 use Rattle.pg_type.specs.Accepting.{IsHybridAccepted}
 use Rattle.pg_lang_meaning.specs.Steps.{bare}
-use Rattle.pg_run_hybrid.specs.Runs.{RanHybrid, hybrid_text}
-use Rattle.pg_run_base.specs.Runs.{reached_by}
+use Rattle.pg_run_guests.specs.UnderHybrid.{RanHybrid, hybrid_text}
+use Rattle.pg_run_guests.specs.Runs.{reached_by}
 use Rattle.pg_cmd_base.specs.declared.status.Status.{Status}
 use Rattle.pg_cmd_base.specs.declared.status.Status.TheVariants as status
 use Rattle.pg_cmd_base.specs.Commands.{Command}

@@ -13,7 +13,7 @@ use Rattle.pg_cmd_certs.specs.Judged.{Judged, verdict_on}
 use Rattle.pg_cmd_certs.specs.Telling.{EndsBy}
 use Rattle.pg_lang_meaning.specs.States.{State}
 use Rattle.pg_lang_meaning.specs.Steps.{bare}
-use Rattle.pg_run_nest.specs.Nesting.{RanNested, NotStepped, direct_steps}
+use Rattle.pg_run_guests.specs.Nesting.{RanNested, NotStepped, direct_steps}
 use Rattle.pg_report.specs.Runs.{run_text}
 use Rattle.pg_cmd_base.specs.declared.refusal.Refusal.{Refusal}
 use Rattle.pg_cmd_base.specs.declared.status.Status.{Status}

@@ -9,10 +9,10 @@ use Rattle.pg_cert.specs.declared.report.Verdict.TheVariants as verdict
 use Rattle.pg_cli_table.specs.declared.run.RunWords.{RunWords}
 use Rattle.pg_edge.specs.Shelf.{Files}
 use Rattle.pg_type.specs.Accepting.{IsAccepted}
-use Rattle.pg_run_guests.specs.Runs.{RanGuests}
+use Rattle.pg_run_guests.specs.UnderMonitor.{RanGuests}
 use Rattle.pg_lang_meaning.specs.Steps.{bare}
-use Rattle.pg_run_base.specs.Runs.{GuestRun, reached_by, switched_on, text_of}
-use Rattle.pg_run_base.specs.Setting.{SetUp}
+use Rattle.pg_run_guests.specs.Runs.{GuestRun, reached_by, switched_on, text_of}
+use Rattle.pg_run_guests.specs.Setting.{SetUp}
 use Rattle.pg_cmd_base.specs.declared.status.Status.{Status}
 use Rattle.pg_cmd_base.specs.declared.status.Status.TheVariants as status
 use Rattle.pg_cmd_base.specs.declared.refusal.Refusal.{Refusal}

@@ -1,7 +1,7 @@
 //! `hybrid`: images as guests under a hybrid monitor.
 //!
 //! It is `run` by a certificate of the hybrid family: what is loaded, in which order, and what is told where the verdict does not
-//! accept the machine, is the same (`prepare_run`). Else the images run as guests of one hybrid monitor (`pg_run_hybrid`),
+//! accept the machine, is the same (`prepare_run`). Else the images run as guests of one hybrid monitor (`pg_run_guests`),
 //! which interprets each turn from supervisor mode.
 
 ghost use Rattle.std.specs.Prelude.{◌≡◌, None};
@@ -17,8 +17,7 @@ use pg_cmd_base::{Status, StopWatcher, stopped};
 use pg_cmd_certs::{is_accepted, tell_verdict};
 use pg_edge::{Shelf, Sink};
 use pg_hw::Hardware;
-use pg_run_base::put_guests;
-use pg_run_hybrid::run_hybrid;
+use pg_run_guests::{put_guests, run_hybrid};
 use std::alloc::Global;
 
 /// Carries out `hybrid`.

@@ -2,13 +2,13 @@
 //!
 //! Description, room, image and certificate are loaded (`prepare_nest`), in the order of the definition (`NestDue`,
 //! `specs/Nest.antt`). Where its verdict does not accept the machine it is told, and nothing runs. Else the image runs under the
-//! monitors (`pg_run_nest`), the outermost of which runs on the hardware, and its text is put: that of the same image under
+//! monitors (`pg_run_guests`), the outermost of which runs on the hardware, and its text is put: that of the same image under
 //! one monitor. Memory is taken before the first step; where it is refused no step was made, but some monitors may have been set
 //! up.
 
 ghost use Rattle.std.specs.Prelude.{◌≡◌, None};
 ghost use Rattle.pg_edge.specs.Sink.{Puts};
-ghost use Rattle.pg_run_nest.specs.Nesting.{HoldsNested, IsInnermost};
+ghost use Rattle.pg_run_guests.specs.Nesting.{HoldsNested, IsInnermost};
 ghost use Rattle.pg_cmd_base.specs.Able.{IsAble};
 ghost use Rattle.pg_cmd_base.specs.Commands.{Carries};
 ghost use Rattle.pg_cmd_base.specs.World.{Keeps, around};
@@ -24,8 +24,7 @@ use pg_edge::{Failed, Shelf, Sink};
 use pg_hw::Hardware;
 use pg_mon_control::{Guest, KEPT_CELLS};
 use pg_report::put_steps;
-use pg_run_base::put_one_guest;
-use pg_run_nest::{Innermost, nest};
+use pg_run_guests::{Innermost, nest, put_one_guest};
 use pg_type::Accepted;
 use std::alloc::Global;
 

@@ -1,7 +1,7 @@
 //! A run under one to four monitors, made ready: what was tried on the way stands in its ghost fields, so nothing is tried again.
 
 ghost use Rattle.std.specs.Prelude.{◌≡◌, ◌≤◌, length};
-ghost use Rattle.pg_run_nest.specs.Nesting.{CanNest};
+ghost use Rattle.pg_run_guests.specs.Nesting.{CanNest};
 
 use pg_cmd_certs::JudgedMachine;
 use pg_image::Image;

@@ -1,8 +1,8 @@
 //! A run of guests, made ready: what was tried on the way stands in its ghost fields, so nothing is tested again.
 
 ghost use Rattle.std.specs.Prelude.{◌≡◌, All, length};
-ghost use Rattle.pg_run_base.specs.Runs.{run_of};
-ghost use Rattle.pg_run_base.specs.Setting.{CanRun};
+ghost use Rattle.pg_run_guests.specs.Runs.{run_of};
+ghost use Rattle.pg_run_guests.specs.Setting.{CanRun};
 
 use pg_cmd_certs::JudgedMachine;
 use pg_image::Image;

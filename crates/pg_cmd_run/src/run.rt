@@ -18,8 +18,7 @@ use pg_cmd_base::{Status, StopWatcher, stopped};
 use pg_cmd_certs::{is_accepted, tell_verdict};
 use pg_edge::{Shelf, Sink};
 use pg_hw::Hardware;
-use pg_run_base::put_guests;
-use pg_run_guests::run_guests;
+use pg_run_guests::{put_guests, run_guests};
 use std::alloc::Global;
 
 /// Carries out `run`.

@@ -6,7 +6,7 @@ use Rattle.pg_ast.specs.declared.tree.Desc.{Desc}
 use Rattle.pg_cert.specs.declared.cert.Family.TheVariants.{Plain}
 use Rattle.pg_cert.specs.declared.report.Verdict.TheVariants.{Accepted}
 use Rattle.pg_edge.specs.Shelf.{Files}
-use Rattle.pg_run_guests.specs.Runs.{RanGuests}
+use Rattle.pg_run_guests.specs.UnderMonitor.{RanGuests}
 use Rattle.pg_cmd_certs.proofs.GuestLemmas.{guest-read}
 use Rattle.pg_cmd_certs.proofs.JudgedLemmas.{IsRead, certificate-read, desc-valid}
 use Rattle.pg_cmd_certs.proofs.TellingLemmas.{ends-told, ends-left, verdict-ends}
@@ -17,7 +17,7 @@ use Rattle.pg_lang_meaning.specs.Steps.{bare, power_on, steps}
 use Rattle.pg_cmd_base.specs.Steps.{Came}
 use Rattle.pg_cmd_base.specs.World.{World, IsUntouched}
 use Rattle.pg_cmd_base.specs.declared.status.Status.TheVariants.{Done}
-use Rattle.pg_cmd_outputs.specs.Saving.{HasSaved}
+use Rattle.pg_cmd_certs.specs.Saving.{HasSaved}
 use Rattle.pg_cmd_save.specs.Resume.{ResumeRun, ResumeDue, ResumeEnds, GuestWentOn, guest_on, judged_on, told_on}
 use Rattle.pg_cmd_save.specs.Save.{SaveRun, SaveDue, SaveEnds, GuestSaved, files_of, guest_of, judged_by, saved_of, told_of_run}
 use Rattle.pg_type.specs.Accepting.{IsAccepted}

@@ -4,12 +4,12 @@ use Rattle.std.proofs.lemmas.List.Elements.{All-head}
 use Rattle.pg_mon_control.specs.declared.guest.Guest.{Guest}
 use Rattle.pg_mon_control.specs.Guests.{virtual, virtuals}
 use Rattle.pg_run_guests.specs.declared.running.Ran.{Ran}
-use Rattle.pg_run_guests.specs.Begun.{HaveRun}
+use Rattle.pg_run_guests.specs.HaveRun.{HaveRun}
 use Rattle.pg_hw.specs.Machinery.{Machinery}
 use Rattle.pg_lang_meaning.specs.States.{State}
 use Rattle.pg_report.specs.Runs.{run_text}
 use Rattle.pg_report.specs.Spans.{span}
-use Rattle.pg_run_base.specs.Runs.{GuestRun, direct_turns_of, reached_by, turns_in}
+use Rattle.pg_run_guests.specs.Runs.{GuestRun, direct_turns_of, reached_by, turns_in}
 
 -- what is told of a guest that ran is that of the state that it reached
 pub ran-told : (r : GuestRun) (s : State) (ran : Ran) (h : Machinery) (guests : List Guest) (turns direct : ℕ) → HaveRun r ran h → reached_by r ≡ s ∷ [] → turns_in r ≡ r.steps →

@@ -6,8 +6,8 @@ use Rattle.pg_ast.specs.declared.tree.Desc.{Desc}
 use Rattle.pg_mon_control.specs.Guests.{virtuals}
 use Rattle.pg_mon_control.specs.Standing.{Stands}
 use Rattle.pg_run_guests.proofs.ToldLemmas.{have-within}
-use Rattle.pg_run_guests.specs.Begun.{HaveRun}
-use Rattle.pg_run_guests.specs.Runs.{RanGuests, state_run}
+use Rattle.pg_run_guests.specs.HaveRun.{HaveRun}
+use Rattle.pg_run_guests.specs.UnderMonitor.{RanGuests, state_run}
 use Rattle.pg_run_guests.specs.declared.running.Ran.{Ran}
 use Rattle.pg_hw.specs.Machinery.{Machinery}
 use Rattle.pg_cmd_base.specs.Images.{Fills}
@@ -20,9 +20,9 @@ use Rattle.pg_move.specs.Seen.{guest_of as guest_saved}
 use Rattle.pg_move.specs.Texts.{room_of, saved_text, SavedGuest, IsSaved}
 use Rattle.pg_move.specs.declared.saved.Saved.{Saved}
 use Rattle.pg_report.specs.Spans.{span}
-use Rattle.pg_run_base.proofs.ReachedLemmas as reached
-use Rattle.pg_run_base.specs.Runs.{GuestRun, run_of, reached_by}
-use Rattle.pg_run_base.specs.Setting.{CanRun, IsImage, SetUp}
+use Rattle.pg_run_guests.proofs.ReachedLemmas as reached
+use Rattle.pg_run_guests.specs.Runs.{GuestRun, run_of, reached_by}
+use Rattle.pg_run_guests.specs.Setting.{CanRun, IsImage, SetUp}
 use Rattle.pg_cmd_save.proofs.GuestLemmas.{span-length, one-size, one-there, some-weaker}
 use Rattle.pg_cmd_save.specs.Plans.{save_run}
 use Rattle.pg_cmd_save.specs.Save.{SaveRun, guest_of, one_slice, reached as state_reached, saved_of}

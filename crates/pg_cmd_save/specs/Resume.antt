@@ -7,7 +7,7 @@ use Rattle.pg_cert.specs.declared.cert.Family.TheVariants.{Plain}
 use Rattle.pg_cert.specs.declared.report.Report.{Report}
 use Rattle.pg_cert.specs.declared.report.Verdict.TheVariants as verdict
 use Rattle.pg_edge.specs.Shelf.{Files}
-use Rattle.pg_run_guests.specs.Runs.{RanGuests}
+use Rattle.pg_run_guests.specs.UnderMonitor.{RanGuests}
 use Rattle.pg_cmd_base.specs.Descriptions.{DescDue}
 use Rattle.pg_cmd_certs.specs.Certificates.{CertDue}
 use Rattle.pg_cmd_certs.specs.Judged.{Judged, verdict_on}
@@ -16,8 +16,8 @@ use Rattle.pg_lang_meaning.specs.States.{State}
 use Rattle.pg_lang_meaning.specs.Steps.{bare, steps}
 use Rattle.pg_move.specs.Texts.{SavedGuest}
 use Rattle.pg_report.specs.Runs.{run_text, total_line}
-use Rattle.pg_run_base.specs.Runs.{GuestRun, direct_turns_of}
-use Rattle.pg_run_base.specs.Setting.{SetUp}
+use Rattle.pg_run_guests.specs.Runs.{GuestRun, direct_turns_of}
+use Rattle.pg_run_guests.specs.Setting.{SetUp}
 use Rattle.pg_cmd_base.specs.declared.refusal.Refusal.{Refusal}
 use Rattle.pg_cmd_base.specs.declared.status.Status.{Status}
 use Rattle.pg_cmd_base.specs.declared.status.Status.TheVariants as status

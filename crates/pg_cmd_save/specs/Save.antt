@@ -8,7 +8,7 @@ use Rattle.pg_cert.specs.declared.report.Report.{Report}
 use Rattle.pg_cert.specs.declared.report.Verdict.TheVariants as verdict
 use Rattle.pg_edge.specs.Shelf.{Files}
 use Rattle.pg_edge.specs.Told.{BothTold}
-use Rattle.pg_run_guests.specs.Runs.{RanGuests}
+use Rattle.pg_run_guests.specs.UnderMonitor.{RanGuests}
 use Rattle.pg_cmd_certs.specs.Guests.{GuestFiles, Loaded, GuestDue}
 use Rattle.pg_cmd_certs.specs.Judged.{Judged, verdict_on}
 use Rattle.pg_cmd_certs.specs.Telling.{EndsBy}
@@ -16,15 +16,15 @@ use Rattle.pg_lang_meaning.specs.States.{State, shape_of}
 use Rattle.pg_lang_meaning.specs.Steps.{bare, power_on}
 use Rattle.pg_move.specs.Texts.{saved_text}
 use Rattle.pg_report.specs.Runs.{run_text}
-use Rattle.pg_run_base.specs.Runs.{GuestRun, direct_turns_of}
-use Rattle.pg_run_base.specs.Setting.{SetUp}
+use Rattle.pg_run_guests.specs.Runs.{GuestRun, direct_turns_of}
+use Rattle.pg_run_guests.specs.Setting.{SetUp}
 use Rattle.pg_cmd_base.specs.declared.refusal.Refusal.{Refusal}
 use Rattle.pg_cmd_base.specs.declared.status.Status.{Status}
 use Rattle.pg_cmd_base.specs.declared.status.Status.TheVariants as status
 use Rattle.pg_cmd_base.specs.Commands.{Command}
 use Rattle.pg_cmd_base.specs.Steps.{Step, Then, Gives}
 use Rattle.pg_cmd_base.specs.World.{World}
-use Rattle.pg_cmd_outputs.specs.Saving.{HasSaved, HoldsAtMost}
+use Rattle.pg_cmd_certs.specs.Saving.{HasSaved, HoldsAtMost}
 use Rattle.pg_type.specs.Accepting.{IsAccepted}
 
 -- a run that is asked for: an image of so many cells, how many steps it makes, and what is kept of the certificate by which it

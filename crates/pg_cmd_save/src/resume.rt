@@ -6,7 +6,7 @@
 
 ghost use Rattle.std.specs.Prelude.{◌≡◌, None};
 ghost use Rattle.pg_edge.specs.Sink.{Puts};
-ghost use Rattle.pg_run_guests.specs.Begun.{HaveRun};
+ghost use Rattle.pg_run_guests.specs.HaveRun.{HaveRun};
 ghost use Rattle.pg_cmd_base.specs.Able.{IsAble};
 ghost use Rattle.pg_cmd_base.specs.Commands.{Carries};
 ghost use Rattle.pg_cmd_base.specs.World.{Keeps, around};
@@ -23,8 +23,7 @@ use pg_cmd_certs::{is_accepted, tell_verdict};
 use pg_edge::{Failed, Shelf, Sink};
 use pg_hw::Hardware;
 use pg_report::put_total;
-use pg_run_base::put_guests;
-use pg_run_guests::{Ran, run_state};
+use pg_run_guests::{Ran, put_guests, run_state};
 use pg_type::Accepted;
 use plan::ResumePlan;
 use preparing::prepare_resume;

@@ -6,9 +6,9 @@
 //! behind that the text of the run is put.
 
 ghost use Rattle.std.specs.Prelude.{◌≡◌, IfOk, OnOk, OnErr};
-ghost use Rattle.pg_run_guests.specs.Begun.{HaveRun};
-ghost use Rattle.pg_run_guests.specs.Runs.{RanGuests};
-ghost use Rattle.pg_run_base.specs.Setting.{SetUp};
+ghost use Rattle.pg_run_guests.specs.HaveRun.{HaveRun};
+ghost use Rattle.pg_run_guests.specs.UnderMonitor.{RanGuests};
+ghost use Rattle.pg_run_guests.specs.Setting.{SetUp};
 ghost use Rattle.pg_cmd_base.specs.Able.{IsAble};
 ghost use Rattle.pg_cmd_base.specs.Commands.{Carries};
 ghost use Rattle.pg_cmd_base.specs.World.{Keeps, around};
@@ -21,13 +21,11 @@ mod preparing;
 
 use pg_cli_table::SaveWords;
 use pg_cmd_base::{Status, StopWatcher, stopped};
-use pg_cmd_certs::{is_accepted, tell_verdict};
-use pg_cmd_outputs::save_text;
+use pg_cmd_certs::{is_accepted, save_text, tell_verdict};
 use pg_edge::{Shelf, Sink};
 use pg_hw::Hardware;
 use pg_move::{put_saved, saved_room};
-use pg_run_base::put_guests;
-use pg_run_guests::{Ran, run_guests};
+use pg_run_guests::{Ran, put_guests, run_guests};
 use pg_type::Accepted;
 use plan::SavePlan;
 use preparing::prepare_save;

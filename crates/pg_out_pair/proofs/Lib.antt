@@ -1,3 +1,4 @@
 pub mod ListedLemmas
 pub mod SettledLemmas
 pub mod PairLemmas
+pub mod ReadableLemmas

@@ -1,3 +1,4 @@
 pub mod Telling
 pub mod Views
 pub mod Explaining
+pub mod Readable

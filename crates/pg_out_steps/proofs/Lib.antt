@@ -3,3 +3,4 @@ pub mod HandlingLemmas
 pub mod AnywhereLemmas
 pub mod TallyLemmas
 pub mod TraceLemmas
+pub mod DumpLemmas

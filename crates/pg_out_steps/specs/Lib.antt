@@ -5,3 +5,5 @@ pub mod Fitting
 pub mod Lines
 pub mod Putting
 pub mod Traces
+pub mod Values
+pub mod Dump

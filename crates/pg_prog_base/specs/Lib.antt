@@ -1,1 +1,4 @@
 pub mod Either
+pub mod Imported
+pub mod Dimacs
+pub mod Lrat

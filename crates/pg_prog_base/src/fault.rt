@@ -1,7 +1,6 @@
 //! Why what another solver wrote is refused, and the line that tells it.
 
-use pg_sat_foreign::{ForeignFault, Place};
-use pg_sat_rup::RupFault;
+use pg_sat_foreign::{ForeignFault, Place, RupFault};
 use std::alloc::{AllocError, Global};
 use std::fmt::Write;
 

@@ -4,7 +4,7 @@ ghost use Rattle.std.specs.Prelude.{◌≡◌, ◌<◌, length, Some, IfOk, IfSo
 ghost use Rattle.pg_edge.specs.Count.{Rose};
 ghost use Rattle.pg_edge.specs.Shelf.{CountsSave, Saves};
 ghost use Rattle.pg_edge.specs.Sink.{Puts};
-ghost use Rattle.pg_cmd_insert.specs.Imported.{IsOfFile};
+ghost use Rattle.pg_prog_base.specs.Imported.{IsOfFile};
 ghost use Rattle.pg_cmd_base.specs.Descriptions.{DescDue};
 ghost use Rattle.pg_cmd_base.specs.Answering.{OnlyReads};
 ghost use Rattle.pg_cmd_base.specs.Steps.{Came};
@@ -15,7 +15,7 @@ use pg_cert::Family;
 use pg_cert_migrate::Migrated;
 use pg_cli_table::FileName;
 use pg_cmd_base::load_machine;
-use pg_cmd_insert::load_certificate;
+use crate::load_certificate;
 use pg_edge::{Failed, LoadFault, Shelf, Sink};
 use pg_mach_ready::Machine;
 use std::alloc::{AllocError, Global};

@@ -7,8 +7,7 @@ use pg_cli_says::{Lacking, WordsWatcher};
 use pg_cmd_base::{StopWatcher, stopped};
 use pg_edge::{Failed, Sink};
 use pg_report::put_text;
-use pg_sat_foreign::ForeignFault;
-use pg_sat_rup::RupFault;
+use pg_sat_foreign::{ForeignFault, RupFault};
 use std::alloc::{AllocError, Global};
 
 /// Why a program goes no further.

@@ -7,7 +7,7 @@
 //! machine (`pg_out_reasons`). With INSTR that instruction alone is told, and with KIND that kind of it: `privileged`, `control`, `mode`,
 //! `location`, `bound`, `ucontrol`, `ulocation` or `ubound`. Under `--mend` the description with guards is saved, where it is
 //! accepted: its own text with the guards put in, or the mended description printed, if that would not read so (`pg_out_guarded`).
-//! Under `--readable` two states that are laid out for a reader are told beside each pair (`pg_out_readable`). With `--json` the
+//! Under `--readable` two states that are laid out for a reader are told beside each pair (`pg_out_pair`). With `--json` the
 //! machine, all findings and all of the text are one JSON object (`json`).
 //!
 //! The status is that of `pgv verify`: 0 accepted, 1 refused, 2 open. Words that are not taken, or name no instruction of the

@@ -17,9 +17,9 @@ use Rattle.pg_mon_control.specs.declared.guest.Guest.{Guest}
 use Rattle.pg_alloc.specs.Fit.{kept_cells}
 use Rattle.pg_mon_control.specs.Guests.{grants_of, virtual, virtuals}
 use Rattle.pg_monitor.specs.Settling.{TellsFirst}
-use Rattle.pg_run_base.specs.Runs.{GuestRun, guests_from, switched_on}
-use Rattle.pg_run_base.specs.Telling.{AreWithin}
-use Rattle.pg_run_base.proofs.TellLemmas.{Stands-within}
+use Rattle.pg_run_guests.specs.Runs.{GuestRun, guests_from, switched_on}
+use Rattle.pg_run_guests.specs.Telling.{AreWithin}
+use Rattle.pg_run_guests.proofs.TellLemmas.{Stands-within}
 use Rattle.pg_type.specs.Accepting.{IsAccepted}
 use Rattle.pg_cmd_base.specs.declared.status.Status.TheVariants.{Done}
 use Rattle.pg_cmd_certs.specs.Judged.{verdict_on, verdict_status, verdict_told}

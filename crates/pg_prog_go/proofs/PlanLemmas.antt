@@ -6,7 +6,7 @@ use Rattle.pg_alloc.specs.Fit.{kept_cells}
 use Rattle.pg_mach_ready.specs.declared.machine.Machine.{Machine}
 use Rattle.pg_lang_meaning.specs.Steps.{power_on}
 use Rattle.pg_cmd_base.specs.Images.{Fills}
-use Rattle.pg_run_base.specs.Runs.{run_of, switched_on}
+use Rattle.pg_run_guests.specs.Runs.{run_of, switched_on}
 use Rattle.pg_cmd_run.proofs.RunLemmas.{can-run}
 use Rattle.pg_run_still.specs.Running.{CanGo}
 

@@ -20,7 +20,7 @@ use pg_cmd_base::{Status, Stop, StopWatcher, load_image, load_machine, no_room, 
 use pg_edge::{Shelf, Sink};
 use pg_hw::Settling;
 use pg_mach_words::learned;
-use pg_run_base::RunWatcher;
+use pg_run_guests::RunWatcher;
 use pg_run_still::{put_stood, run_bare_until_still};
 use std::alloc::Global;
 use std::slice::from_ref;

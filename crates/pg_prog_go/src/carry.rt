@@ -18,7 +18,7 @@ use pg_cmd_base::{Status, StopWatcher, stopped};
 use pg_cmd_certs::{is_accepted, tell_verdict};
 use pg_edge::{Shelf, Sink};
 use pg_hw::Settling;
-use pg_run_base::RunWatcher;
+use pg_run_guests::RunWatcher;
 use pg_run_still::{put_rested, run_until_still};
 use std::alloc::Global;
 

@@ -50,7 +50,7 @@ pub use carry::carry_go;
 use pg_cmd_base::{Status, StopWatcher, tell_usage};
 use pg_edge::{Shelf, Sink};
 use pg_hw::Settling;
-use pg_run_base::RunWatcher;
+use pg_run_guests::RunWatcher;
 pub use request::{Asked, BareGoWords, GoWords, MOST_STEPS, StepsAtMost, asked_by};
 use std::alloc::Global;
 

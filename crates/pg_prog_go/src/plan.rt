@@ -1,7 +1,7 @@
 //! Runs until all is still, made ready: what was tried on the way stands in their ghost fields, so nothing is tested again.
 
 ghost use Rattle.std.specs.Prelude.{◌≡◌, All, length};
-ghost use Rattle.pg_run_base.specs.Runs.{run_of};
+ghost use Rattle.pg_run_guests.specs.Runs.{run_of};
 ghost use Rattle.pg_run_still.specs.Bare.{CanStand};
 ghost use Rattle.pg_run_still.specs.Running.{CanGo};
 

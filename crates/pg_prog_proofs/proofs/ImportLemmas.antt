@@ -9,14 +9,14 @@ use Rattle.pg_cert.specs.declared.report.Report.{Report}
 use Rattle.pg_cert.specs.Reading.{read_kind}
 use Rattle.pg_cert.specs.Texts.{heading_of, cert_text}
 use Rattle.pg_cert.specs.Verdicts.{mark_of}
-use Rattle.pg_cmd_outputs.specs.Saving.{HoldsNow}
-use Rattle.pg_cmd_outputs.proofs.SavingLemmas.{written_means, written_again}
+use Rattle.pg_cmd_certs.specs.Saving.{HoldsNow}
+use Rattle.pg_cmd_certs.proofs.SavingLemmas.{written_means, written_again}
 use Rattle.pg_edge.specs.Count.{Rose}
 use Rattle.pg_edge.specs.Shelf.{Files}
 use Rattle.pg_edge.specs.Sink.{Adds}
 use Rattle.pg_edge.specs.Told.{BothTold}
 use Rattle.pg_edge.proofs.PutsLaws.{Adds-append, AddsFront-append}
-use Rattle.pg_cmd_insert.specs.Imported.{IsOfFile, IsPlaceOf, IsRightAt, IsReplaced}
+use Rattle.pg_prog_base.specs.Imported.{IsOfFile, IsPlaceOf, IsRightAt, IsReplaced}
 use Rattle.pg_cmd_base.specs.Descriptions.{DescDue}
 use Rattle.pg_cmd_certs.specs.Certificates.{IsCertificate}
 use Rattle.pg_cmd_certs.specs.Judged.{Judged, verdict_told}

@@ -8,7 +8,7 @@ use Rattle.pg_type.specs.declared.kind.Kind.{Kind}
 use Rattle.pg_ask.specs.Question.{question}
 use Rattle.pg_cert.specs.declared.cert.Finding.{Finding}
 use Rattle.pg_cert.specs.declared.cert.Cert.{Cert}
-use Rattle.pg_cmd_insert.specs.Imported.{IsPlaceOf, IsRight, IsRightAt}
+use Rattle.pg_prog_base.specs.Imported.{IsPlaceOf, IsRight, IsRightAt}
 
 -- of the instruction of a number
 abbrev pub IsRightFor : (List (List ℤ)) → Desc → ℕ → Kind → Finding → Type 0

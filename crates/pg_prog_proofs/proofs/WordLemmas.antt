@@ -4,7 +4,7 @@ use Rattle.std.specs.Cmp.Lexicographic.{pointwise}
 use Rattle.std.specs.Prelude.{codes, option_copied, IfSome}
 use Rattle.std.proofs.Math.Dec.{eqb}
 use Rattle.pg_cert.specs.Reading.{read_kind}
-use Rattle.pg_cmd_insert.specs.declared.question.Names.{Names}
+use Rattle.pg_prog_base.specs.declared.question.Names.{Names}
 use Rattle.pg_prog_proofs.specs.declared.dimacs.request.Request.{Request as Question}
 use Rattle.pg_prog_proofs.specs.declared.export.request.Request.{Request}
 use Rattle.pg_prog_proofs.specs.Exported.{AsksDimacs, AsksExport, option_words}

@@ -10,9 +10,9 @@ use Rattle.pg_cert.specs.Texts.{instr_of, kind_of}
 use Rattle.pg_edge.specs.Shelf.{Files}
 use Rattle.pg_edge.specs.Sink.{Adds}
 use Rattle.pg_edge.specs.Told.{BothTold}
-use Rattle.pg_cmd_insert.specs.Dimacs.{IsQuestionText}
-use Rattle.pg_cmd_insert.specs.Lrat.{lrat_text}
-use Rattle.pg_cmd_insert.specs.Imported.{IsOfFile, IsPlaceOf}
+use Rattle.pg_prog_base.specs.Dimacs.{IsQuestionText}
+use Rattle.pg_prog_base.specs.Lrat.{lrat_text}
+use Rattle.pg_prog_base.specs.Imported.{IsOfFile, IsPlaceOf}
 use Rattle.pg_cmd_base.specs.Descriptions.{DescDue}
 use Rattle.pg_proof.specs.declared.step.Act.{Act}
 use Rattle.pg_proof.specs.Log.{IsClosedLog}

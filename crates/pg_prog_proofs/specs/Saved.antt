@@ -8,11 +8,11 @@ use Rattle.pg_cert.specs.declared.cert.Finding.TheVariants.{Refuted, Shown, Spen
 use Rattle.pg_cert.specs.declared.cert.Cert.{Cert}
 use Rattle.pg_cert.specs.declared.report.Report.{Report}
 use Rattle.pg_cert.specs.Reading.{read_kind}
-use Rattle.pg_cmd_outputs.specs.Saving.{IsWritten, HoldsNow}
+use Rattle.pg_cmd_certs.specs.Saving.{IsWritten, HoldsNow}
 use Rattle.pg_edge.specs.Shelf.{Files, SameBut, CountsSave}
 use Rattle.pg_edge.specs.Sink.{Adds}
 use Rattle.pg_edge.specs.Told.{BothTold}
-use Rattle.pg_cmd_insert.specs.Imported.{IsOfFile, IsPlaceOf, IsRightAt, IsReplaced}
+use Rattle.pg_prog_base.specs.Imported.{IsOfFile, IsPlaceOf, IsRightAt, IsReplaced}
 use Rattle.pg_cmd_base.specs.Descriptions.{DescDue}
 use Rattle.pg_cmd_certs.specs.Certificates.{IsCertificate}
 use Rattle.pg_cmd_certs.specs.Judged.{Judged, verdict_on, verdict_status, verdict_told}

@@ -3,7 +3,7 @@
 //!     pg_dimacs DESC INSTR KIND
 //!
 //! KIND is `privileged`, `control`, `mode`, `location`, `bound`, `ucontrol`, `ulocation` or `ubound`. What is written is a
-//! formula in the format DIMACS CNF, which can be true exactly where two states show the kind of the instruction (`pg_cmd_insert`).
+//! formula in the format DIMACS CNF, which can be true exactly where two states show the kind of the instruction (`pg_prog_base`).
 //! Words that are not taken, or name no instruction of the description, are answered by the usage (3). The other refusals have the
 //! lines and statuses of `pgv`. Where the status is 0 the clauses are written (*EndsDimacs*, `specs/Exported.antt`). The words are read
 //! in `request`.
@@ -11,7 +11,7 @@
 ghost use Rattle.std.specs.Prelude.{◌≡◌, ◌<◌, length, map, slice_get, string_bytes, Some, IfOk, OnOk};
 ghost use Rattle.pg_ast.specs.declared.tree.Instr.{Instr as Instrs};
 ghost use Rattle.pg_ask.specs.Question.{question};
-ghost use Rattle.pg_cmd_insert.specs.Dimacs.{IsQuestionText};
+ghost use Rattle.pg_prog_base.specs.Dimacs.{IsQuestionText};
 ghost use Rattle.pg_cmd_base.specs.Answering.{OnlyReads};
 ghost use Rattle.pg_prog_proofs.specs.Exported.{EndsDimacs, IsDimacs, IsOfMachine, PutsDimacs};
 
@@ -21,7 +21,7 @@ use crate::dimacs::request::{Request, asked_by};
 use pg_ask::ask;
 use pg_cli_says::{Lacking, WordsWatcher};
 use pg_cmd_base::StopWatcher;
-use pg_cmd_insert::text_of;
+use pg_prog_base::text_of;
 use pg_edge::{Shelf, Sink};
 use pg_mach_ready::Machine;
 use pg_prog_base::files::{file_name, find, machine, put};

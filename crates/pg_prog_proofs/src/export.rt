@@ -4,7 +4,7 @@
 //!
 //! CERT is a certificate of the description in DESC, of either family. It is verified whole, and made anew as `pgv migrate` makes
 //! it, before anything is written. The log that it has of INSTR and KIND is written in the format LRAT, and under `--cnf` the
-//! clauses that it refutes are saved, as `pg_dimacs` writes them (`pg_cmd_insert`). A finding that has no log is told in a line (3).
+//! clauses that it refutes are saved, as `pg_dimacs` writes them (`pg_prog_base`). A finding that has no log is told in a line (3).
 //!
 //! Words that are not taken, or name an instruction or a kind that is not there, are answered by the usage (3). The other refusals have
 //! the lines and statuses of `pgv`. Where the status is 0 the log is written (*EndsExported*, `specs/Exported.antt`). The words are read
@@ -13,7 +13,7 @@
 ghost use Rattle.std.specs.Prelude.{◌≡◌, map, option_copied, string_bytes, IfOk, OnOk};
 ghost use Rattle.pg_edge.specs.Sink.{Adds};
 ghost use Rattle.pg_edge.specs.Told.{BothTold};
-ghost use Rattle.pg_cmd_insert.specs.Imported.{IsOfText};
+ghost use Rattle.pg_prog_base.specs.Imported.{IsOfText};
 ghost use Rattle.pg_cmd_base.specs.Answering.{OnlyReads};
 ghost use Rattle.pg_cmd_base.specs.World.{SavesOnly};
 ghost use Rattle.pg_prog_proofs.specs.Exported.{AreTextsOf, EndsExported, IsExport, IsExported, IsOfCert, SavesClauses, SavesNothingElse};
@@ -27,7 +27,7 @@ use pg_cert::Cert;
 use pg_cli_says::{Lacking, WordsWatcher};
 use pg_cli_table::FileName;
 use pg_cmd_base::StopWatcher;
-use pg_cmd_insert::place_of;
+use pg_prog_base::place_of;
 use pg_edge::{Shelf, Sink};
 use pg_mach_ready::Machine;
 use pg_prog_base::files::{certificate, file_name, find, machine, put, save};

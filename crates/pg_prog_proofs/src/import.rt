@@ -5,8 +5,8 @@
 //! CERT is a certificate of the description in DESC, of either family, as `pgv check` and `pgv hcheck` write it. PROOF is what
 //! another solver wrote for the clauses that `pg_dimacs DESC INSTR KIND` writes: a proof that they cannot all be true, DRAT or LRAT,
 //! or its output with an assignment (`pg_sat_foreign`). Nothing of it is believed: a proof is made a log that a checker takes
-//! (`pg_sat_rup`), and an assignment is tried on all clauses (`answer`). The finding stands in FILE in place of that of CERT, all others
-//! as `pgv migrate` makes them (`pg_cmd_insert`); so a verifier of its family takes FILE, where it is within the limit of its length.
+//! (`pg_sat_foreign`), and an assignment is tried on all clauses (`answer`). The finding stands in FILE in place of that of CERT, all others
+//! as `pgv migrate` makes them (`pg_prog_base`); so a verifier of its family takes FILE, where it is within the limit of its length.
 //!
 //! On standard output stands what was imported, and the verdict of the new certificate, as `pgv verify` tells it. The status is
 //! that of the verdict: 0 accepted, 1 refused, 2 open; what is then left, of files and sink, is *EndsImported* (`specs/Saved.antt`).
@@ -16,10 +16,10 @@
 //! - `request`: the words. `answer`: what PROOF says. `making`: the new certificate.
 
 ghost use Rattle.std.specs.Prelude.{◌≡◌, ◌≤◌, ◌<◌, length, map, string_bytes, Some, IfOk, OnOk};
-ghost use Rattle.pg_cmd_outputs.specs.Saving.{HoldsNow};
+ghost use Rattle.pg_cmd_certs.specs.Saving.{HoldsNow};
 ghost use Rattle.pg_edge.specs.Shelf.{SameBut};
 ghost use Rattle.pg_edge.specs.Told.{BothTold};
-ghost use Rattle.pg_cmd_insert.specs.Imported.{IsOfFile};
+ghost use Rattle.pg_prog_base.specs.Imported.{IsOfFile};
 ghost use Rattle.pg_cmd_certs.specs.Views.{judged};
 ghost use Rattle.pg_cmd_base.specs.Answering.{OnlyReads};
 ghost use Rattle.pg_cmd_base.specs.Classes.{class_of};

@@ -8,7 +8,7 @@ use Rattle.pg_cmd_certs.specs.Judged.{Judged, verdict_on}
 use Rattle.pg_cmd_certs.specs.Telling.{ToldAs}
 use Rattle.pg_lang_meaning.specs.States.{State}
 use Rattle.pg_lang_meaning.specs.Steps.{bare, power_on}
-use Rattle.pg_out_vcd.specs.Dump.{dump_text}
+use Rattle.pg_out_steps.specs.Dump.{dump_text}
 use Rattle.pg_cmd_base.specs.Classes.{Ended, class_of}
 use Rattle.pg_cmd_base.specs.World.{Output}
 use Rattle.pg_cmd_base.specs.declared.status.Status.{Status}

@@ -6,7 +6,7 @@ use Rattle.pg_edge.specs.Sink.{Adds}
 use Rattle.pg_edge.specs.Told.{BothTold}
 use Rattle.pg_lang_meaning.specs.States.{State}
 use Rattle.pg_lang_meaning.specs.Steps.{power_on}
-use Rattle.pg_out_vcd.specs.Dump.{dump_text}
+use Rattle.pg_out_steps.specs.Dump.{dump_text}
 use Rattle.pg_cmd_base.specs.Steps.{Came}
 use Rattle.pg_cmd_plain.specs.Bare.{BareRun, reached}
 use Rattle.pg_out_steps.specs.declared.handling.Monitor.{Monitor}

@@ -23,8 +23,7 @@ use pg_cmd_base::{Status, StopWatcher, stopped};
 use pg_cmd_certs::is_accepted;
 use pg_edge::{Shelf, Sink};
 use pg_hw::Hardware;
-use pg_out_steps::{Monitor, TraceFault};
-use pg_out_vcd::put_dump;
+use pg_out_steps::{Monitor, TraceFault, put_dump};
 use std::alloc::Global;
 
 /// Runs what the words ask for, and puts its dump; refusals are those of the text, and so is the verdict of a certificate that does

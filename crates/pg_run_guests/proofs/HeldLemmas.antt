@@ -13,9 +13,9 @@ use Rattle.pg_mon_control.specs.Admitting.{Kept, place_for, GrantMade, StateTake
 use Rattle.pg_mon_control.specs.Guests.{guest_in, virtuals}
 use Rattle.pg_mon_control.specs.Loading.{with_words}
 use Rattle.pg_mon_control.specs.Standing.{Stands}
-use Rattle.pg_run_base.specs.Begun.{IsBegun}
-use Rattle.pg_run_base.specs.Setting.{HaveRoom, loaded_from}
-use Rattle.pg_run_guests.specs.Begun.{holding}
+use Rattle.pg_run_guests.specs.Begun.{IsBegun}
+use Rattle.pg_run_guests.specs.Setting.{HaveRoom, loaded_from}
+use Rattle.pg_run_guests.specs.HaveRun.{holding}
 
 abbrev IsBeside : ℕ → ℕ → ℕ × ℕ → Type 0
 IsBeside size base grant = (base + size ≤ grant.0) ⊎ (grant.0 + grant.1 ≤ base)

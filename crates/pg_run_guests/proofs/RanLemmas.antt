@@ -2,7 +2,7 @@
 use Rattle.std.proofs.Common.{◌≡◌, ℕ, zero, suc, ◌+◌, ◌*◌, ◌^◌, ◌<◌, ◌≤◌, Bool, true, false, ◌==◌, if◌then◌else◌, List, [], ◌∷◌, length, map, Option, None, Some, slice_get, slice_index, sym, ◌∙◌, ap, subst, arith}
 use Rattle.pg_word.specs.Psw.{packed, power_on_psw}
 use Rattle.pg_ast.specs.declared.tree.Desc.{Desc}
-use Rattle.pg_run_guests.specs.Runs.{RanGuests}
+use Rattle.pg_run_guests.specs.UnderMonitor.{RanGuests}
 use Rattle.pg_lang_meaning.specs.States.{State}
 use Rattle.pg_lang_meaning.specs.Steps.{steps}
 use Rattle.pg_hw.specs.Machinery.{Machinery}
@@ -21,11 +21,11 @@ use Rattle.pg_mon_control.proofs.CountLemmas.{direct_among-most, direct-adds}
 use Rattle.pg_mon_control.specs.Direct.{direct_among}
 use Rattle.pg_mon_control.proofs.ScheduleLemmas.{turns_of-schedule, count_of-schedule}
 use Rattle.pg_run_guests.specs.declared.running.Ran.{Ran}
-use Rattle.pg_run_base.specs.Begun.{IsBegun}
-use Rattle.pg_run_guests.specs.Begun.{HaveRun}
-use Rattle.pg_run_base.proofs.StartedLemmas.{IsLoaded, on-room, on-small, on-first, on-outside, on-psw, on-steps, on-untrapped, on-loads, on-pokes, on-bottom, begun-count, begun-states, begun-reached}
-use Rattle.pg_run_base.proofs.SettingLemmas.{granted-same, guests-length}
-use Rattle.pg_run_base.specs.Runs.{GuestRun, cells_in, direct_turns_of, guests_of, plan_of, reached_by, turns_in}
+use Rattle.pg_run_guests.specs.Begun.{IsBegun}
+use Rattle.pg_run_guests.specs.HaveRun.{HaveRun}
+use Rattle.pg_run_guests.proofs.StartedLemmas.{IsLoaded, on-room, on-small, on-first, on-outside, on-psw, on-steps, on-untrapped, on-loads, on-pokes, on-bottom, begun-count, begun-states, begun-reached}
+use Rattle.pg_run_guests.proofs.SettingLemmas.{granted-same, guests-length}
+use Rattle.pg_run_guests.specs.Runs.{GuestRun, cells_in, direct_turns_of, guests_of, plan_of, reached_by, turns_in}
 
 -- ---- changes of guest
 

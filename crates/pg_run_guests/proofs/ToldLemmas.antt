@@ -6,11 +6,11 @@ use Rattle.pg_mon_control.specs.Guests.{virtuals}
 use Rattle.pg_monitor.specs.Monitors.{desc_of}
 use Rattle.pg_report.specs.Runs.{run_text}
 use Rattle.pg_report.specs.Summaries.{summary_text}
-use Rattle.pg_run_base.specs.Runs.{GuestRun, reached_by, turns_in, text_of, summary_of_run}
-use Rattle.pg_run_base.specs.Telling.{AreWithin}
-use Rattle.pg_run_base.proofs.TellLemmas.{Stands-within}
+use Rattle.pg_run_guests.specs.Runs.{GuestRun, reached_by, turns_in, text_of, summary_of_run}
+use Rattle.pg_run_guests.specs.Telling.{AreWithin}
+use Rattle.pg_run_guests.proofs.TellLemmas.{Stands-within}
 use Rattle.pg_run_guests.specs.declared.running.Ran.{Ran}
-use Rattle.pg_run_guests.specs.Begun.{HaveRun}
+use Rattle.pg_run_guests.specs.HaveRun.{HaveRun}
 
 -- their text
 pub text-is : (r : GuestRun) (ran : Ran) (h : Machinery) → HaveRun r ran h →

@@ -1,22 +1,26 @@
--- Cells that are held before a guest; and guests behind their last turn.
-use Rattle.std.specs.Prelude.{◌≡◌, ℕ, zero, suc, List, [], ◌∷◌}
-use Rattle.pg_alloc.specs.Fit.{kept_cells}
+-- Guests before their first turn, as a control program keeps them.
+use Rattle.std.specs.Prelude.{◌≡◌, ℕ, List, take, None}
+use Rattle.pg_lang_meaning.specs.States.{State}
 use Rattle.pg_hw.specs.Machinery.{Machinery}
-use Rattle.pg_mon_control.specs.Guests.{virtuals}
+use Rattle.pg_alloc.specs.Fit.{kept_cells}
+use Rattle.pg_mon_control.specs.Admitting.{Kept}
+use Rattle.pg_mon_control.specs.Guests.{virtuals, grants_of}
 use Rattle.pg_mon_control.specs.Standing.{Stands}
-use Rattle.pg_monitor.specs.Monitors.{desc_of}
-use Rattle.pg_run_base.specs.Runs.{GuestRun, reached_by, direct_turns_of, turns_in}
-use Rattle.pg_run_guests.specs.declared.running.Ran.{Ran}
+use Rattle.pg_run_guests.specs.Runs.{guests_from}
+use Rattle.pg_run_guests.specs.Setting.{loaded_from}
 
--- the grants of a monitor that holds so many cells, behind those that it keeps: one of them all, if there are any
-abbrev pub holding : ℕ → List (ℕ × ℕ)
-holding zero = []
-holding (suc n) = (kept_cells, suc n) ∷ []
+-- a control program whose guests begin in these states, in grants from a base on, none of them current, on a hardware
+pub record IsBegun (first : ℕ) (ss : List State) (k : Kept) (h : Machinery) : Type 0 where
+  pub guests : k.guests ≡ guests_from first ss
+  pub current : k.current ≡ None
+  pub stands : Stands k.machine.desc h.state k.guests k.current
+  pub states : virtuals h.state.cells k.guests ≡ ss
 
--- guests that ran: the hardware and their monitor stand for the states that are reached, and the turns are counted
-pub record HaveRun (r : GuestRun) (ran : Ran) (h : Machinery) : Type 0 where
-  pub machine : desc_of ran.monitor ≡ r.desc
-  pub stands : Stands r.desc h.state ran.monitor.guests ran.monitor.current
-  pub states : virtuals h.state.cells ran.monitor.guests ≡ reached_by r
-  pub turns : ran.turns ≡ turns_in r
-  pub direct : ran.direct ≡ direct_turns_of r
+-- one that made no grants but those of its guests
+pub record HoldsNoMore (k : Kept) : Type 0 where
+  pub granted : k.granted.grants ≡ grants_of k.guests
+
+-- a hardware into which the first of these states were loaded, behind the cells that a control program keeps
+pub record LoadedSome (states : List State) (old new : Machinery) : Type 0 where
+  pub some : ℕ
+  pub loaded : new ≡ loaded_from kept_cells (take some states) old

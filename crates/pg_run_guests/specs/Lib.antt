@@ -1,2 +1,9 @@
 pub mod Runs
+pub mod Setting
 pub mod Begun
+pub mod Telling
+pub mod UnderMonitor
+pub mod HaveRun
+pub mod UnderHybrid
+pub mod HaveRunHybrid
+pub mod Nesting

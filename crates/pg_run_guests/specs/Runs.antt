@@ -1,36 +1,82 @@
--- What a run of guests under a monitor leaves of the hardware; and the run of one state behind cells that are held.
-use Rattle.std.specs.Prelude.{◌≡◌, ℕ, ◌+◌, ◌*◌, ◌<◌, ◌≤◌, [], ◌∷◌, length, map, slice_get, slice_index, None, Some}
-use Rattle.pg_word.specs.Psw.{new_psw_cell, old_psw_cell, packed, power_on_psw}
-use Rattle.pg_hw.specs.Machinery.{Machinery}
+-- Runs of guests: states that go on side by side under one control program, and what is told of them.
+use Rattle.std.specs.Prelude.{ℕ, ◌+◌, ◌-◌, ◌*◌, List, [], ◌∷◌, length, map}
+use Rattle.pg_ast.specs.declared.tree.Desc.{Desc}
 use Rattle.pg_mach_ready.specs.declared.machine.Machine.{Machine}
 use Rattle.pg_lang_meaning.specs.States.{State}
+use Rattle.pg_lang_meaning.specs.Steps.{power_on, steps}
 use Rattle.pg_alloc.specs.Fit.{kept_cells}
-use Rattle.pg_mon_control.specs.Plans.{IsOutside}
-use Rattle.pg_monitor.specs.Plans.{cell_behind, psw_behind, changes_of}
-use Rattle.pg_mon_control.specs.Counting.{BottomTurns}
-use Rattle.pg_run_base.specs.Runs.{GuestRun, cells_in, guests_of, reached_by, plan_of, turns_in, direct_turns_of, emulated_turns, granted}
+use Rattle.pg_mon_control.specs.declared.guest.Guest.{Guest}
+use Rattle.pg_mon_control.specs.Guests.{guest_in}
+use Rattle.pg_mon_control.specs.Schedules.{schedule, each_direct}
+use Rattle.pg_report.specs.Runs.{run_text}
+use Rattle.pg_report.specs.Spans.{span}
+use Rattle.pg_report.specs.Summaries.{summary_text}
 
--- the run of a state on a machine, whose grant lies behind the cells that a monitor keeps and so many that it holds for none
-abbrev pub state_run : Machine → ℕ → State → ℕ → ℕ → GuestRun
-state_run machine skip s slice steps = record { desc = machine.desc; first = kept_cells + skip; states = s ∷ []; slice = slice; steps = steps }
+-- ---- what runs
 
--- a hardware on which guests ran under a monitor: the grants hold the storages that bare machines reach; each direct step was
--- executed by the hardware, untrapped; and what else its storage and its program status word hold is what the monitor's
--- turns leave there
-pub record RanGuests (r : GuestRun) (old new : Machinery) : Type 0 where
-  pub size : length new.state.cells ≡ r.desc.size
-  pub control : slice_get new.state.cells new_psw_cell ≡ Some (packed r.desc.address (power_on_psw r.desc.size))
-  pub grants : granted (guests_of r) new.state.cells ≡ map (λ s. s.cells) (reached_by r)
-  -- cell 0 holds the word of the last trap, or 0 where none was, and no other cell outside the grants was set
-  pub cell_0 : slice_index new.state.cells old_psw_cell ≡ cell_behind r.desc (guests_of r) (plan_of r) r.states 0
-  pub outside : (at : ℕ) → kept_cells ≤ at → at < r.desc.size → IsOutside (guests_of r) at → slice_get new.state.cells at ≡ Some 0
-  -- the program status word is the one composed for the guest that had the last turn, or else that of switching on
-  pub psw : new.state.psw ≡ psw_behind r.desc (guests_of r) (plan_of r) r.states (power_on_psw r.desc.size)
-  pub steps : new.tally.steps ≡ old.tally.steps + turns_in r
-  pub untrapped : new.tally.untrapped ≡ old.tally.untrapped + direct_turns_of r
-  -- one poke for the control program's PSW and one for each cell of the states, and at most eight for a turn that is not direct
-  pub pokes_least : old.tally.pokes + (1 + cells_in r.states) ≤ new.tally.pokes
-  pub pokes_most : new.tally.pokes ≤ old.tally.pokes + (1 + cells_in r.states) + 8 * emulated_turns r
-  -- one load for each change of guest, the first turn among them, and one for each turn that is not direct
-  pub loads : new.tally.loads ≡ old.tally.loads + (changes_of (plan_of r) None + emulated_turns r)
-  pub bottom : BottomTurns (turns_in r) (direct_turns_of r) old.bottom new.bottom
+-- guests that run under one control program, each in a grant of its own size, by slices, until each has had so many turns
+pub record GuestRun : Type 0 where
+  pub desc : Desc
+  -- the base of the first grant, behind which the others lie
+  pub first : ℕ
+  -- in which the guests begin
+  pub states : List State
+  pub slice : ℕ
+  pub steps : ℕ
+
+-- how many cells states have, all together
+abbrev pub cells_in : List State → ℕ
+cells_in [] = 0
+cells_in (s ∷ ss) = length s.cells + cells_in ss
+
+-- guests at these states, their grants one behind the other from a base on
+abbrev pub guests_from : ℕ → List State → List Guest
+guests_from base [] = []
+guests_from base (s ∷ ss) = guest_in base (length s.cells) s.psw ∷ guests_from (base + length s.cells) ss
+
+abbrev pub guests_of : GuestRun → List Guest
+guests_of r = guests_from r.first r.states
+
+-- the states that machines of their own reach from these in as many steps
+abbrev pub reached_by : GuestRun → List State
+reached_by r = map (steps r.desc r.steps) r.states
+
+-- the turns of all of them, in order
+abbrev pub plan_of : GuestRun → List (ℕ × ℕ)
+plan_of r = schedule (length r.states) r.slice r.steps
+
+-- how many turns these are
+abbrev pub turns_in : GuestRun → ℕ
+turns_in r = length r.states * r.steps
+
+-- how many of them are direct: of each guest those that are direct at the base of its grant
+abbrev pub direct_turns_of : GuestRun → ℕ
+direct_turns_of r = each_direct r.desc (guests_of r) r.steps r.states
+
+-- those that are not, which a monitor interprets
+abbrev pub emulated_turns : GuestRun → ℕ
+emulated_turns r = turns_in r - direct_turns_of r
+
+-- ---- images
+
+-- the states in which images are switched on, each in a storage of its own size
+abbrev pub switched_on : List (List ℕ) → List State
+switched_on images = map (λ image. power_on image (length image)) images
+
+-- the run of images on a machine, whose grants begin behind the cells that a control program keeps
+abbrev pub run_of : Machine → List (List ℕ) → ℕ → ℕ → GuestRun
+run_of machine images slice steps = record { desc = machine.desc; first = kept_cells; states = switched_on images; slice = slice; steps = steps }
+
+-- ---- what is told
+
+-- its text: the states that were reached, and the counts of turns
+abbrev pub text_of : GuestRun → List ℕ
+text_of r = run_text r.desc.word (reached_by r) (turns_in r) (direct_turns_of r)
+
+-- its summary: the counts of turns, and a line for each state that was reached
+abbrev pub summary_of_run : GuestRun → List ℕ
+summary_of_run r = summary_text r.desc.word (reached_by r) (turns_in r) (direct_turns_of r)
+
+-- the cells of grants
+abbrev pub granted : List Guest → List ℕ → List (List ℕ)
+granted gs cells = map (λ g. span g.base g.size cells) gs

@@ -9,11 +9,11 @@ ghost use Rattle.pg_mon_control.specs.Schedules.{schedule};
 ghost use Rattle.pg_mon_control.specs.Standing.{Stands};
 ghost use Rattle.pg_monitor.specs.Monitors.{desc_of};
 ghost use Rattle.pg_monitor.specs.Plans.{Followed};
-ghost use Rattle.pg_run_base.specs.Runs.{run_of};
-ghost use Rattle.pg_run_base.specs.Setting.{CanRun, SetUp};
+ghost use Rattle.pg_run_guests.specs.Runs.{run_of};
+ghost use Rattle.pg_run_guests.specs.Setting.{CanRun, SetUp};
 ghost use Rattle.pg_type.specs.Listed.{state_of};
-ghost use Rattle.pg_run_guests.specs.Runs.{RanGuests, state_run};
-ghost use Rattle.pg_run_guests.specs.Begun.{HaveRun};
+ghost use Rattle.pg_run_guests.specs.UnderMonitor.{RanGuests, state_run};
+ghost use Rattle.pg_run_guests.specs.HaveRun.{HaveRun};
 
 use crate::starting::{start, start_state};
 use pg_hw::Hardware;

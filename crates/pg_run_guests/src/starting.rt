@@ -3,12 +3,12 @@
 ghost use Rattle.std.specs.Prelude.{◌≡◌, ◌+◌, ◌≤◌, [], ◌∷◌, IfOk, OnOk, OnErr};
 ghost use Rattle.pg_hw.specs.Serving.{IsServed};
 ghost use Rattle.pg_alloc.specs.Fit.{kept_cells};
-ghost use Rattle.pg_run_guests.specs.Begun.{holding};
-ghost use Rattle.pg_run_guests.specs.Runs.{state_run};
+ghost use Rattle.pg_run_guests.specs.HaveRun.{holding};
+ghost use Rattle.pg_run_guests.specs.UnderMonitor.{state_run};
 ghost use Rattle.pg_monitor.specs.Monitors.{desc_of, kept_by};
-ghost use Rattle.pg_run_base.specs.Runs.{GuestRun, run_of, switched_on};
-ghost use Rattle.pg_run_base.specs.Setting.{HaveRoom, SetUp, loaded_for, loaded_from, taken_for};
-ghost use Rattle.pg_run_base.specs.Begun.{HoldsNoMore, IsBegun, LoadedSome};
+ghost use Rattle.pg_run_guests.specs.Runs.{GuestRun, run_of, switched_on};
+ghost use Rattle.pg_run_guests.specs.Setting.{HaveRoom, SetUp, loaded_for, loaded_from, taken_for};
+ghost use Rattle.pg_run_guests.specs.Begun.{HoldsNoMore, IsBegun, LoadedSome};
 ghost use Rattle.pg_type.specs.Listed.{state_of};
 
 use pg_hw::Hardware;

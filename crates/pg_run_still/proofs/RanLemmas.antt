@@ -21,11 +21,11 @@ use Rattle.pg_monitor.specs.Plans.{direct_of, cell_behind, psw_behind, changes_o
 use Rattle.pg_monitor.specs.Settling.{TellsFirst}
 use Rattle.pg_monitor.specs.Turns.{CountsTurns}
 use Rattle.pg_monitor.proofs.PlanLemmas.{Followed-own}
-use Rattle.pg_run_base.specs.Begun.{IsBegun}
-use Rattle.pg_run_base.specs.Runs.{GuestRun, guests_of}
-use Rattle.pg_run_base.specs.Setting.{CanRun}
-use Rattle.pg_run_base.proofs.StartedLemmas.{IsLoaded, on-room, on-small, on-first, on-outside, on-psw, on-steps, on-untrapped, on-loads, on-pokes, on-bottom, begun-count, begun-states}
-use Rattle.pg_run_base.proofs.SettingLemmas.{granted-same, guests-length}
+use Rattle.pg_run_guests.specs.Begun.{IsBegun}
+use Rattle.pg_run_guests.specs.Runs.{GuestRun, guests_of}
+use Rattle.pg_run_guests.specs.Setting.{CanRun}
+use Rattle.pg_run_guests.proofs.StartedLemmas.{IsLoaded, on-room, on-small, on-first, on-outside, on-psw, on-steps, on-untrapped, on-loads, on-pokes, on-bottom, begun-count, begun-states}
+use Rattle.pg_run_guests.proofs.SettingLemmas.{granted-same, guests-length}
 use Rattle.pg_run_still.specs.declared.rounds.Rest.{Rest}
 use Rattle.pg_run_still.specs.declared.running.Rested.{Rested}
 use Rattle.pg_run_still.specs.Rounds.{goes_on, round_behind, rounds_until}

@@ -6,7 +6,7 @@ use Rattle.pg_mon_control.specs.Plans.{turns_of}
 use Rattle.pg_mon_control.specs.Standing.{Stands}
 use Rattle.pg_monitor.specs.Monitors.{desc_of}
 use Rattle.pg_monitor.specs.Plans.{direct_of}
-use Rattle.pg_run_base.specs.Runs.{GuestRun, guests_of}
+use Rattle.pg_run_guests.specs.Runs.{GuestRun, guests_of}
 use Rattle.pg_run_still.specs.declared.running.Rested.{Rested}
 use Rattle.pg_run_still.specs.Running.{RanStill, plan_until, rested}
 

@@ -11,8 +11,8 @@ use Rattle.pg_mon_control.specs.Counting.{BottomTurns}
 use Rattle.pg_mon_control.specs.Plans.{turns_of, IsOutside}
 use Rattle.pg_monitor.specs.Plans.{cell_behind, changes_of, direct_of, psw_behind}
 use Rattle.pg_report.specs.Runs.{steps_line}
-use Rattle.pg_run_base.specs.Runs.{GuestRun, cells_in, granted, guests_of}
-use Rattle.pg_run_base.specs.Setting.{HaveRoom}
+use Rattle.pg_run_guests.specs.Runs.{GuestRun, cells_in, granted, guests_of}
+use Rattle.pg_run_guests.specs.Setting.{HaveRoom}
 use Rattle.pg_run_still.specs.declared.rounds.Rest.{Rest}
 use Rattle.pg_run_still.specs.declared.view.View.{View}
 use Rattle.pg_run_still.specs.Rounds.{rounds_until}

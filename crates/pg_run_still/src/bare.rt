@@ -20,7 +20,7 @@ use pg_hw::{Hardware, Settling, bare, power_on};
 use pg_interp::Frame;
 use pg_mach_ready::Machine;
 use pg_routine::{Emulated, emulate_seen};
-use pg_run_base::{Pace, RunWatcher};
+use pg_run_guests::{Pace, RunWatcher};
 use std::alloc::AllocError;
 
 /// How many steps a machine does, at most, until its watcher is told.

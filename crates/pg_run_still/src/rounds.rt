@@ -14,7 +14,7 @@ ghost use Rattle.pg_run_still.specs.Resting.{AfterRound, AfterSlice, AreBefore, 
 use arrayvec::ArrayVec;
 use pg_hw::Settling;
 use pg_monitor::Monitor;
-use pg_run_base::{Pace, RunWatcher};
+use pg_run_guests::{Pace, RunWatcher};
 
 /// The most guests of a run.
 pub const MOST_GUESTS: usize = 8;

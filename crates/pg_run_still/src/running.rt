@@ -3,8 +3,8 @@
 ghost use Rattle.std.specs.Prelude.{◌≡◌, ◌≤◌, OnErr, IfOk};
 ghost use Rattle.pg_hw.specs.Serving.{IsServed};
 ghost use Rattle.pg_mon_control.specs.Counting.{CanCount};
-ghost use Rattle.pg_run_base.specs.Runs.{run_of};
-ghost use Rattle.pg_run_base.specs.Setting.{SetUp};
+ghost use Rattle.pg_run_guests.specs.Runs.{run_of};
+ghost use Rattle.pg_run_guests.specs.Setting.{SetUp};
 ghost use Rattle.pg_run_still.specs.Rested.{HaveRested};
 ghost use Rattle.pg_run_still.specs.Running.{CanGo};
 
@@ -12,8 +12,7 @@ use crate::rounds::{Rest, Rests, run_rounds};
 use pg_hw::Settling;
 use pg_image::Image;
 use pg_monitor::{Guest, Monitor};
-use pg_run_base::RunWatcher;
-use pg_run_guests::start;
+use pg_run_guests::{RunWatcher, start};
 use pg_type::Accepted;
 use std::alloc::{AllocError, Global};
 

@@ -4,7 +4,7 @@ ghost use Rattle.std.specs.Prelude.{◌≡◌, ◌+◌, ◌<◌, ◌≤◌, ◌^
 ghost use Rattle.std.specs.Fmt.{decimal};
 ghost use Rattle.pg_edge.specs.Sink.{Puts};
 ghost use Rattle.pg_mon_control.specs.Guests.{virtual, virtuals};
-ghost use Rattle.pg_run_base.specs.Telling.{AreWithin};
+ghost use Rattle.pg_run_guests.specs.Telling.{AreWithin};
 ghost use Rattle.pg_lang_meaning.specs.States.{IsState};
 ghost use Rattle.pg_run_still.specs.Bare.{stood_text};
 ghost use Rattle.pg_run_still.specs.Running.{head_text, rest_said, rests_text, still_text};

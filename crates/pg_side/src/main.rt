@@ -30,7 +30,7 @@ use pg_io_host::{DirShelf, Progress, StdSink};
 use pg_prog_proofs::{dimacs, export, import, solve};
 use pg_report::put_text;
 use pg_rig::Rig;
-use pg_run_base::RunWatcher;
+use pg_run_guests::RunWatcher;
 use std::cell::RefCell;
 use std::io::IsTerminal;
 use std::process::ExitCode;

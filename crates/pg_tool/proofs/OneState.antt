@@ -9,8 +9,8 @@ use Rattle.pg_lang_meaning.specs.States.{State}
 use Rattle.pg_mon_control.specs.declared.guest.Guest.{Guest}
 use Rattle.pg_mon_control.specs.Plans.{IsOutside}
 use Rattle.pg_report.specs.Spans.{span}
-use Rattle.pg_run_guests.specs.Runs.{RanGuests}
-use Rattle.pg_run_base.specs.Runs.{GuestRun, granted, guests_of}
+use Rattle.pg_run_guests.specs.UnderMonitor.{RanGuests}
+use Rattle.pg_run_guests.specs.Runs.{GuestRun, granted, guests_of}
 
 abbrev first : List (List ℕ) → List ℕ
 first [] = []

@@ -8,8 +8,8 @@ ghost use Rattle.pg_cmd_plain.specs.Bare.{BareRun, RanBare};
 ghost use Rattle.pg_cmd_base.specs.Commands.{Carries};
 ghost use Rattle.pg_cmd_base.specs.World.{World};
 ghost use Rattle.pg_cmd_base.specs.declared.status.Status.TheVariants.{ReadFault};
-ghost use Rattle.pg_run_guests.specs.Runs.{RanGuests};
-ghost use Rattle.pg_run_base.specs.Runs.{GuestRun};
+ghost use Rattle.pg_run_guests.specs.UnderMonitor.{RanGuests};
+ghost use Rattle.pg_run_guests.specs.Runs.{GuestRun};
 ghost use Rattle.pg_tool.specs.Asking.{command_for};
 ghost use Rattle.pg_cmd_base.specs.Steps.{IsOne};
 

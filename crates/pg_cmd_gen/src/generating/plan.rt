@@ -1,10 +1,10 @@
 //! A large input, made and classified, before any of its certificate is saved or put.
 
-ghost use Rattle.pg_run_base.specs.Runs.{run_of};
-ghost use Rattle.pg_run_base.specs.Setting.{CanRun};
+ghost use Rattle.pg_run_guests.specs.Runs.{run_of};
+ghost use Rattle.pg_run_guests.specs.Setting.{CanRun};
 ghost use Rattle.pg_cmd_gen.specs.Generating.{gen_slice, gen_steps};
 
-use pg_cmd_outputs::WrittenCert;
+use pg_cmd_certs::WrittenCert;
 use pg_image::Image;
 use sqlite_items::Items;
 

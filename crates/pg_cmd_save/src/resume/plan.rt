@@ -1,7 +1,7 @@
 //! A saved guest that is to go on, made ready: what was tried on the way stands in its ghost fields, so nothing is tested again.
 
-ghost use Rattle.pg_run_guests.specs.Runs.{state_run};
-ghost use Rattle.pg_run_base.specs.Setting.{CanRun};
+ghost use Rattle.pg_run_guests.specs.UnderMonitor.{state_run};
+ghost use Rattle.pg_run_guests.specs.Setting.{CanRun};
 ghost use Rattle.pg_cmd_save.specs.Save.{one_slice};
 ghost use Rattle.pg_type.specs.Listed.{state_of};
 

@@ -1,8 +1,8 @@
 //! A run that is to be saved, made ready: what was tried on the way stands in its ghost fields, so nothing is tested again.
 
 ghost use Rattle.std.specs.Prelude.{◌≡◌, ◌≤◌, [], ◌∷◌, length};
-ghost use Rattle.pg_run_base.specs.Runs.{run_of};
-ghost use Rattle.pg_run_base.specs.Setting.{CanRun};
+ghost use Rattle.pg_run_guests.specs.Runs.{run_of};
+ghost use Rattle.pg_run_guests.specs.Setting.{CanRun};
 ghost use Rattle.pg_cmd_save.specs.Save.{one_slice};
 
 use pg_cmd_certs::JudgedMachine;

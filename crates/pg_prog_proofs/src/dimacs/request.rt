@@ -4,7 +4,7 @@ ghost use Rattle.std.specs.Prelude.{map, string_bytes, IfSome};
 ghost use Rattle.pg_prog_proofs.specs.Exported.{AsksDimacs};
 
 use pg_cert::reading::kind;
-use pg_cmd_insert::Names;
+use pg_prog_base::Names;
 use pg_type::Kind;
 
 /// A question about one instruction of a description.

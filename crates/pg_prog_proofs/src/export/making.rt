@@ -2,15 +2,14 @@
 
 ghost use Rattle.std.specs.Prelude.{◌≡◌, ◌<◌, length, slice_get, Some, IfOk};
 ghost use Rattle.pg_cert.specs.declared.cert.Finding.TheVariants.{Refuted};
-ghost use Rattle.pg_cmd_insert.specs.Imported.{IsOfText};
+ghost use Rattle.pg_prog_base.specs.Imported.{IsOfText};
 ghost use Rattle.pg_proof.specs.Log.{IsClosedLog};
 ghost use Rattle.pg_prog_proofs.specs.Exported.{AreTexts, AreTextsAt};
 
 use pg_ask::{Asked, ask};
 use pg_cert::{Cert, Finding, instr_of, kind_of};
-use pg_cmd_insert::{Names, lrat_of, text_of};
+use pg_prog_base::{Names, Stop, lrat_of, text_of};
 use pg_mach_ready::Machine;
-use pg_prog_base::Stop;
 use pg_proof::ActList;
 use std::alloc::{AllocError, Global};
 

@@ -5,7 +5,7 @@ ghost use Rattle.pg_cert.specs.Reading.{read_kind};
 ghost use Rattle.pg_prog_proofs.specs.Exported.{AsksExport};
 
 use pg_cert::reading::kind;
-use pg_cmd_insert::Names;
+use pg_prog_base::Names;
 use pg_type::Kind;
 
 /// A finding that is to be told to others.

@@ -2,14 +2,12 @@
 
 ghost use Rattle.std.specs.Prelude.{◌≡◌, slice_get, Some, IfOk};
 ghost use Rattle.pg_ast.specs.declared.tree.Instr.{Instr};
-ghost use Rattle.pg_cmd_insert.specs.Imported.{IsRight};
+ghost use Rattle.pg_prog_base.specs.Imported.{IsRight};
 
 use pg_ask::Asked;
 use pg_cert::Finding;
-use pg_cmd_insert::{assignment_of, first_false, refuted, shown};
-use pg_prog_base::{ProofFault, Stop};
-use pg_sat_foreign::{Foreign, Record, read};
-use pg_sat_rup::log_of_proof;
+use pg_prog_base::{ProofFault, Stop, assignment_of, first_false, refuted, shown};
+use pg_sat_foreign::{Foreign, Record, log_of_proof, read};
 use std::alloc::Global;
 
 /// The finding of a question that the bytes say.

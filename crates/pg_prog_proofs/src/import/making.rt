@@ -1,7 +1,7 @@
 //! The new certificate, with its text and what is told of it.
 
 ghost use Rattle.std.specs.Prelude.{◌≡◌, ◌<◌, length, string_bytes, IfOk};
-ghost use Rattle.pg_cmd_insert.specs.Imported.{IsOfText, IsPlaceOf, IsRightAt};
+ghost use Rattle.pg_prog_base.specs.Imported.{IsOfText, IsPlaceOf, IsRightAt};
 ghost use Rattle.pg_proof.specs.Trimmed.{step_count};
 ghost use Rattle.pg_prog_proofs.specs.Saved.{IsNew, import_line, refuted_line, shown_line};
 
@@ -11,9 +11,8 @@ use pg_ask::ask;
 use pg_cert::{Cert, Finding};
 use pg_cli_says::Lacking;
 use pg_cmd_certs::JudgedMachine;
-use pg_cmd_insert::{Imported, place_of, replaced};
+use pg_prog_base::{Imported, Stop, place_of, replaced};
 use pg_mach_ready::Machine;
-use pg_prog_base::Stop;
 use pg_proof::Act;
 use std::alloc::{AllocError, Global};
 use std::fmt::Write;

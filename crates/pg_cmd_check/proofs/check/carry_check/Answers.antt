@@ -3,7 +3,7 @@ use Rattle.pg_cmd_certs.specs.Views.{judged}
 use Rattle.pg_cmd_base.specs.World.{around}
 use Rattle.pg_cmd_check.specs.Check.{check_command}
 use Rattle.pg_cmd_check.proofs.CheckLemmas.{check_ends, check_unsaved}
-use Rattle.pg_cmd_outputs.proofs.SavingLemmas.{carries-saved}
+use Rattle.pg_cmd_certs.proofs.SavingLemmas.{carries-saved}
 use Rattle.pg_cmd_check.proofs.check.carry_check.Goals as goal
 
 pub returns-in-Ok-clause-carries : goal.returns-in-Ok-clause-carries

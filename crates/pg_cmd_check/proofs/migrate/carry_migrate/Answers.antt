@@ -1,9 +1,9 @@
 use Rattle.std.proofs.Common.{refl}
 use Rattle.pg_cmd_base.specs.World.{around}
 use Rattle.pg_cmd_check.specs.Migrate.{migrate_command}
-use Rattle.pg_cmd_outputs.specs.Views.{written}
+use Rattle.pg_cmd_certs.specs.WrittenViews.{written}
 use Rattle.pg_cmd_check.proofs.MigrateLemmas.{migrate_ends, migrate_unsaved}
-use Rattle.pg_cmd_outputs.proofs.SavingLemmas.{carries-saved}
+use Rattle.pg_cmd_certs.proofs.SavingLemmas.{carries-saved}
 use Rattle.pg_cmd_base.proofs.CarryLemmas.{carries-stopped}
 use Rattle.pg_cmd_check.proofs.migrate.carry_migrate.Goals as goal
 

@@ -8,11 +8,11 @@ use Rattle.pg_cert_migrate.specs.declared.migrating.Migrated.{Migrated}
 use Rattle.pg_cmd_base.specs.Answering.{Comes}
 use Rattle.pg_cmd_certs.specs.Certificates.{CertDue}
 use Rattle.pg_cmd_check.specs.Migrate.{MigratesFile}
-use Rattle.pg_cmd_outputs.specs.Views.{written}
+use Rattle.pg_cmd_certs.specs.WrittenViews.{written}
 use Rattle.pg_cmd_base.specs.Steps.{Came}
 use Rattle.pg_cmd_certs.proofs.JudgedLemmas.{judged-stopped, judged-refused, judged-came}
 use Rattle.pg_cmd_check.proofs.MigrateLemmas.{is_migrated_text}
-use Rattle.pg_cmd_outputs.proofs.SavingLemmas.{written_fit, written_whole}
+use Rattle.pg_cmd_certs.proofs.SavingLemmas.{written_fit, written_whole}
 use Rattle.pg_cmd_check.proofs.migrate.prepare_migrate.Goals as goal
 
 pub write-requires-clause-fit : goal.write-requires-clause-fit

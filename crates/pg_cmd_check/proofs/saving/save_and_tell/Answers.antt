@@ -2,8 +2,8 @@ use Rattle.std.proofs.Common.{inl, refl, subst}
 use Rattle.pg_edge.specs.Told.{BothTold}
 use Rattle.pg_cmd_certs.specs.Views.{judged}
 use Rattle.pg_cmd_base.specs.World.{around, output}
-use Rattle.pg_cmd_outputs.specs.Saving.{HoldsNow, HoldsAtMost}
-use Rattle.pg_cmd_outputs.proofs.SavingLemmas.{saved-told}
+use Rattle.pg_cmd_certs.specs.Saving.{HoldsNow, HoldsAtMost}
+use Rattle.pg_cmd_certs.proofs.SavingLemmas.{saved-told}
 use Rattle.pg_cmd_check.proofs.saving.save_and_tell.Goals as goal
 
 pub returns-in-Ok-clause-saved : goal.returns-in-Ok-clause-saved

@@ -1,15 +1,15 @@
 use Rattle.std.proofs.Common.{◌∙◌, refl, sym, ap, subst}
 use Rattle.pg_cert.specs.declared.cert.Family.TheVariants.{Plain}
 use Rattle.pg_edge.specs.Told.{BothTold}
-use Rattle.pg_run_base.specs.Runs.{GuestRun}
-use Rattle.pg_run_base.specs.Setting.{SetUp}
+use Rattle.pg_run_guests.specs.Runs.{GuestRun}
+use Rattle.pg_run_guests.specs.Setting.{SetUp}
 use Rattle.pg_cmd_certs.specs.Judged.{verdict_on, verdict_status}
 use Rattle.pg_cmd_certs.proofs.TellingLemmas.{verdict-ended}
 use Rattle.pg_cmd_base.specs.Commands.{Carries}
 use Rattle.pg_cmd_base.specs.World.{around}
 use Rattle.pg_cmd_base.proofs.CarryLemmas.{carries-ended, carries-broken, carries-starved, carries-unsaved}
-use Rattle.pg_cmd_outputs.specs.Saving.{HasSaved, HoldsNow, HoldsAtMost}
-use Rattle.pg_cmd_outputs.proofs.SavingLemmas.{is_saved}
+use Rattle.pg_cmd_certs.specs.Saving.{HasSaved, HoldsNow, HoldsAtMost}
+use Rattle.pg_cmd_certs.proofs.SavingLemmas.{is_saved}
 use Rattle.pg_cmd_gen.specs.Generating.{GenEnds, RanBy, gen_command, generated_text}
 use Rattle.pg_cmd_gen.specs.Plans.{judged_input}
 use Rattle.pg_cmd_gen.proofs.GeneratingLemmas.{checked-accepts, gen-ends, plan-run}

@@ -7,8 +7,8 @@ use Rattle.pg_edge.specs.declared.shelf.Failed.{Failed}
 use Rattle.pg_edge.proofs.PutsLaws.{Puts-none, Puts-then, Puts-stopped}
 use Rattle.pg_run_guests.specs.declared.running.Ran.{Ran}
 use Rattle.pg_run_guests.proofs.ToldLemmas.{have-within}
-use Rattle.pg_run_base.specs.Runs.{GuestRun}
-use Rattle.pg_run_base.specs.Telling.{AreWithin}
+use Rattle.pg_run_guests.specs.Runs.{GuestRun}
+use Rattle.pg_run_guests.specs.Telling.{AreWithin}
 use Rattle.pg_report.specs.Summaries.{instructions_line}
 use Rattle.pg_report.specs.Verdicts.{outcome_line}
 use Rattle.pg_cmd_gen.specs.Generating.{HaveRunBy, generated_run, generated_text, run_told}

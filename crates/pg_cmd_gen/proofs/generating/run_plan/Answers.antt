@@ -3,9 +3,9 @@ use Rattle.pg_mach_ready.specs.declared.machine.Machine.{Machine}
 use Rattle.pg_cert.specs.declared.report.Verdict.{Verdict}
 use Rattle.pg_cert.specs.declared.report.Verdict.TheVariants.{Accepted}
 use Rattle.pg_cmd_certs.specs.Judged.{verdict_on}
-use Rattle.pg_run_guests.specs.Runs.{RanGuests}
-use Rattle.pg_run_base.specs.Runs.{run_of}
-use Rattle.pg_run_base.specs.Setting.{SetUp}
+use Rattle.pg_run_guests.specs.UnderMonitor.{RanGuests}
+use Rattle.pg_run_guests.specs.Runs.{run_of}
+use Rattle.pg_run_guests.specs.Setting.{SetUp}
 use Rattle.pg_cmd_gen.specs.Generating.{RanBy, gen_slice, gen_steps}
 use Rattle.pg_cmd_gen.specs.Plans.{judged_input, run_of_plan}
 use Rattle.pg_cmd_base.proofs.AbleLemmas.{size-small}

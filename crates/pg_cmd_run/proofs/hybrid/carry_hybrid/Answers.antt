@@ -1,15 +1,15 @@
 use Rattle.std.proofs.Common.{◌≡◌, ◌∙◌, ℕ, List, refl, sym, ap, subst, arith}
 use Rattle.pg_mach_ready.specs.declared.machine.Machine.{Machine}
 use Rattle.pg_cert.specs.declared.report.Verdict.TheVariants.{Accepted}
-use Rattle.pg_run_hybrid.specs.Ended.{HaveRunHybrid}
-use Rattle.pg_run_hybrid.specs.Runs.{RanHybrid, hybrid_text}
-use Rattle.pg_run_hybrid.proofs.ToldLemmas.{have-within}
-use Rattle.pg_run_base.specs.Runs.{run_of}
-use Rattle.pg_run_base.specs.Setting.{SetUp}
-use Rattle.pg_run_base.specs.Telling.{AreWithin}
+use Rattle.pg_run_guests.specs.HaveRunHybrid.{HaveRunHybrid}
+use Rattle.pg_run_guests.specs.UnderHybrid.{RanHybrid, hybrid_text}
+use Rattle.pg_run_guests.proofs.HybridToldLemmas.{have-within}
+use Rattle.pg_run_guests.specs.Runs.{run_of}
+use Rattle.pg_run_guests.specs.Setting.{SetUp}
+use Rattle.pg_run_guests.specs.Telling.{AreWithin}
 use Rattle.pg_edge.specs.Sink.{Puts}
 use Rattle.pg_edge.specs.declared.shelf.Failed.{Failed}
-use Rattle.pg_run_base.proofs.ReachedLemmas.{reached-bare}
+use Rattle.pg_run_guests.proofs.ReachedLemmas.{reached-bare}
 use Rattle.pg_cmd_base.specs.declared.status.Status.TheVariants.{Done}
 use Rattle.pg_cmd_base.specs.World.{IsUntouched, around}
 use Rattle.pg_cmd_base.proofs.AbleLemmas.{size-small}

@@ -5,7 +5,7 @@ use Rattle.pg_edge.specs.declared.shelf.Failed.{Failed}
 use Rattle.pg_cmd_certs.specs.Judged.{verdict_on}
 use Rattle.pg_cmd_certs.proofs.TellingLemmas.{carries-told}
 use Rattle.pg_mach_ready.specs.declared.machine.Machine.{Machine}
-use Rattle.pg_run_nest.specs.Nesting.{RanNested}
+use Rattle.pg_run_guests.specs.Nesting.{RanNested}
 use Rattle.pg_cmd_base.specs.declared.status.Status.TheVariants.{Done}
 use Rattle.pg_cmd_base.specs.World.{IsUntouched, around}
 use Rattle.pg_cmd_base.proofs.AbleLemmas.{size-small}

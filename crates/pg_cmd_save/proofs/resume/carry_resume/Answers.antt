@@ -2,12 +2,12 @@ use Rattle.std.proofs.Common.{◌≡◌, ◌∙◌, List, ℕ, refl, sym, ap, su
 use Rattle.pg_cert.specs.declared.report.Verdict.TheVariants.{Accepted}
 use Rattle.pg_edge.specs.Sink.{Puts}
 use Rattle.pg_edge.specs.declared.shelf.Failed.{Failed}
-use Rattle.pg_run_guests.specs.Begun.{HaveRun}
-use Rattle.pg_run_guests.specs.Runs.{RanGuests, state_run}
+use Rattle.pg_run_guests.specs.HaveRun.{HaveRun}
+use Rattle.pg_run_guests.specs.UnderMonitor.{RanGuests, state_run}
 use Rattle.pg_cmd_certs.specs.Judged.{verdict_on}
 use Rattle.pg_cmd_certs.proofs.TellingLemmas.{carries-told}
 use Rattle.pg_mach_ready.specs.declared.machine.Machine.{Machine}
-use Rattle.pg_run_base.specs.Setting.{SetUp}
+use Rattle.pg_run_guests.specs.Setting.{SetUp}
 use Rattle.pg_cmd_base.specs.declared.status.Status.TheVariants.{Done}
 use Rattle.pg_cmd_base.specs.World.{IsUntouched, around}
 use Rattle.pg_cmd_base.proofs.AbleLemmas.{size-small}

@@ -4,9 +4,9 @@ use Rattle.pg_edge.specs.declared.shelf.Failed.{Failed}
 use Rattle.pg_edge.proofs.PutsLaws.{Puts-then, Puts-stopped}
 use Rattle.pg_run_guests.proofs.ToldLemmas.{have-within}
 use Rattle.pg_report.specs.Runs.{run_text, total_line}
-use Rattle.pg_run_base.specs.Telling.{AreWithin}
+use Rattle.pg_run_guests.specs.Telling.{AreWithin}
 use Rattle.pg_cmd_save.specs.Plans.{resume_run}
-use Rattle.pg_run_base.specs.Runs.{direct_turns_of}
+use Rattle.pg_run_guests.specs.Runs.{direct_turns_of}
 use Rattle.pg_cmd_save.specs.Resume.{ResumeRun, guest_on, reached_on}
 use Rattle.pg_cmd_save.proofs.GuestLemmas.{ran-told}
 use Rattle.pg_cmd_save.proofs.resume.put_resumed.Goals as goal

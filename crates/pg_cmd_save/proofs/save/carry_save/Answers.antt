@@ -8,11 +8,11 @@ use Rattle.pg_edge.specs.declared.shelf.Failed.{Failed}
 use Rattle.pg_run_guests.proofs.ToldLemmas.{have-within}
 use Rattle.pg_cmd_certs.specs.Judged.{verdict_on}
 use Rattle.pg_cmd_certs.proofs.TellingLemmas.{carries-told}
-use Rattle.pg_run_base.specs.Telling.{AreWithin}
+use Rattle.pg_run_guests.specs.Telling.{AreWithin}
 use Rattle.pg_cmd_base.specs.declared.status.Status.TheVariants.{Done}
 use Rattle.pg_cmd_base.specs.World.{IsUntouched, around}
 use Rattle.pg_cmd_base.proofs.CarryLemmas.{carries-stopped, carries-done, carries-broken, carries-starved, carries-unsaved}
-use Rattle.pg_cmd_outputs.specs.Saving.{HasSaved, HoldsNow, HoldsAtMost}
+use Rattle.pg_cmd_certs.specs.Saving.{HasSaved, HoldsNow, HoldsAtMost}
 use Rattle.pg_cmd_save.specs.Plans.{save_run}
 use Rattle.pg_cmd_save.specs.Save.{guest_of, judged_by, reached, save_command, saved_of, told_of_run}
 use Rattle.pg_cmd_save.proofs.GuestLemmas.{ran-told}

@@ -1,8 +1,8 @@
 use Rattle.std.proofs.Common.{◌≡◌, ◌∙◌, ℕ, All, List, refl, sym, ap, subst, arith}
 use Rattle.pg_mach_ready.specs.declared.machine.Machine.{Machine}
 use Rattle.pg_cert.specs.declared.report.Verdict.TheVariants.{Accepted}
-use Rattle.pg_run_base.specs.Runs.{run_of}
-use Rattle.pg_run_base.specs.Setting.{SetUp}
+use Rattle.pg_run_guests.specs.Runs.{run_of}
+use Rattle.pg_run_guests.specs.Setting.{SetUp}
 use Rattle.pg_mon_control.specs.Guests.{virtuals}
 use Rattle.pg_run_still.specs.declared.view.View.{View}
 use Rattle.pg_edge.specs.Sink.{Puts}

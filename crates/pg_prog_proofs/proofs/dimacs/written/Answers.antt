@@ -1,6 +1,6 @@
 use Rattle.std.proofs.Common.{subst}
-use Rattle.pg_cmd_insert.specs.Dimacs.{IsQuestionText}
-use Rattle.pg_cmd_insert.proofs.Texts.{if_ok}
+use Rattle.pg_prog_base.specs.Dimacs.{IsQuestionText}
+use Rattle.pg_prog_base.proofs.Texts.{if_ok}
 use Rattle.pg_prog_proofs.proofs.dimacs.written.Goals as goal
 
 pub returns : goal.returns

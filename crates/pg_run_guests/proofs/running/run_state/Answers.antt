@@ -1,9 +1,9 @@
 use Rattle.std.proofs.Common.{refl, ap, arith}
 use Rattle.pg_mach_ready.specs.declared.machine.Machine.{Machine}
 use Rattle.pg_type.specs.Listed.{state_of}
-use Rattle.pg_run_guests.specs.Runs.{state_run}
-use Rattle.pg_run_base.proofs.SettingLemmas.{set-up-same}
-use Rattle.pg_run_base.proofs.StartedLemmas.{loaded-few}
+use Rattle.pg_run_guests.specs.UnderMonitor.{state_run}
+use Rattle.pg_run_guests.proofs.SettingLemmas.{set-up-same}
+use Rattle.pg_run_guests.proofs.StartedLemmas.{loaded-few}
 use Rattle.pg_run_guests.proofs.RanLemmas.{run-left, run-have}
 use Rattle.pg_run_guests.proofs.running.run_state.Goals as goal
 

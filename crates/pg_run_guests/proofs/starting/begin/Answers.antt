@@ -7,8 +7,8 @@ use Rattle.pg_hw.specs.Machinery.{Machinery, poked_at}
 use Rattle.pg_hw.specs.Serving.{blank}
 use Rattle.pg_hw.proofs.ServingLaws.{blank-state}
 use Rattle.pg_mon_control.proofs.LoadLemmas.{shape-same}
-use Rattle.pg_run_base.specs.Setting.{Untouched, Installed, installed_for}
-use Rattle.pg_run_base.proofs.SettingLemmas.{blank-size}
+use Rattle.pg_run_guests.specs.Setting.{Untouched, Installed, installed_for}
+use Rattle.pg_run_guests.proofs.SettingLemmas.{blank-size}
 use Rattle.pg_run_guests.proofs.starting.begin.Goals as goal
 
 pub new-requires-clause-size : goal.new-requires-clause-size

@@ -1,9 +1,9 @@
 use Rattle.std.proofs.Common.{◌∙◌, ap, length}
 use Rattle.pg_mach_ready.specs.declared.machine.Machine.{Machine}
 use Rattle.pg_lang_meaning.specs.Steps.{power_on}
-use Rattle.pg_run_base.specs.Runs.{switched_on}
-use Rattle.pg_run_base.proofs.ReachedLemmas.{switched_on-cells, switched_on-within, switched_on-at}
-use Rattle.pg_run_base.proofs.BegunLemmas.{one-begun, one-no_more, one-made, one-fits, image-least, image-words}
+use Rattle.pg_run_guests.specs.Runs.{switched_on}
+use Rattle.pg_run_guests.proofs.ReachedLemmas.{switched_on-cells, switched_on-within, switched_on-at}
+use Rattle.pg_run_guests.proofs.BegunLemmas.{one-begun, one-no_more, one-made, one-fits, image-least, image-words}
 use Rattle.pg_monitor.specs.Monitors.{base_for, kept_by}
 use Rattle.pg_run_guests.proofs.starting.load_all.Goals as goal
 

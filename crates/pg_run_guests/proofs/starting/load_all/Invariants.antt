@@ -1,9 +1,9 @@
 use Rattle.std.proofs.Common.{◌≡◌, take}
 use Rattle.pg_alloc.specs.Fit.{kept_cells}
-use Rattle.pg_run_base.specs.Runs.{switched_on}
-use Rattle.pg_run_base.specs.Setting.{loaded_from}
+use Rattle.pg_run_guests.specs.Runs.{switched_on}
+use Rattle.pg_run_guests.specs.Setting.{loaded_from}
 use Rattle.pg_monitor.specs.Monitors.{kept_by}
-use Rattle.pg_run_base.specs.Begun.{IsBegun, HoldsNoMore}
+use Rattle.pg_run_guests.specs.Begun.{IsBegun, HoldsNoMore}
 use Rattle.pg_run_guests.proofs.starting.load_all.Given as goal
 
 -- the images before this one were loaded

@@ -9,7 +9,7 @@ use Rattle.pg_hw.specs.Serving.{IsServed}
 use Rattle.pg_mach_ready.specs.declared.machine.Machine.{Machine}
 use Rattle.pg_lang_meaning.specs.States.{State, IsState}
 use Rattle.pg_monitor.specs.Monitors.{desc_of, kept_by}
-use Rattle.pg_run_base.specs.Setting.{HaveRoom}
+use Rattle.pg_run_guests.specs.Setting.{HaveRoom}
 use Rattle.pg_type.specs.Listed.{state_of}
 use Rattle.pg_word.proofs.SparseLemmas.{length-storage_of}
 use Rattle.pg_run_guests.proofs.HeldLemmas.{state-small, behind-fits, behind-begun, behind-made}

@@ -1,7 +1,7 @@
 use Rattle.std.proofs.Common.{◌∙◌, ap, refl, take}
 use Rattle.pg_alloc.specs.Fit.{kept_cells}
-use Rattle.pg_run_base.specs.Runs.{run_of, switched_on}
-use Rattle.pg_run_base.specs.Setting.{Loaded, loaded_from}
+use Rattle.pg_run_guests.specs.Runs.{run_of, switched_on}
+use Rattle.pg_run_guests.specs.Setting.{Loaded, loaded_from}
 use Rattle.pg_run_guests.proofs.starting.start.Goals as goal
 
 pub returns-in-Err-clause-set_up : goal.returns-in-Err-clause-set_up

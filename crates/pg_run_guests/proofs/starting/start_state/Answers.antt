@@ -1,8 +1,8 @@
 use Rattle.std.proofs.Common.{[], ◌∷◌, ◌+◌, ◌∙◌, ap, refl}
 use Rattle.pg_alloc.specs.Fit.{kept_cells}
 use Rattle.pg_type.specs.Listed.{state_of}
-use Rattle.pg_run_base.specs.Setting.{Loaded, loaded_from}
-use Rattle.pg_run_guests.specs.Runs.{state_run}
+use Rattle.pg_run_guests.specs.Setting.{Loaded, loaded_from}
+use Rattle.pg_run_guests.specs.UnderMonitor.{state_run}
 use Rattle.pg_run_guests.proofs.starting.start_state.Goals as goal
 
 pub returns-in-Err-clause-set_up : goal.returns-in-Err-clause-set_up

@@ -1,8 +1,8 @@
 use Rattle.std.proofs.Common.{◌-◌, refl, ap, ◌∙◌}
 use Rattle.pg_hw.specs.declared.counts.Counts.{Counts}
 use Rattle.pg_mach_ready.specs.declared.machine.Machine.{Machine}
-use Rattle.pg_run_base.specs.Runs.{run_of}
-use Rattle.pg_run_base.proofs.SettingLemmas.{set-up-same}
+use Rattle.pg_run_guests.specs.Runs.{run_of}
+use Rattle.pg_run_guests.proofs.SettingLemmas.{set-up-same}
 use Rattle.pg_run_still.proofs.RanLemmas.{run-have, standing-can}
 use Rattle.pg_run_still.proofs.running.run_until_still.Goals as goal
 

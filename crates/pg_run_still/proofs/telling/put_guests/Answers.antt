@@ -6,7 +6,7 @@ use Rattle.pg_edge.specs.declared.shelf.Failed.{Failed}
 use Rattle.pg_edge.proofs.PutsLaws.{Puts-then, Puts-stopped}
 use Rattle.pg_lang_meaning.specs.States.{State}
 use Rattle.pg_mon_control.specs.Guests.{virtual, virtuals}
-use Rattle.pg_run_base.proofs.TellLemmas.{no_guest, virtuals-of}
+use Rattle.pg_run_guests.proofs.TellLemmas.{no_guest, virtuals-of}
 use Rattle.pg_run_still.specs.declared.rounds.Rest.{Rest}
 use Rattle.pg_run_still.specs.Running.{rests_text}
 use Rattle.pg_run_still.specs.Views.{guest_text}

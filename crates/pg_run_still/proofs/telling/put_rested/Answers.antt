@@ -5,7 +5,7 @@ use Rattle.pg_edge.proofs.PutsLaws.{Puts-then, Puts-stopped}
 use Rattle.pg_mon_control.specs.declared.guest.Guest.{Guest}
 use Rattle.pg_mon_control.specs.Guests.{virtuals}
 use Rattle.pg_report.specs.Runs.{steps_line}
-use Rattle.pg_run_base.specs.Telling.{AreWithin}
+use Rattle.pg_run_guests.specs.Telling.{AreWithin}
 use Rattle.pg_run_still.specs.declared.rounds.Rest.{Rest}
 use Rattle.pg_run_still.specs.Running.{rests_text, still_text}
 use Rattle.pg_run_still.specs.Views.{AreViewsOf}

@@ -1,6 +1,6 @@
 use Rattle.std.proofs.Common.{sym, subst, ◌≡◌}
 use Rattle.pg_cnf.specs.declared.clause.Cnf.{Cnf}
-use Rattle.pg_cmd_insert.specs.Lrat.{lrat_text}
+use Rattle.pg_prog_base.specs.Lrat.{lrat_text}
 use Rattle.pg_proof.specs.Log.{IsClosedLog}
 use Rattle.pg_prog_proofs.proofs.export.making.both_of.Goals as goal
 

@@ -1,5 +1,5 @@
 use Rattle.pg_cert.specs.Texts.{heading_of}
-use Rattle.pg_cmd_insert.proofs.Texts.{if_ok}
+use Rattle.pg_prog_base.proofs.Texts.{if_ok}
 use Rattle.pg_prog_proofs.proofs.LogLemmas.{log_closed, are_of, are_texts_at}
 use Rattle.pg_prog_proofs.proofs.export.making.texts_of.Goals as goal
 

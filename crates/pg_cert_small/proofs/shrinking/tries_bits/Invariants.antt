@@ -1,5 +1,0 @@
-use Rattle.pg_cert_small.specs.Trying.{IsShown}
-use Rattle.pg_cert_small.proofs.shrinking.tries_bits.Given as goal
-
-abbrev pub invariant-loop-blocks : goal.invariant-loop-blocks
-invariant-loop-blocks l = IsShown l.aim l.pair

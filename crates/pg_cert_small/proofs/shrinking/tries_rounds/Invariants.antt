@@ -1,5 +1,0 @@
-use Rattle.pg_cert_small.specs.Trying.{IsShown}
-use Rattle.pg_cert_small.proofs.shrinking.tries_rounds.Given as goal
-
-abbrev pub invariant-loop : goal.invariant-loop
-invariant-loop l = IsShown l.aim l.pair

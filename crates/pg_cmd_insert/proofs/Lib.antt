@@ -1,5 +1,0 @@
-pub mod RightLemmas
-pub mod LineLemmas
-pub mod ReplaceLemmas
-pub mod CommentLemmas
-pub mod Texts

@@ -1,6 +1,0 @@
-use Rattle.pg_cmd_insert.specs.Dimacs.{AreComments}
-use Rattle.pg_cmd_insert.proofs.comments.push_comments.Given as goal
-
--- the lines so far
-abbrev pub invariant-loop-cell : goal.invariant-loop-cell
-invariant-loop-cell l = AreComments l.text.items

@@ -1,6 +1,0 @@
-use Rattle.pg_cmd_insert.specs.Dimacs.{GoesOn}
-use Rattle.pg_cmd_insert.proofs.comments.push_said.Given as goal
-
--- the bytes so far
-abbrev pub invariant-loop-byte : goal.invariant-loop-byte
-invariant-loop-byte l = GoesOn l.initial.text.items l.text.items

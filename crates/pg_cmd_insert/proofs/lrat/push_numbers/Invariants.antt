@@ -1,6 +1,0 @@
-use Rattle.std.proofs.Common.{◌≡◌, ◌++◌, drop}
-use Rattle.pg_cmd_insert.specs.Lrat.{numbers_text}
-use Rattle.pg_cmd_insert.proofs.lrat.push_numbers.Given as goal
-
-abbrev pub invariant-loop-number : goal.invariant-loop-number
-invariant-loop-number l = l.text.items ++ numbers_text (drop l.number-index l.numbers) ≡ l.initial.text.items ++ numbers_text l.numbers

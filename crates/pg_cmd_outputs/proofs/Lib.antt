@@ -1,2 +1,0 @@
-pub mod SavingLemmas
-pub mod CheckedLemmas

@@ -1,3 +1,0 @@
-pub mod Saving
-pub mod Checked
-pub mod Views

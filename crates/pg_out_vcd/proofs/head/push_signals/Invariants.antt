@@ -1,6 +1,0 @@
-use Rattle.std.proofs.Common.{◌≡◌, ◌++◌, drop}
-use Rattle.pg_out_vcd.specs.Dump.{signals_text}
-use Rattle.pg_out_vcd.proofs.head.push_signals.Given as goal
-
-abbrev pub invariant-loop-signal : goal.invariant-loop-signal
-invariant-loop-signal l = l.text.items ++ signals_text (drop l.signal-index l.signals) ≡ l.initial.text.items ++ signals_text l.signals

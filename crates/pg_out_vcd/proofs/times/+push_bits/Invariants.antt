@@ -1,4 +1,0 @@
-use Rattle.pg_out_vcd.proofs.times.+push_bits.Given as goal
-
-abbrev pub decreases-push_bits : goal.decreases-push_bits
-decreases-push_bits l = l.n

@@ -1,4 +1,0 @@
-pub mod Runs
-pub mod Setting
-pub mod Begun
-pub mod Telling

@@ -1,2 +1,0 @@
-pub mod RanLemmas
-pub mod ToldLemmas
