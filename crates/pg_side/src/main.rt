@@ -7,17 +7,23 @@
 //! word does. Where neither does, a line on standard error names the seven, and the status is 3. `--help` and `--version` as the first
 //! word behind the name are answered on standard output.
 //!
-//! Here it is found which program is meant (`words`), and that one is called. How they take their words is in `pg_cli_forms`, why a
-//! machine is refused in `pg_prog_explain`, what each step of a run does in `pg_prog_trace`, runs that end in `pg_prog_go`, and what is
+//! Here it is found which program is meant (`words`), and that one is called. `side` has the programs and their names, `form` and
+//! `table` how each takes its words, `complaining` what is wrong with words that are not taken. Why a machine is refused is in `pg_prog_explain`, what each step of a run does in `pg_prog_trace`, runs that end in `pg_prog_go`, and what is
 //! for other solvers and checkers, or from them, in `pg_prog_proofs`.
 //!
 //! A program beside these is a variant of `Side` and a `run` of its own. Nothing that `pgv` does stands on any of them.
 #![tactic(auto)]
 
+mod complaining;
+mod form;
+mod side;
+mod table;
 mod words;
 
+use crate::complaining::complaint;
+use crate::side::{Call, Side};
+use crate::table::named_by;
 use crate::words::{Asked, asks_for, called, own};
-use pg_cli_forms::{Call, Side, complaint, named_by};
 use pg_cli_says::{
     Beside, Ended, Holding, LastRead, Lines, Reading, Seen, Ticker, Watching, WordsWatcher,
     say_no_text, say_why, words,

@@ -1,6 +1,6 @@
 //! The words of the command line.
 
-use pg_cli_forms::{Call, Side, last_part};
+use crate::side::{Call, Side, last_part};
 use std::rt::Env;
 
 /// The most bytes of a name that the program is called by; a longer one is none of the programs'.

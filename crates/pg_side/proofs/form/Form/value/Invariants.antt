@@ -1,5 +1,5 @@
 use Rattle.std.proofs.Common.{length}
-use Rattle.pg_cli_forms.proofs.complaining.first_wrong.Given as goal
+use Rattle.pg_side.proofs.form.Form.value.Given as goal
 
 abbrev pub decreases-loop-part : goal.decreases-loop-part
 decreases-loop-part l = length l.left
