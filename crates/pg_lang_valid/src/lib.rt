@@ -34,4 +34,5 @@ pub use check_desc::test_all;
 pub use fault::{Limit, TypeFault, WidthClash};
 pub use let_widths::LetWidths;
 pub use limits::{MOST_ACCESSES, MOST_EXPRESSIONS, MOST_INSTRUCTIONS, MOST_LETS, MOST_STATEMENTS};
+pub use table::NameTable;
 pub use widths::{Judged, width_of};

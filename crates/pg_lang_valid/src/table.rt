@@ -1,10 +1,12 @@
-//! The table of the names of instructions, by which the test that each is given once looks them up.
+//! A table of names, found by look-up.
 //!
-//! Contracts see the names in the order in which they came. The table owns copies of the names. Only `insert` takes memory.
-//! No public call names it: a library whose public calls name such a table keeps all statements of `indexmap` for the crates
-//! above it.
+//! The test that each instruction's name is given once fills one, and so does the assembler with labels. Contracts see the names
+//! in the order in which they came. The table owns copies of the names. Only `insert` takes memory.
+//!
+//! No type that many crates name holds one: a library whose public calls name it keeps all statements of `indexmap` for the
+//! crates above.
 
-ghost use Rattle.std.specs.Prelude.{◌≡◌, not, if◌then◌else◌, [], ◌∷◌, ◌++◌, IfOk, OnErr};
+ghost use Rattle.std.specs.Prelude.{◌≡◌, not, if◌then◌else◌, [], ◌∷◌, ◌++◌, position, bytes_eq, IfOk, OnErr};
 ghost use Rattle.pg_lang_valid.specs.Twice.{is_among};
 
 use indexmap::IndexSet;
@@ -33,6 +35,13 @@ impl NameTable {
         NameTable {
             names: IndexSet::new(alloc),
         }
+    }
+
+    /// The number of a name.
+    pub fn find(&self, name: &[u8]) -> Option<usize>
+        ensures { result ≡ position (λ n. bytes_eq n name.now) self.now }
+    {
+        self.names.get_index_of(name)
     }
 
     /// Adds a name at the end, if it is not there, and says whether it was not. The error is out of memory, and the names
