@@ -25,6 +25,9 @@ const SHOWN_EVERY: u64 = 1;
 /// After how many seconds a line is written elsewhere.
 const NOTED_EVERY: u64 = 30;
 
+/// How many milliseconds a second has.
+const MILLIS: u64 = 1000;
+
 /// A certificate of more bytes is a long one.
 const LONG_FILE: u64 = 10_000_000;
 
@@ -133,10 +136,11 @@ impl<'a, C: Clock, E: Write + Drop> Ticker<'a, C, E> {
         }
         self.pace = Some(pace);
         if self.rhythm.beats() {
-            let seconds = self.seconds();
+            let millis = self.millis();
+            let seconds = millis / MILLIS;
             if self.is_due(seconds) {
                 self.told = seconds;
-                put_pace(&mut self.text, pace, seconds);
+                put_pace(&mut self.text, pace, millis);
                 self.write();
             }
         }
@@ -147,9 +151,9 @@ impl<'a, C: Clock, E: Write + Drop> Ticker<'a, C, E> {
         let Some(pace) = self.pace else {
             return;
         };
-        let seconds = self.seconds();
-        if seconds > 0 {
-            put_speed(&mut self.text, pace, seconds);
+        let millis = self.millis();
+        if millis >= MILLIS {
+            put_speed(&mut self.text, pace, millis);
             let program = self.lines.program.name();
             if let Ok(text) = self.text.whole() {
                 let _ = note(&mut self.lines.error, program, text);
@@ -163,14 +167,19 @@ impl<'a, C: Clock, E: Write + Drop> Ticker<'a, C, E> {
         self.rhythm = Rhythm::new();
     }
 
-    /// How many seconds ago the first was told. A clock that fails stands still.
+    /// How many whole seconds ago the first was told.
     fn seconds(&mut self) -> u64 {
+        self.millis() / MILLIS
+    }
+
+    /// How many milliseconds ago the first was told. A clock that fails stands still.
+    fn millis(&mut self) -> u64 {
         let Ok(now) = Instant::now(self.clock) else {
-            return self.told;
+            return self.told.saturating_mul(MILLIS);
         };
         self.rhythm.look(now);
         match self.begun {
-            Some(begun) => now.duration_since(begun).as_secs(),
+            Some(begun) => now.duration_since(begun).as_millis() as u64,
             None => {
                 self.begun = Some(now);
                 0
@@ -286,8 +295,8 @@ fn put_read(to: &mut Text, name: &str, done: u64, all: u64, seconds: u64) {
 }
 
 /// Makes the text of a run that goes on: `STEPS steps, N a second, S s: K of G guests still`.
-fn put_pace(to: &mut Text, pace: Pace, seconds: u64) {
-    put_speed(to, pace, seconds);
+fn put_pace(to: &mut Text, pace: Pace, millis: u64) {
+    put_speed(to, pace, millis);
     if pace.guests > 0 {
         to.push(b": ");
         put_share(to, pace.still as u64, pace.guests as u64);
@@ -300,13 +309,13 @@ fn put_pace(to: &mut Text, pace: Pace, seconds: u64) {
 }
 
 /// Makes the text of how fast a run goes: `STEPS steps, N a second, S s`.
-fn put_speed(to: &mut Text, pace: Pace, seconds: u64) {
+fn put_speed(to: &mut Text, pace: Pace, millis: u64) {
     to.clear();
     to.push_count(pace.turns);
     to.push(b" steps, ");
-    to.push_count(pace.turns / seconds.max(1));
+    to.push_count(pace.turns.saturating_mul(MILLIS) / millis.max(1));
     to.push(b" a second, ");
-    to.push_number(seconds);
+    to.push_number(millis / MILLIS);
     to.push(b" s");
 }
 
