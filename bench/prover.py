@@ -1,5 +1,6 @@
 """Checks of changed copies of a crate by the kit's prover, over libraries that are proved already, and what is read of what it says."""
 
+import functools
 import os
 import re
 import shutil
@@ -79,6 +80,7 @@ def is_answered(name, path, goal):
     return module == folder and goal.startswith(f"{function}-") if last.startswith("+") else name.replace("::", "/") == path
 
 
+@functools.lru_cache(maxsize=1)
 def library_of_rt():
     """The kit's own library, which the command rt is made of."""
     sys.dont_write_bytecode = True
