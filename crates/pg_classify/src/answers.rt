@@ -11,9 +11,9 @@ ghost use Rattle.pg_cert.specs.Lines.{most_budget};
 ghost use Rattle.pg_cert.specs.Texts.{AreListed};
 ghost use Rattle.pg_classify.specs.Classified.{IsFound};
 
+use crate::small;
 use pg_ask::{Asked, states_of};
 use pg_cert::Finding;
-use crate::small;
 use pg_proof::{Act, ActList, trim};
 use pg_sat::{Answer, SearchWatcher, StepList};
 use pg_sat_search::solve_watched;

@@ -6,8 +6,8 @@ ghost use Rattle.pg_classify.specs.Trying.{IsShown};
 use crate::extent::Extent;
 use crate::pair::{Aim, Change, Pair};
 use crate::words::words_after;
-use pg_type::placed;
 use pg_replay::replay;
+use pg_type::placed;
 use pg_word::{Sparse, window_len};
 use std::alloc::{AllocError, Global};
 

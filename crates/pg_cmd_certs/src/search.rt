@@ -3,10 +3,10 @@
 ghost use Rattle.std.specs.Prelude.{◌≡◌, ◌≤◌, IfOk};
 ghost use Rattle.pg_cmd_certs.specs.Checked.{IsChecked};
 
+use crate::JudgedMachine;
 use crate::written::WrittenCert;
 use pg_cert::{Family, report_of, write};
 use pg_classify::{Watcher, classify_watched};
-use crate::JudgedMachine;
 use pg_mach_ready::Machine;
 use std::alloc::{AllocError, Global};
 

@@ -9,11 +9,11 @@ ghost use Rattle.pg_lang_valid.specs.declared.fault.TypeFault.TheVariants.{Memor
 ghost use Rattle.pg_lang_valid.specs.Valid.{IsValid};
 ghost use Rattle.pg_lang_valid.specs.Verdicts.{IsFault};
 
+use crate::DecodeTable;
 use crate::machine::Machine;
 use pg_ast::Desc;
 use pg_lang_valid::{TypeFault, test_all};
 use pg_mach_code::{Codes, WordTable};
-use crate::DecodeTable;
 use std::alloc::Global;
 
 /// Tests a description. A valid one becomes a machine; of any other, which comes back, the fault is that of the first class

@@ -9,9 +9,9 @@ ghost use Rattle.pg_out_pair.specs.Readable.{IsPlain, IsReadable};
 use crate::frame::{Extent, Frame};
 use crate::touched::touched;
 use crate::words::{CELLS, Words};
-use pg_type::{Kind, placed};
 use pg_mach_ready::Machine;
 use pg_replay::replay;
+use pg_type::{Kind, placed};
 use pg_word::{Psw, Sparse, window_len};
 use std::alloc::{AllocError, Global};
 

@@ -16,10 +16,10 @@ use crate::head::push_head;
 use crate::sample::Sample;
 use crate::signal::{Signal, signals_of};
 use crate::times::push_sample;
+use crate::{Monitor, TraceFault, Tracer};
 use pg_edge::Sink;
 use pg_hw::{Hardware, power_on};
 use pg_mach_ready::Machine;
-use crate::{Monitor, TraceFault, Tracer};
 use std::alloc::Global;
 
 /// Switches a hardware on with an image, all of whose cells are a word of the machine, runs it for `n` steps, less than 2^32, and puts

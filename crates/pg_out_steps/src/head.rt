@@ -4,9 +4,9 @@ ghost use Rattle.std.specs.Prelude.{◌≡◌, ◌<◌, ◌++◌, length, OnOk};
 ghost use Rattle.pg_out_steps.specs.Lines.{name_at};
 ghost use Rattle.pg_out_steps.specs.Dump.{declared_text, head_text, instr_line, instrs_text, named_text, signal_line, signals_text};
 
+use crate::Monitor;
 use crate::signal::{Signal, signals_of};
 use pg_mach_ready::Machine;
-use crate::Monitor;
 use pg_text::dec;
 use std::alloc::AllocError;
 

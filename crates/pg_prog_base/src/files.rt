@@ -10,12 +10,12 @@ ghost use Rattle.pg_cmd_base.specs.Answering.{OnlyReads};
 ghost use Rattle.pg_cmd_base.specs.Steps.{Came};
 ghost use Rattle.pg_verify.specs.Taking.{instr_named};
 
+use crate::load_certificate;
 use crate::stop::Stop;
 use pg_cert::Family;
 use pg_cert_migrate::Migrated;
 use pg_cli_table::FileName;
 use pg_cmd_base::load_machine;
-use crate::load_certificate;
 use pg_edge::{Failed, LoadFault, Shelf, Sink};
 use pg_mach_ready::Machine;
 use std::alloc::{AllocError, Global};

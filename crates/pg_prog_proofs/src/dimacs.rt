@@ -21,11 +21,10 @@ use crate::dimacs::request::{Request, asked_by};
 use pg_ask::ask;
 use pg_cli_says::{Lacking, WordsWatcher};
 use pg_cmd_base::StopWatcher;
-use pg_prog_base::text_of;
 use pg_edge::{Shelf, Sink};
 use pg_mach_ready::Machine;
 use pg_prog_base::files::{file_name, find, machine, put};
-use pg_prog_base::{Stop, ended};
+use pg_prog_base::{Stop, ended, text_of};
 use std::alloc::{AllocError, Global};
 
 /// How the program is called.

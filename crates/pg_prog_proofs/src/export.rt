@@ -27,11 +27,10 @@ use pg_cert::Cert;
 use pg_cli_says::{Lacking, WordsWatcher};
 use pg_cli_table::FileName;
 use pg_cmd_base::StopWatcher;
-use pg_prog_base::place_of;
 use pg_edge::{Shelf, Sink};
 use pg_mach_ready::Machine;
 use pg_prog_base::files::{certificate, file_name, find, machine, put, save};
-use pg_prog_base::{Stop, ended};
+use pg_prog_base::{Stop, ended, place_of};
 use std::alloc::Global;
 
 /// How the program is called.

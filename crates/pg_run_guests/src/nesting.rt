@@ -11,12 +11,12 @@ ghost use Rattle.pg_hw.specs.Serving.{IsServed};
 ghost use Rattle.pg_mon_control.specs.Counting.{CanCount};
 ghost use Rattle.pg_run_guests.specs.Nesting.{CanNest, IsInnermost, Nested, RanNested, NotStepped};
 
+use crate::run_guests;
 use pg_hw::Hardware;
 use pg_image::Image;
 use pg_mach_ready::Machine;
 use pg_mon_control::KEPT_CELLS;
 use pg_nest::{Lent, Level};
-use crate::run_guests;
 use pg_type::Accepted;
 use pg_word::Psw;
 use std::alloc::{AllocError, Global};

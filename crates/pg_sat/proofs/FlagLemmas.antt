@@ -111,15 +111,3 @@ module _ (old low mid new : List Bool) (p q : ℕ) (c : List ℤ) (z : ℤ) (e :
       ends ∙ ap (λ (k : ℕ). set mid k false) f
       ∙ ap (λ (fs : List Bool). set fs (place z) false) (raises ∙ ap (λ (fs : List Bool). marked fs c) (lowers ∙ ap (λ (k : ℕ). set old k false) e)) in
       subst (λ (fs : List Bool). IsResolved (is_marked old) (is_marked fs) c z) (sym whole) (IsResolved-flags old c z here within)
-
-pub SFits-neg : (z y : ℤ) → y ≡ neg_ℤ z → IsLiteral 2147483647 z → SFits w32 y
-SFits-neg z y e h = subst (SFits w32) (sym e) (by z h)
-  where
-    by : (x : ℤ) → IsLiteral 2147483647 x → SFits w32 (neg_ℤ x)
-    by (pos zero) h = omega (arith, ints)
-    by (pos (suc n)) h = omega (arith, ints, h.1)
-    by (negsuc n) h = omega (arith, ints, h.1)
-
-pub SFits-literal : (n : ℕ) (z : ℤ) → n < 2 ^ 31 → IsLiteral n z → SFits w32 z
-SFits-literal n (pos k) lt h = omega (arith, ints, h.1)
-SFits-literal n (negsuc k) lt h = omega (arith, ints, h.1)

@@ -8,7 +8,8 @@ use Rattle.pg_proof.specs.declared.step.Step.{Step}
 use Rattle.pg_proof.specs.Places.{has, is_marked}
 use Rattle.pg_proof.specs.New.{IsNew}
 use Rattle.pg_sat.specs.Cut.{IsCut}
-use Rattle.pg_sat.specs.Trace.{IsOver, AreDown, IsLone, IsThin, AreFewer}
+use Rattle.pg_sat_guide.specs.Over.{IsOver}
+use Rattle.pg_sat.specs.Trace.{AreDown, IsLone, IsThin, AreFewer}
 use Rattle.pg_sat.specs.Listed.{listed}
 use Rattle.pg_sat.specs.Learned.{IsAsserting, IsTaught}
 use Rattle.pg_sat.proofs.CutLemmas.{IsCut-passed, before_push}

@@ -10,7 +10,8 @@ use Rattle.pg_cnf.specs.Truth.{literal_true, clause_true, clauses_true}
 use Rattle.pg_watch.specs.Trail.{value_of, AreFalse, IsOpen, IsQuiet}
 use Rattle.pg_watch.proofs.Values.{value_of-neg, value_of-unset_neg}
 use Rattle.pg_proof.proofs.MarkedLemmas.{nat_abs-neg}
-use Rattle.pg_sat.specs.Models.{IsFree, AreAllSet, is_true, IsRead}
+use Rattle.pg_sat_guide.specs.Free.{IsFree}
+use Rattle.pg_sat.specs.Models.{AreAllSet, is_true, IsRead}
 use Rattle.pg_sat.proofs.CutLemmas.{both_true}
 
 must_be : (o : Option Bool) (b : Bool) → o ≢ None → is_true o ≡ b → o ≡ Some b
@@ -80,15 +81,3 @@ reads_more set i before b h e = record {
 
 pub reads_none : (set : List ℤ) → IsRead 0 set []
 reads_none set = record { long = refl; reads = λ k lt. absurd (omega arith) }
-
--- the negation of a variable that is unset
-pub free_neg : (n : ℕ) (set : List ℤ) (v : ℕ) (z : ℤ) → 0 < v → v ≤ n → None ≡ value_of set (pos v) → z ≡ neg_ℤ (pos v) → IsFree n set z
-free_neg n set v z lt le e f =
-    subst (IsFree n set) (sym f) (record {
-      literal = (omega (arith, nat_abs-neg (pos v)), omega (arith, nat_abs-neg (pos v)));
-      unset = value_of-unset_neg set (pos v) lt (sym e);
-    })
-
--- and itself
-pub free_pos : (n : ℕ) (set : List ℤ) (v : ℕ) (z : ℤ) → 0 < v → v ≤ n → None ≡ value_of set (pos v) → z ≡ pos v → IsFree n set z
-free_pos n set v z lt le e f = subst (IsFree n set) (sym f) (record { literal = (omega arith, omega arith); unset = sym e })

@@ -14,7 +14,7 @@ use Rattle.pg_watch.proofs.WatchedLemmas.{assigned-within, assigned-push, assign
 use Rattle.pg_proof.specs.declared.step.Step.{Step}
 use Rattle.pg_proof.specs.State.{variables_of_clause, variables_of}
 use Rattle.pg_proof.proofs.KeptLemmas.{AreHeldWithin-begun}
-use Rattle.pg_sat.specs.Models.{IsFree}
+use Rattle.pg_sat_guide.specs.Free.{IsFree}
 use Rattle.pg_sat.specs.Jump.{IsJump}
 use Rattle.pg_sat.specs.Solving.{AreQuietBefore, IsSolving}
 use Rattle.pg_sat.proofs.TraceLemmas.{derived-from}

@@ -7,7 +7,8 @@ use Rattle.pg_watch.specs.Trail as trails
 use Rattle.pg_watch.proofs.Values.{value_of-after_none, value_of-after_some, value_of-one_other, value_of-push_same, value_of-push_other, value_of-push_neg}
 use Rattle.pg_proof.specs.Places.{has, is_marked}
 use Rattle.pg_sat.specs.Cut.{IsCut, IsResolved}
-use Rattle.pg_sat.specs.Trace.{IsOver, IsTraced, IsLone, IsThin, AreFewer}
+use Rattle.pg_sat_guide.specs.Over.{IsOver}
+use Rattle.pg_sat.specs.Trace.{IsTraced, IsLone, IsThin, AreFewer}
 use Rattle.pg_sat.proofs.CutLemmas.{IsCut-replaced, none-differs}
 use Rattle.pg_sat.proofs.TrailLemmas.{IsAt, AreSet-at, HaveReasons-at, has-contains, AreFalseBut-has, held-at, IsClause-at}
 use Rattle.pg_sat.proofs.JumpLemmas.{set_back}

@@ -8,7 +8,8 @@ use Rattle.pg_proof.specs.Places.{has, is_marked, IsWithin, AreWithin}
 use Rattle.pg_proof.specs.Marked.{marked}
 use Rattle.pg_proof.proofs.MarkedLemmas.{shows-marked, length-marked}
 use Rattle.pg_sat.specs.Cut.{IsCut, IsResolved}
-use Rattle.pg_sat.specs.Trace.{IsOver, IsTraced}
+use Rattle.pg_sat_guide.specs.Over.{IsOver}
+use Rattle.pg_sat.specs.Trace.{IsTraced}
 use Rattle.pg_sat.proofs.CutLemmas.{IsCut-begun, IsCut-passed, IsCut-resolved}
 use Rattle.pg_sat.proofs.TrailLemmas.{IsAt, AreSet-at, HaveReasons-at, has-contains, AreFalse-has, AreFalseBut-has, held-at, IsClause-at, AreWithin-literals}
 

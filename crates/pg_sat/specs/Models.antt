@@ -1,12 +1,6 @@
 -- Assignments, read off a trail on which each variable is set.
 use Rattle.std.specs.Prelude.{◌≡◌, ◌≢◌, ℕ, ◌+◌, ◌<◌, ◌≤◌, Bool, false, ℤ, pos, List, length, Option, None, Some, slice_index_or}
-use Rattle.pg_cnf.specs.Literals.{IsLiteral}
 use Rattle.pg_watch.specs.Trail.{value_of}
-
--- a literal of one of the variables that is unset
-pub record IsFree (variables : ℕ) (set : List ℤ) (z : ℤ) : Type 0 where
-  pub literal : IsLiteral variables z
-  pub unset : value_of set z ≡ None
 
 -- each of the first variables is set
 abbrev pub AreAllSet : ℕ → List ℤ → Type 0

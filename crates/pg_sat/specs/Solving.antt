@@ -7,7 +7,7 @@ use Rattle.pg_proof.specs.Log.{IsSpentFrom}
 use Rattle.pg_proof.specs.New.{IsNew}
 use Rattle.pg_watch.specs.Trail.{Trail, IsQuiet}
 use Rattle.pg_watch.specs.Assigned.{IsAssigned}
-use Rattle.pg_sat.specs.Trace.{IsOver}
+use Rattle.pg_sat_guide.specs.Over.{IsOver}
 
 -- the clauses of steps
 abbrev pub clauses_of : List Step → List (List ℤ)

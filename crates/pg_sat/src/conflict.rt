@@ -8,11 +8,11 @@ ghost use Rattle.pg_sat.specs.Jump.{IsLast};
 ghost use Rattle.pg_sat.specs.Learned.{IsLesson};
 ghost use Rattle.pg_sat.specs.Solving.{IsSolving};
 
-use crate::guide::Guide;
 use crate::jump::cut_place;
 use crate::learn::learn_at;
 use pg_cnf::{Clause, Cnf};
 use pg_proof::Step;
+use pg_sat_guide::Guide;
 use pg_watch::{Fix, Watches};
 use smallvec::SmallVec;
 use std::alloc::{AllocError, Global};

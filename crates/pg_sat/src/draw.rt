@@ -3,9 +3,10 @@
 ghost use Rattle.std.specs.Prelude.{◌≡◌, ◌+◌, ◌-◌, ◌*◌, ◌<◌, ◌≤◌, ◌^◌, ◌++◌, length, reverse, IfOk, OnOk};
 ghost use Rattle.pg_sat.specs.Listed.{listed_at, listed};
 
-use crate::flags::{Flags, literal_of, negation, place};
+use crate::flags::{Flags, place};
 use crate::trace::Trace;
 use pg_proof::{HintList, LitList, Step};
+use pg_sat_guide::{literal_of, negation};
 use std::alloc::{AllocError, Global};
 
 /// How many variables are looked at together.

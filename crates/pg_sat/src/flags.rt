@@ -7,7 +7,7 @@ ghost use Rattle.pg_proof.specs.Marked.{marked};
 ghost use Rattle.pg_sat.specs.Cut.{IsResolved};
 ghost use Rattle.pg_sat.specs.Listed.{AreDownWithin};
 
-use crate::guide::Guide;
+use pg_sat_guide::Guide;
 use std::alloc::{AllocError, Global};
 use std::marker::Model;
 
@@ -17,22 +17,6 @@ pub fn place(literal: i32) -> usize
 {
     let first = 2 * literal.unsigned_abs() as usize;
     if literal < 0 { first + 1 } else { first }
-}
-
-/// The literal of a variable that is not negated.
-pub fn literal_of(variable: u32) -> i32
-    requires { variable < 2 ^ 31 }
-    ensures { result ≡ pos variable }
-{
-    variable as i32
-}
-
-/// The negation of a literal.
-pub fn negation(literal: i32) -> i32
-    requires { IsLiteral 2147483647 literal }
-    ensures { result ≡ neg_ℤ literal }
-{
-    -literal
 }
 
 /// So many flags are passed over at once where none of them was ever put up.

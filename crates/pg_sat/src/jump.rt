@@ -7,7 +7,7 @@ ghost use Rattle.std.specs.Prelude.{ℕ, ◌+◌, ◌*◌, ◌<◌, ◌≤◌, l
 ghost use Rattle.pg_proof.specs.Places.{AreWithin};
 ghost use Rattle.pg_watch.specs.Trail.{AreDerived};
 ghost use Rattle.pg_watch.specs.Assigned.{IsAssigned};
-ghost use Rattle.pg_sat.specs.Trace.{IsOver};
+ghost use Rattle.pg_sat_guide.specs.Over.{IsOver};
 ghost use Rattle.pg_sat.specs.Learned.{IsAsserting};
 ghost use Rattle.pg_sat.specs.Jump.{IsLast, IsJump};
 

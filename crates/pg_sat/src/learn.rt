@@ -5,14 +5,14 @@
 
 ghost use Rattle.std.specs.Prelude.{◌≡◌, ◌+◌, ◌<◌, [], false, length, take, drop, IfOk};
 ghost use Rattle.pg_watch.specs.Trail.{IsConflict, IsQuiet, AreDerived};
-ghost use Rattle.pg_sat.specs.Trace.{IsOver};
+ghost use Rattle.pg_sat_guide.specs.Over.{IsOver};
 ghost use Rattle.pg_sat.specs.Learned.{IsLearnedWithin, IsTaught};
 
 use crate::draw::step_of;
-use crate::guide::Guide;
 use crate::shrink::shrink;
 use crate::trace::{Lone, trace_back, trace_to_lone};
 use pg_proof::Step;
+use pg_sat_guide::Guide;
 use pg_watch::Watches;
 use std::alloc::{AllocError, Global};
 

@@ -16,9 +16,7 @@
 //!   conflict. `jump`: how far the trail is cut then.
 //! - `learn`: the step that a conflict teaches. `trace`: the conflict, traced back along the trail. `flags`: the literals that a
 //!   trace has come to. `shrink`: fewer of them. `draw`: the step that they make.
-//! - `decide`: what is assigned next. `guide`: what that goes by, of which nothing is said in contracts: `heap`, variables by how
-//!   much they took part in conflicts; `pace`, when the search begins anew; `plan`, variables that may be equal, which are
-//!   `pairs` of `gates` with the same `marks`.
+//! - `decide`: what is assigned next. What that goes by is `pg_sat_guide`'s.
 #![tactic(auto)]
 
 mod answer;
@@ -26,15 +24,8 @@ mod conflict;
 mod decide;
 mod draw;
 mod flags;
-mod gates;
-mod guide;
-mod heap;
 mod jump;
 mod learn;
-mod marks;
-mod pace;
-mod pairs;
-mod plan;
 mod search;
 mod shrink;
 mod solver;
@@ -45,8 +36,8 @@ mod watching;
 pub use answer::{Answer, Assignment, StepList};
 pub use conflict::clause_of;
 pub use decide::{assignment_of, choose};
-pub use guide::Guide;
 pub use jump::{cut_place, last_assigned};
 pub use learn::{Learned, learn_at, refute};
+pub use pg_sat_guide::Guide;
 pub use solver::{Counts, solve, solve_counted, solve_watched};
 pub use watching::{SearchWatcher, Silent};

@@ -3,7 +3,7 @@
 ghost use Rattle.std.specs.Prelude.{◌≡◌, ◌<◌, length, true, [], IfOk, OnOk};
 ghost use Rattle.pg_watch.specs.Trail.{IsQuiet};
 ghost use Rattle.pg_watch.specs.Fixes.{IsEnd, is_quiet};
-ghost use Rattle.pg_sat.specs.Models.{IsFree};
+ghost use Rattle.pg_sat_guide.specs.Free.{IsFree};
 ghost use Rattle.pg_sat.specs.Solving.{IsSolving};
 
 use pg_cnf::Cnf;

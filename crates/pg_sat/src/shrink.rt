@@ -5,7 +5,8 @@
 
 ghost use Rattle.std.specs.Prelude.{◌≡◌, ◌≢◌, ℤ, ◌+◌, ◌*◌, ◌<◌, length, true, pos, neg_ℤ, IsTrue, OnOk, slice_index_or};
 ghost use Rattle.pg_proof.specs.Places.{has, is_marked, AreWithin};
-ghost use Rattle.pg_sat.specs.Trace.{IsOver, IsThin, AreFewer};
+ghost use Rattle.pg_sat_guide.specs.Over.{IsOver};
+ghost use Rattle.pg_sat.specs.Trace.{IsThin, AreFewer};
 
 use crate::flags::{Flags, place};
 use crate::trace::{Trace, is_denied};

@@ -4,12 +4,12 @@ ghost use Rattle.std.specs.Prelude.{◌≡◌, ◌<◌, ◌^◌, ℕ, ℤ, List,
 ghost use Rattle.pg_sat.specs.Answers.{IsAnswer, IsEnded};
 
 use crate::answer::{Answer, Assignment, StepList};
-use crate::guide::Guide;
 use crate::search::start;
 use crate::turn::{Turned, turn};
 use crate::watching::{SearchWatcher, Silent};
 use pg_cnf::Cnf;
 use pg_proof::Step;
+use pg_sat_guide::Guide;
 use pg_watch::Watches;
 use std::alloc::{AllocError, Global};
 

@@ -7,10 +7,11 @@
 ghost use Rattle.std.specs.Prelude.{◌≡◌, ◌+◌, ◌*◌, ◌<◌, ◌≤◌, length, take, drop, IfOk, OnOk, IfNone, IsTrue, slice_index_or, None, neg_ℤ, pos};
 ghost use Rattle.pg_watch.specs.Trail.{IsConflict, AreDerived, IsSomeNumber};
 ghost use Rattle.pg_proof.specs.Places.{is_marked};
-ghost use Rattle.pg_sat.specs.Trace.{IsOver, IsTraced, AreDown, IsLone};
+ghost use Rattle.pg_sat_guide.specs.Over.{IsOver};
+ghost use Rattle.pg_sat.specs.Trace.{IsTraced, AreDown, IsLone};
 
-use crate::flags::{Flags, negation, place};
-use crate::guide::Guide;
+use crate::flags::{Flags, place};
+use pg_sat_guide::{Guide, negation};
 use pg_watch::Watches;
 use std::alloc::{AllocError, Global};
 

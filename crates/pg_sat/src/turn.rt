@@ -14,12 +14,12 @@ ghost use Rattle.pg_sat.specs.Turns.{IsSearching, IsTurned, work_left};
 use crate::answer::Assignment;
 use crate::conflict::back;
 use crate::decide::{assignment_of, choose};
-use crate::guide::Guide;
 use crate::jump::last_assigned;
 use crate::learn::refute;
 use crate::search::advance;
 use pg_cnf::Cnf;
 use pg_proof::Step;
+use pg_sat_guide::Guide;
 use pg_watch::{Fix, Watches};
 use std::alloc::{AllocError, Global};
 

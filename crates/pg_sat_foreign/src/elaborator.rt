@@ -3,14 +3,14 @@
 use crate::chain::hints_of;
 use crate::denial::{Met, deny, release, value_of};
 use crate::draft::Draft;
-use crate::rup_fault::RupFault;
 use crate::held::Held;
 use crate::marks::Marks;
 use crate::ordered::{greatest_in, greatest_variable, ordered};
+use crate::rup_fault::RupFault;
 use crate::units::Units;
+use crate::{Act, Place, Record};
 use pg_cnf::Cnf;
 use pg_proof::{ActList, HintList, LitList};
-use crate::{Act, Place, Record};
 use pg_watch::Fix;
 use std::alloc::{AllocError, Global};
 

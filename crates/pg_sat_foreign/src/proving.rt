@@ -3,11 +3,11 @@
 ghost use Rattle.std.specs.Prelude.{◌≡◌, ◌+◌, ◌<◌, ◌≤◌, ◌^◌, length, IfOk, IsTrue};
 ghost use Rattle.pg_proof.specs.Log.{IsClosedLog};
 
+use crate::Record;
 use crate::elaborator::elaborated;
 use crate::rup_fault::RupFault;
 use pg_cnf::Cnf;
 use pg_proof::{Act, ActList, is_refutation};
-use crate::Record;
 use std::alloc::Global;
 
 /// How many steps a log has at most: as many as a certificate has bytes.

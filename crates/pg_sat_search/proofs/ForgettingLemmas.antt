@@ -14,7 +14,7 @@ use Rattle.pg_proof.specs.declared.step.Act.TheVariants.{Add}
 use Rattle.pg_proof.specs.State.{variables_of}
 use Rattle.pg_proof.specs.Refutation.{fault_of}
 use Rattle.pg_proof.specs.Numbering.{AreValid}
-use Rattle.pg_sat.specs.Models.{IsFree}
+use Rattle.pg_sat_guide.specs.Free.{IsFree}
 use Rattle.pg_sat.specs.Solving.{clauses_of, AreQuietBefore}
 use Rattle.pg_sat.proofs.SolvingLemmas.{quiet_extended, quiet_assigned, quiet_cut, greatest-variable}
 use Rattle.pg_sat_search.specs.Held.{renumbered, IsHeld, IsForgetting}

@@ -6,7 +6,7 @@ use Rattle.pg_proof.specs.declared.step.Act.TheVariants.{Add}
 use Rattle.pg_proof.specs.State.{clause_at, variables_of, AreHeldWithin}
 use Rattle.pg_proof.specs.Numbering.{AreValid}
 use Rattle.pg_watch.specs.State.{State}
-use Rattle.pg_sat.specs.Trace.{IsOver}
+use Rattle.pg_sat_guide.specs.Over.{IsOver}
 use Rattle.pg_sat.specs.Solving.{clauses_of, AreQuietBefore}
 
 -- the number in the log of the clause that is held under a number

@@ -6,7 +6,7 @@ ghost use Rattle.std.specs.Prelude.{◌≡◌, ◌+◌, ◌<◌, ◌≤◌, ◌^
 ghost use Rattle.pg_watch.specs.Trail.{IsConflict, IsQuiet, AreDerived};
 ghost use Rattle.pg_watch.specs.Fixes.{IsEnd, is_quiet};
 ghost use Rattle.pg_sat.specs.Jump.{IsLast};
-ghost use Rattle.pg_sat.specs.Models.{IsFree};
+ghost use Rattle.pg_sat_guide.specs.Free.{IsFree};
 ghost use Rattle.pg_sat.specs.Answers.{IsRefuted};
 ghost use Rattle.pg_sat.specs.Turns.{work_left};
 ghost use Rattle.pg_sat_search.specs.Held.{IsForgetting};

@@ -8,8 +8,8 @@ ghost use Rattle.pg_prog_proofs.specs.Exported.{AreTexts, AreTextsAt};
 
 use pg_ask::{Asked, ask};
 use pg_cert::{Cert, Finding, instr_of, kind_of};
-use pg_prog_base::{Names, Stop, lrat_of, text_of};
 use pg_mach_ready::Machine;
+use pg_prog_base::{Names, Stop, lrat_of, text_of};
 use pg_proof::ActList;
 use std::alloc::{AllocError, Global};
 

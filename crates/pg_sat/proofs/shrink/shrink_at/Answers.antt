@@ -3,7 +3,7 @@ use Rattle.std.proofs.lemmas.Int.{to_z-of_z}
 use Rattle.pg_watch.specs.Trail.{clause_at}
 use Rattle.pg_proof.specs.Places.{has, is_marked, AreWithin}
 use Rattle.pg_sat.specs.Cut.{IsResolved}
-use Rattle.pg_sat.proofs.FlagLemmas.{SFits-literal}
+use Rattle.pg_sat_guide.proofs.LiteralLemmas.{SFits-literal}
 use Rattle.pg_sat.proofs.TrailLemmas.{AreWithin-literals}
 use Rattle.pg_sat.proofs.TraceLemmas.{at_place, within_places, reason_numbered, reason_clause}
 use Rattle.pg_sat.proofs.ThinLemmas.{thin_kept, thin_resolved, fewer_resolved}

@@ -3,7 +3,8 @@ use Rattle.std.proofs.lemmas.Int.{to_z-of_z}
 use Rattle.pg_cnf.specs.Literals.{IsLiteral}
 use Rattle.pg_proof.specs.Places.{place, is_marked}
 use Rattle.pg_proof.proofs.MarkedLemmas.{place-below}
-use Rattle.pg_sat.proofs.FlagLemmas.{IsWithin-neg, SFits-neg, SFits-literal}
+use Rattle.pg_sat_guide.proofs.LiteralLemmas.{SFits-neg, SFits-literal}
+use Rattle.pg_sat.proofs.FlagLemmas.{IsWithin-neg}
 use Rattle.pg_sat.proofs.TraceLemmas.{at_place, within_places}
 use Rattle.pg_sat.proofs.trace.is_denied.Goals as goal
 

@@ -5,7 +5,8 @@ use Rattle.pg_watch.specs.Trail.{clause_at}
 use Rattle.pg_proof.specs.Places.{place, is_marked, AreWithin}
 use Rattle.pg_proof.proofs.MarkedLemmas.{place-below}
 use Rattle.pg_sat.specs.Cut.{IsResolved}
-use Rattle.pg_sat.proofs.FlagLemmas.{IsWithin-neg, SFits-neg, SFits-literal}
+use Rattle.pg_sat_guide.proofs.LiteralLemmas.{SFits-neg, SFits-literal}
+use Rattle.pg_sat.proofs.FlagLemmas.{IsWithin-neg}
 use Rattle.pg_sat.proofs.TrailLemmas.{AreWithin-literals}
 use Rattle.pg_sat.proofs.TraceLemmas.{at_place, within_places, passed, resolved, reason_numbered, reason_clause}
 use Rattle.pg_sat.proofs.trace.step_back.Goals as goal

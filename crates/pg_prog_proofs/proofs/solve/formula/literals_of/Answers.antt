@@ -1,6 +1,6 @@
 use Rattle.std.proofs.Common.{SFits, w32, ◌≡◌, ◌/◌, ℕ, ℤ, List, nat_abs, slice_index_or, subst, sym, arith}
 use Rattle.std.proofs.lemmas.Int.{to_z-of_z}
-use Rattle.pg_sat.proofs.FlagLemmas.{SFits-literal}
+use Rattle.pg_sat_guide.proofs.LiteralLemmas.{SFits-literal}
 use Rattle.pg_prog_proofs.proofs.ClauseLemmas.{IsDraft, draft-push}
 use Rattle.pg_prog_proofs.proofs.solve.formula.literals_of.Goals as goal
 

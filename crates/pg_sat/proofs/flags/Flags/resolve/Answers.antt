@@ -2,7 +2,8 @@ use Rattle.std.proofs.Common.{SFits, w32, ◌∙◌, ◌<◌, length, ap, subst,
 use Rattle.std.proofs.lemmas.Int.{to_z-of_z}
 use Rattle.pg_proof.specs.Places.{place}
 use Rattle.pg_proof.proofs.MarkedLemmas.{place-below}
-use Rattle.pg_sat.proofs.FlagLemmas.{flags-resolved, length-mid, length-new, SFits-neg}
+use Rattle.pg_sat_guide.proofs.LiteralLemmas.{SFits-neg}
+use Rattle.pg_sat.proofs.FlagLemmas.{flags-resolved, length-mid, length-new}
 use Rattle.pg_sat.proofs.flags.Flags.resolve.Goals as goal
 
 pub put-requires-2 : goal.put-requires-2

@@ -1,4 +1,4 @@
-use Rattle.pg_sat.proofs.heap.Heap.rise.Given as goal
+use Rattle.pg_sat_guide.proofs.heap.Heap.rise.Given as goal
 
 abbrev pub decreases-loop-at : goal.decreases-loop-at
 decreases-loop-at l = l.at

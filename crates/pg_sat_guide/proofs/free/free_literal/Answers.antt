@@ -2,9 +2,9 @@ use Rattle.std.proofs.Common.{SFits, w32, ◌≡◌, ◌∙◌, ◌<◌, pos, ne
 use Rattle.std.proofs.lemmas.Int.{to_z-of_z}
 use Rattle.pg_cnf.specs.Literals.{IsLiteral}
 use Rattle.pg_watch.specs.Trail.{value_of}
-use Rattle.pg_sat.proofs.FlagLemmas.{SFits-neg, SFits-literal}
-use Rattle.pg_sat.proofs.ModelLemmas.{free_neg}
-use Rattle.pg_sat.proofs.decide.free_literal.Goals as goal
+use Rattle.pg_sat_guide.proofs.LiteralLemmas.{SFits-neg, SFits-literal}
+use Rattle.pg_sat_guide.proofs.LiteralLemmas.{free_neg}
+use Rattle.pg_sat_guide.proofs.free.free_literal.Goals as goal
 
 pub returns-else-positive : goal.returns-else-positive
 returns-else-positive c =

@@ -10,10 +10,10 @@
 //! As for the guide: answers are right whatever a plan says, and contracts ask no more of it than that a literal is unset.
 
 ghost use Rattle.std.specs.Prelude.{IfSome};
-ghost use Rattle.pg_sat.specs.Trace.{IsOver};
-ghost use Rattle.pg_sat.specs.Models.{IsFree};
+ghost use Rattle.pg_sat_guide.specs.Over.{IsOver};
+ghost use Rattle.pg_sat_guide.specs.Free.{IsFree};
 
-use crate::decide::{first_free, is_false};
+use crate::free::{first_free, is_false};
 use crate::gates::{Gate, gates_of};
 use crate::pairs::{Pair, pairs_of};
 use pg_cnf::Cnf;

@@ -4,10 +4,10 @@
 //! says, and only the time that they take depends on it.
 
 ghost use Rattle.std.specs.Prelude.{◌<◌, ◌^◌, IfSome};
-ghost use Rattle.pg_sat.specs.Trace.{IsOver};
-ghost use Rattle.pg_sat.specs.Models.{IsFree};
+ghost use Rattle.pg_sat_guide.specs.Over.{IsOver};
+ghost use Rattle.pg_sat_guide.specs.Free.{IsFree};
 
-use crate::decide::free_literal;
+use crate::free::free_literal;
 use crate::heap::Heap;
 use crate::pace::Pace;
 use crate::plan::Plan;
