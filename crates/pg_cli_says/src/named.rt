@@ -62,3 +62,18 @@ impl<'a> Named<'a> {
         }
     }
 }
+
+/// What words name that is not there.
+#[derive(Debug, Clone, Copy, PartialEq, Eq)]
+pub enum Lacking {
+    /// The description has no such instruction.
+    Instr,
+    /// The certificate has no such kind.
+    Kind,
+}
+
+/// Is told of words that name what is not there.
+pub trait WordsWatcher {
+    /// This is not there.
+    fn lacks(&mut self, lacking: Lacking);
+}

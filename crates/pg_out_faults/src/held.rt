@@ -3,7 +3,7 @@
 ghost use Rattle.std.specs.Prelude.{◌≤◌, length};
 
 use pg_image::split_part;
-use pg_out_place::place_of_line;
+use pg_out_place::{bytes_from, place_of_line};
 use pg_text::len_before;
 
 /// The bytes of a refused file, or a part of them, and what is known beside them.
@@ -24,11 +24,6 @@ pub struct HeldLine<'t> {
     pub start: usize,
     /// Its bytes, without LF.
     pub bytes: &'t [u8],
-}
-
-/// The bytes from a place on.
-pub fn bytes_from(bytes: &[u8], place: usize) -> &[u8] {
-    &bytes[place.min(bytes.len())..]
 }
 
 /// The line of this number, from 1, of the file, where all of its front is held.

@@ -1,11 +1,9 @@
 //! What is wrong with an image.
 
-use crate::description::cut;
-use crate::found::{At, Found, plain};
-use crate::held::{Held, bytes_from, line_of, part_offset};
-use crate::limits::head_of;
+use crate::held::{Held, line_of, part_offset};
 use pg_image::{content, split_part};
-use pg_out_place::Sentence;
+use pg_out_desc::{cut, head_of};
+use pg_out_place::{At, Found, Sentence, bytes_from, plain};
 use pg_report::ImageLine;
 use std::alloc::{AllocError, Global};
 

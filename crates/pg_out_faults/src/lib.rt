@@ -6,32 +6,21 @@
 //! memory. That the place is the one that the refusal means is tested; lines and columns are proved where they are counted
 //! (`pg_out_place`).
 //!
-//! - `held`: the bytes that are held, and their lines. `found`: what is wrong, and where.
-//! - `description`: what is wrong with a description; `signs` with a byte that no token begins with, `grammar` with its tokens
-//!   (`near` has those around the wrong one, `writing` what to write in their place), `limits` with its numbers, `patterns` with
-//!   its patterns, `widths` with its widths (`misfits` finds the statements).
-//! - `image`: with an image. `lines`: with a certificate or a saved guest. `sources`: with a source; `meant` with what it says of
+//! What is wrong with a description is found in `pg_out_desc`; here is what is wrong with every other file, and how it is laid out.
+//!
+//! - `held`: the bytes that are held, and their lines.
+//! - `image`: what is wrong with an image. `lines`: with a certificate or a saved guest. `sources`: with a source; `meant` with what it says of
 //!   a machine, `labels` with its labels.
 //! - `pointed`: the whole, and its text.
 #![tactic(auto)]
 
-mod description;
-mod found;
-mod grammar;
 mod held;
 mod image;
 mod labels;
-mod limits;
 mod lines;
 mod meant;
-mod misfits;
-mod near;
-mod patterns;
 mod pointed;
-mod signs;
 mod sources;
-mod widths;
-mod writing;
 
 pub use held::Held;
 pub use pointed::{Place, Point, Pointed, point_out, three_lines};

@@ -1,8 +1,7 @@
 //! What is wrong with a certificate and a saved guest: refusals that name a line.
 
-use crate::found::{At, Found, plain};
-use crate::held::{Held, HeldLine, bytes_from, line_of};
-use pg_out_place::Sentence;
+use crate::held::{Held, HeldLine, line_of};
+use pg_out_place::{At, Found, Sentence, bytes_from, plain};
 use pg_report::{CertificateLine, SavedLine};
 use pg_type::Kind;
 use std::alloc::Global;

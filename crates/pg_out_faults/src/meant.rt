@@ -2,13 +2,11 @@
 //!
 //! The machine is known by the tokens of its description, which was read before the source. Each error is out of memory.
 
-use crate::description::cut;
-use crate::found::{At, Found, plain};
 use crate::held::{Held, HeldLine, first_part, line_of, part_offset};
 use crate::labels::{first_line_of, label_of, near_label, place_of_label};
-use crate::patterns::{field_width, next_field, pattern_named, push_fields};
 use pg_image::{content, is_gap};
-use pg_out_place::{Placed, Sentence, is_near, is_word, word_of};
+use pg_out_desc::{cut, field_width, next_field, pattern_named, push_fields};
+use pg_out_place::{At, Found, Placed, Sentence, is_near, is_word, plain, word_of};
 use pg_report::SourceLine;
 use pg_text::dec_number;
 use std::alloc::{AllocError, Global};

@@ -6,13 +6,12 @@
 ghost use Rattle.std.specs.Prelude.{◌≡◌, is_some, IfOk};
 ghost use Rattle.pg_out_faults.specs.Refusals.{is_of_file};
 
-use crate::description::description;
-use crate::found::{At, Found, Told, alone};
 use crate::held::Held;
 use crate::image::image;
 use crate::lines::{certificate, saved};
 use crate::sources::source;
-use pg_out_place::{Shown, Text, show, spot_at};
+use pg_out_desc::description;
+use pg_out_place::{At, Found, Shown, Text, Told, alone, show, spot_at};
 use pg_report::RefusalLine;
 use std::alloc::{AllocError, Global};
 

@@ -3,11 +3,11 @@
 //!
 //! Each error is out of memory.
 
-use crate::found::{At, Found, plain};
-use crate::held::{Held, behind_part, bytes_from, first_part, line_of};
+use crate::held::{Held, behind_part, first_part, line_of};
 use crate::image::first_at;
 use crate::meant::meant;
 use pg_image::{content, is_gap};
+use pg_out_place::{At, Found, bytes_from, plain};
 use pg_report::SourceLine;
 use std::alloc::{AllocError, Global};
 

@@ -21,6 +21,11 @@ pub struct Spot<'t> {
     pub behind: &'t [u8],
 }
 
+/// The bytes from a place on; none where it lies behind the end.
+pub fn bytes_from(bytes: &[u8], place: usize) -> &[u8] {
+    &bytes[place.min(bytes.len())..]
+}
+
 /// How many line feeds there are.
 #[tactic(auto, unfolding(crate::specs::Places::feeds))]
 fn feeds(text: &[u8]) -> usize

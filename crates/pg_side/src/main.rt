@@ -24,11 +24,9 @@ use crate::complaining::complaint;
 use crate::side::{Call, Side};
 use crate::table::named_by;
 use crate::words::{Asked, asks_for, called, own};
-use pg_cli_says::{
-    Beside, Ended, Holding, LastRead, Lines, Reading, Seen, Ticker, Watching, WordsWatcher,
-    say_no_text, say_why, words,
-};
+use pg_cli_says::{WordsWatcher, say_no_text, say_why, words};
 use pg_cli_version::VERSION;
+use pg_cli_watch::{Beside, Ended, Holding, LastRead, Lines, Reading, Seen, Ticker, Watching};
 use pg_cmd_base::{Status, StopWatcher};
 use pg_edge::{Failed, Shelf, Sink};
 use pg_io_host::streams::write_whole;

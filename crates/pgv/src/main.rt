@@ -4,9 +4,9 @@
 //! forms are made, of `pg_io_host` and `pg_rig`, and lent to `tool_watched`. Where there is no memory for the words, it is not
 //! called, and the program ends with the same status, 10, as it does where the call has none.
 //!
-//! What standard error says is of `pg_cli_says`, but for what is wrong with the words (`complaining`): why the program ends so,
-//! where a refused file is at fault, which question is next, what is to be done, and a warning where the certificate could not be
-//! saved. What the words name for that stands in `naming`.
+//! What standard error says is of `pg_cli_says` and `pg_cli_watch`, but for what is wrong with the words (`complaining`): why the
+//! program ends so, where a refused file is at fault, which question is next, what is to be done, and a warning where the
+//! certificate could not be saved. What the words name for that stands in `naming`.
 #![tactic(auto)]
 
 mod complaining;
@@ -15,10 +15,8 @@ mod naming;
 use complaining::say_complaint;
 use naming::named_by;
 use pg_cli_parse::request;
-use pg_cli_says::{
-    Beside, Ended, Holding, LastRead, Lines, Program, Reading, Seen, Ticker, Watching, say_no_text,
-    say_why, words,
-};
+use pg_cli_says::{Program, say_no_text, say_why, words};
+use pg_cli_watch::{Beside, Ended, Holding, LastRead, Lines, Reading, Seen, Ticker, Watching};
 use pg_io_host::{DirShelf, Progress, StdSink};
 use pg_rig::Rig;
 use pg_tool::{Status, tool_watched};

@@ -1,6 +1,6 @@
 use Rattle.std.proofs.Common.{arith}
-use Rattle.pg_out_faults.proofs.MisfitLemmas.{item_counts, held-counts, other-counts}
-use Rattle.pg_out_faults.proofs.misfits.Walk.+walk.Goals as goal
+use Rattle.pg_out_desc.proofs.MisfitLemmas.{item_counts, held-counts, other-counts}
+use Rattle.pg_out_desc.proofs.misfits.Walk.+walk.Goals as goal
 
 pub block-statement-requires : goal.block-statement-requires
 block-statement-requires t c =

@@ -1,16 +1,12 @@
 //! Who watches a command: how far it has come is told by the ticker, and what is to be said at the end is kept.
 
-use crate::advice;
-use crate::advice::open_of;
 use crate::held::LastRead;
-use crate::named::Named;
 use crate::pointing::pointed;
-use crate::program::Program;
 use crate::ticker::Ticker;
-use crate::warning::warn;
-use crate::why::say_why;
 use pg_cert_migrate::ReadWatcher;
 use pg_classify::{SearchWatcher, Watcher};
+use pg_cli_says::advice::open_of;
+use pg_cli_says::{Lacking, Named, Program, WordsWatcher, advice, say_why, warn};
 use pg_cmd_base::{Refusal, Status, Stop, StopWatcher};
 use pg_cmd_certs::{JudgedMachine, VerdictWatcher, tell_verdict};
 use pg_io_host::streams::write_whole;
@@ -33,21 +29,6 @@ pub struct Seen<'a, 't, R: Files + Clock, E: Write + Drop> {
     pub ticker: &'a RefCell<Ticker<'t, R, E>>,
     /// What was read of the file that was asked for last.
     pub held: &'a RefCell<LastRead>,
-}
-
-/// What words name that is not there.
-#[derive(Debug, Clone, Copy, PartialEq, Eq)]
-pub enum Lacking {
-    /// The description has no such instruction.
-    Instr,
-    /// The certificate has no such kind.
-    Kind,
-}
-
-/// Is told of words that name what is not there.
-pub trait WordsWatcher {
-    /// This is not there.
-    fn lacks(&mut self, lacking: Lacking);
 }
 
 /// How a command ended.

@@ -1,8 +1,9 @@
 //! Patterns that are not well formed, and patterns that overlap.
 
-use crate::found::{At, Found, plain};
 use crate::limits::head_of;
-use pg_out_place::{Placed, Sentence, instruction, is_word, pattern_of, spot_at, word_of};
+use pg_out_place::{
+    At, Found, Placed, Sentence, instruction, is_word, pattern_of, plain, spot_at, word_of,
+};
 use std::alloc::Global;
 
 /// A pattern and its place.

@@ -1,8 +1,6 @@
 //! Why no token begins at a place of a description: signs and numbers of other languages, and bytes of a pattern.
 
-use crate::found::{At, Found, plain};
-use crate::held::bytes_from;
-use pg_out_place::Sentence;
+use pg_out_place::{At, Found, Sentence, bytes_from, plain};
 use std::alloc::Global;
 
 /// Why no token begins at this place, and where what is wrong stands.

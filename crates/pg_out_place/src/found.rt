@@ -1,6 +1,6 @@
 //! What is wrong, and where in the bytes.
 
-use pg_out_place::Sentence;
+use crate::sentence::Sentence;
 use std::alloc::Global;
 
 /// Where something is wrong.

@@ -5,9 +5,9 @@
 //! take long (`rhythm`), and once for each part of a file: less than a hundredth of the time. Texts are made in buffers that were made
 //! before, so that no memory is taken on the way.
 
-use crate::program::Program;
 use crate::rhythm::Rhythm;
 use pg_cert::put::kind_name;
+use pg_cli_says::Program;
 use pg_io_host::Progress;
 use pg_io_host::telling::note;
 use pg_out_place::Text;

@@ -1,10 +1,9 @@
 //! Numbers that a description passes: those of its head, and how much an instruction holds.
 
-use crate::found::{At, Found, at_place, plain};
 use pg_lang_valid::Limit;
 use pg_out_place::{
-    Placed, Sentence, count_statements, count_word, first_place, instruction, nth_word, number_of,
-    statement,
+    At, Found, Placed, Sentence, at_place, count_statements, count_word, first_place, instruction,
+    nth_word, number_of, plain, statement,
 };
 use std::alloc::Global;
 

@@ -2,12 +2,12 @@
 //!
 //! A statement is found in the tree (`misfits`), and its place in the tokens, whose expressions are numbered alike.
 
-use crate::found::{At, Found, at_place};
 use crate::grammar::sign_text;
 use crate::misfits::{Misfit, Misfits, Use, find_misfits};
 use pg_lang_valid::WidthClash;
 use pg_out_place::{
-    Placed, Sentence, expression, first_place, instruction, operation, operator, statement,
+    At, Found, Placed, Sentence, at_place, expression, first_place, instruction, operation,
+    operator, statement,
 };
 use pg_read::{DescFault, read_desc};
 use std::alloc::{AllocError, Global};

@@ -1,6 +1,6 @@
 use Rattle.std.proofs.Common.{◌+◌, ◌*◌, map}
 use Rattle.pg_lang_valid.specs.Limits.{all_of, stmt_tally}
-use Rattle.pg_out_faults.proofs.misfits.Walk.+walk.Given as goal
+use Rattle.pg_out_desc.proofs.misfits.Walk.+walk.Given as goal
 
 -- a block has fewer statements than its if, and stands above each of its own
 abbrev pub decreases-statement : goal.decreases-statement

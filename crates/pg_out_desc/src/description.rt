@@ -3,15 +3,16 @@
 //! A refusal with a place is told there. One that names an instruction, a name or a number is found anew in the tokens. Each
 //! error is out of memory.
 
-use crate::found::{At, Found, Told, alone, at_place, plain};
 use crate::grammar::grammar;
-use crate::held::bytes_from;
 use crate::limits::{limit_found, shape};
 use crate::patterns::{overlap, pattern};
 use crate::signs::no_token;
 use crate::widths::{broken_at, misfit_found, misfits_of};
 use pg_lang_valid::WidthClash;
-use pg_out_place::{Placed, Sentence, find_twice, find_unknown, instruction, spot_at};
+use pg_out_place::{
+    At, Found, Placed, Sentence, Told, alone, at_place, bytes_from, find_twice, find_unknown,
+    instruction, plain, spot_at,
+};
 use pg_report::DescriptionLine;
 use pg_text::{TextFault, TokList, tokens};
 use sqlite_items::Items;

@@ -3,11 +3,12 @@
 //! It is told by the tokens before the wrong one and those behind it; where nothing is known, it is said that this cannot stand
 //! here.
 
-use crate::found::{At, Found, plain};
 use crate::near::{Near, near_of, opened};
 use crate::writing::{bits_cut, named};
 use pg_lang_token::{Sign, Tok, is_reserved};
-use pg_out_place::{Placed, Sentence, is_sign, is_word, operation, spot_at, word_of};
+use pg_out_place::{
+    At, Found, Placed, Sentence, is_sign, is_word, operation, plain, spot_at, word_of,
+};
 use std::alloc::Global;
 
 /// Why the token at a place is wrong, or the text ends there too early.
