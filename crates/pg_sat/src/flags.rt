@@ -7,7 +7,7 @@ ghost use Rattle.pg_proof.specs.Marked.{marked};
 ghost use Rattle.pg_sat.specs.Cut.{IsResolved};
 ghost use Rattle.pg_sat.specs.Listed.{AreDownWithin};
 
-use pg_sat_guide::Guide;
+use pg_sat_guide::{Guide, negation};
 use std::alloc::{AllocError, Global};
 use std::marker::Model;
 
