@@ -19,7 +19,11 @@ use sqlite_items::Items;
 use std::alloc::{AllocError, Global};
 
 /// What is wrong with a description, and where.
-pub fn description(alloc: Global, why: &DescriptionLine, bytes: &[u8]) -> Result<Told, AllocError> {
+pub fn told_of_description(
+    alloc: Global,
+    why: &DescriptionLine,
+    bytes: &[u8],
+) -> Result<Told, AllocError> {
     match why {
         DescriptionLine::Width(instr, stmt, how) => widths(alloc, bytes, *instr, *stmt, *how),
         _ => {

@@ -20,6 +20,6 @@ mod signs;
 mod widths;
 mod writing;
 
-pub use description::{cut, description};
+pub use description::{cut, told_of_description};
 pub use limits::{Given, Head, head_of};
 pub use patterns::{field_width, next_field, pattern_named, push_fields};

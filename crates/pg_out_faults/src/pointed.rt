@@ -10,7 +10,7 @@ use crate::held::Held;
 use crate::image::image;
 use crate::lines::{certificate, saved};
 use crate::sources::source;
-use pg_out_desc::description;
+use pg_out_desc::told_of_description;
 use pg_out_place::{At, Found, Shown, Text, Told, alone, show, spot_at};
 use pg_report::RefusalLine;
 use std::alloc::{AllocError, Global};
@@ -56,7 +56,7 @@ pub fn point_out(
     ensures told { IfOk result (λ pointed. is_some pointed ≡ is_of_file refusal.now) }
 {
     let told = match refusal {
-        RefusalLine::Description(why) => description(alloc, why, held.bytes)?,
+        RefusalLine::Description(why) => told_of_description(alloc, why, held.bytes)?,
         RefusalLine::Image(_, why) => alone(alloc, image(alloc, why, held)?),
         RefusalLine::Certificate(why) => alone(alloc, certificate(alloc, why, held)),
         RefusalLine::Source(why) => alone(alloc, source(alloc, why, held)?),
