@@ -1,6 +1,7 @@
 //! The state that a hardware holds.
 
-ghost use Rattle.std.specs.Prelude.{◌<◌, length};
+ghost use Rattle.std.specs.Prelude.{◌<◌, ◌≤◌, IsErrOf, length};
+ghost use Rattle.pg_edge.specs.Count.{Rose};
 
 use crate::state::{push_begun, push_cell, push_ended};
 use pg_edge::Sink;
@@ -18,7 +19,10 @@ pub fn put_held<H: Hardware, S: Sink>(
     text: &mut Text,
     m: &Machine,
     hw: &H,
-) -> Result<(), TraceFault> {
+) -> Result<(), TraceFault>
+    ensures later { S.faults out.old ≤ S.faults out.new }
+    ensures cause { IsErrOf result TraceFault.Output → Rose (S.faults out.old) (S.faults out.new) }
+{
     push_begun(text, u64::from(hw.size()), hw.psw());
     let mut next = None;
     for at in 0..hw.size() {

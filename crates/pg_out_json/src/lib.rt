@@ -13,7 +13,7 @@
 //!   `counts`: counts of steps. `held`: the state that a hardware holds.
 //!
 //! The texts rest on no definition but the grammar of JSON: what is told is what `pg_out_pair` and `pg_out_steps` say, and rows of tests
-//! hold it beside their texts. Proved is that nothing here fails but for lack of memory, and that a run goes on as it would unwatched.
+//! hold it beside their texts. Proved is that nothing here fails but for lack of memory or at a put that failed, and that a run goes on as it would unwatched.
 #![tactic(auto)]
 
 mod asked;

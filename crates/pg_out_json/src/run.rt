@@ -1,7 +1,8 @@
 //! A run of a machine from its image on.
 
-ghost use Rattle.std.specs.Prelude.{◌≡◌, ◌^◌, ◌<◌, ◌≤◌, length, All, OnOk};
+ghost use Rattle.std.specs.Prelude.{◌≡◌, ◌^◌, ◌<◌, ◌≤◌, length, All, IsErrOf, OnOk};
 ghost use Rattle.pg_ast.specs.declared.tree.Desc.{Desc};
+ghost use Rattle.pg_edge.specs.Count.{Rose};
 ghost use Rattle.pg_lang_meaning.specs.Steps.{bare};
 ghost use Rattle.pg_lang_valid.specs.Valid.{IsValid};
 
@@ -18,6 +19,9 @@ use std::alloc::Global;
 /// Switches a hardware on with an image, all of whose cells are a word of the machine, runs it for `n` steps, less than 2^32, and puts
 /// the pieces that are told, the counts and the state at the end, behind what a buffer holds; and the end of the whole text. The
 /// state that is reached is that of a bare machine.
+///
+/// # Errors
+/// `Output` where a put failed, and `Memory` where there is none for cells, for counts or for a piece.
 pub fn put_run<H: Hardware, S: Sink>(
     alloc: Global,
     m: &Machine,
@@ -35,7 +39,9 @@ pub fn put_run<H: Hardware, S: Sink>(
     requires most { length image.now ≤ m.now.desc.size }
     requires words { All (λ word. word < 2 ^ m.now.desc.word) image.now }
     requires few { n < 2 ^ 32 }
-    ensures { OnOk result ((H.machinery hw.new).state ≡ bare m.now.desc image.now (length image.now) n) }
+    ensures reached { OnOk result ((H.machinery hw.new).state ≡ bare m.now.desc image.now (length image.now) n) }
+    ensures later { S.faults out.old ≤ S.faults out.new }
+    ensures cause { IsErrOf result TraceFault.Output → Rose (S.faults out.old) (S.faults out.new) }
 {
     hw.install(image.len() as u32)?;
     power_on(hw, image);
@@ -52,7 +58,10 @@ fn put_end<H: Hardware, S: Sink>(
     hw: &H,
     tally: &Tally,
     monitor: Option<Monitor>,
-) -> Result<(), TraceFault> {
+) -> Result<(), TraceFault>
+    ensures later { S.faults out.old ≤ S.faults out.new }
+    ensures cause { IsErrOf result TraceFault.Output → Rose (S.faults out.old) (S.faults out.new) }
+{
     text.push(b"]}],\n\"counts\":");
     push_tally(text, m, tally, monitor);
     text.push(b",\n\"end\":");

@@ -1,6 +1,7 @@
 //! Many steps, those that are told in pieces.
 
-ghost use Rattle.std.specs.Prelude.{◌≡◌, ◌^◌, ◌<◌, IfOk, OnOk};
+ghost use Rattle.std.specs.Prelude.{◌≡◌, ◌^◌, ◌<◌, ◌≤◌, IfOk, IsErrOf, OnOk};
+ghost use Rattle.pg_edge.specs.Count.{Rose};
 ghost use Rattle.pg_lang_meaning.specs.States.{IsState};
 ghost use Rattle.pg_hw.specs.Serving.{IsServed};
 ghost use Rattle.pg_hw.specs.Running.{Ran};
@@ -35,6 +36,8 @@ pub fn put_turns<H: Hardware, S: Sink>(
     requires few { n < 2 ^ 32 }
     ensures tally { IfOk result (λ t. IsTally m.now.desc n (H.machinery hw.old).state t) }
     ensures ran { OnOk result (Ran m.now.desc n (H.machinery hw.old) (H.machinery hw.new)) }
+    ensures later { S.faults out.old ≤ S.faults out.new }
+    ensures cause { IsErrOf result TraceFault.Output → Rose (S.faults out.old) (S.faults out.new) }
     ensures fixed { H.fixed hw.new ≡ H.fixed hw.old }
 {
     let mut tracer = Tracer::new(monitor);
@@ -66,7 +69,10 @@ fn put_next_piece<H: Hardware, S: Sink>(
     hw: &H,
     pieces: &mut Pieces,
     done: u64,
-) -> Result<(), TraceFault> {
+) -> Result<(), TraceFault>
+    ensures later { S.faults out.old ≤ S.faults out.new }
+    ensures cause { IsErrOf result TraceFault.Output → Rose (S.faults out.old) (S.faults out.new) }
+{
     if pieces.begins(done) {
         put_piece(out, text, m, hw, b"]},\n{\"at\":", done)
     } else {
@@ -82,7 +88,10 @@ fn put_piece<H: Hardware, S: Sink>(
     hw: &H,
     before: &[u8],
     done: u64,
-) -> Result<(), TraceFault> {
+) -> Result<(), TraceFault>
+    ensures later { S.faults out.old ≤ S.faults out.new }
+    ensures cause { IsErrOf result TraceFault.Output → Rose (S.faults out.old) (S.faults out.new) }
+{
     text.push(before);
     text.push_number(done);
     text.push(b",\"state\":");
@@ -114,7 +123,10 @@ fn put_turn<S: Sink>(
     m: &Machine,
     turn: &Turn<'_>,
     pieces: &mut Pieces,
-) -> Result<(), TraceFault> {
+) -> Result<(), TraceFault>
+    ensures later { S.faults out.old ≤ S.faults out.new }
+    ensures cause { IsErrOf result TraceFault.Output → Rose (S.faults out.old) (S.faults out.new) }
+{
     if !pieces.tells() {
         return Ok(());
     }

@@ -1,7 +1,8 @@
 //! A run of a machine from its image on.
 
-ghost use Rattle.std.specs.Prelude.{◌≡◌, ◌^◌, ◌<◌, ◌≤◌, length, All, IfOk, OnOk};
+ghost use Rattle.std.specs.Prelude.{◌≡◌, ◌^◌, ◌<◌, ◌≤◌, length, All, IfOk, IsErrOf, OnOk};
 ghost use Rattle.pg_ast.specs.declared.tree.Desc.{Desc};
+ghost use Rattle.pg_edge.specs.Count.{Rose};
 ghost use Rattle.pg_edge.specs.Sink.{Adds};
 ghost use Rattle.pg_edge.specs.Told.{BothTold};
 ghost use Rattle.pg_hw.specs.Running.{Ran};
@@ -47,6 +48,8 @@ pub fn put_dump<H: Hardware, S: Sink>(
     ensures reached { OnOk result ((H.machinery hw.new).state ≡ bare m.now.desc image.now (length image.now) n) }
     ensures put { OnOk result (BothTold (S.written out.old) (S.written out.new)
         (Adds (dump_text monitor m.now.desc n (power_on image.now (length image.now))))) }
+    ensures later { S.faults out.old ≤ S.faults out.new }
+    ensures cause { IsErrOf result TraceFault.Output → Rose (S.faults out.old) (S.faults out.new) }
 {
     let mut text = Vec::new(alloc);
     push_head(&mut text, m, monitor)?;
@@ -74,6 +77,8 @@ fn put_steps<H: Hardware, S: Sink>(
     ensures ran { OnOk result (Ran m.now.desc n (H.machinery hw.old) (H.machinery hw.new)) }
     ensures put { OnOk result (BothTold (S.written out.old) (S.written out.new)
         (Adds (steps_text monitor m.now.desc n (H.machinery hw.old).state))) }
+    ensures later { S.faults out.old ≤ S.faults out.new }
+    ensures cause { IsErrOf result TraceFault.Output → Rose (S.faults out.old) (S.faults out.new) }
     ensures fixed { H.fixed hw.new ≡ H.fixed hw.old }
 {
     let signals = signals_of(monitor);
@@ -97,8 +102,10 @@ fn put_end<H: Hardware, S: Sink>(
     signals: &[Signal],
     last: Option<Sample>,
 ) -> Result<(), TraceFault>
-    ensures { OnOk result (BothTold (S.written out.old) (S.written out.new)
+    ensures put { OnOk result (BothTold (S.written out.old) (S.written out.new)
         (Adds (sample_text n signals.now last (sample_at_end (H.machinery hw.now).state.psw)))) }
+    ensures later { S.faults out.old ≤ S.faults out.new }
+    ensures cause { IsErrOf result TraceFault.Output → Rose (S.faults out.old) (S.faults out.new) }
 {
     let sample = Sample::of_end(hw.psw());
     put_sample(out, text, n, signals, last, &sample)
@@ -113,7 +120,9 @@ fn put_sample<S: Sink>(
     before: Option<Sample>,
     sample: &Sample,
 ) -> Result<(), TraceFault>
-    ensures { OnOk result (BothTold (S.written out.old) (S.written out.new) (Adds (sample_text time signals.now before sample.now))) }
+    ensures put { OnOk result (BothTold (S.written out.old) (S.written out.new) (Adds (sample_text time signals.now before sample.now))) }
+    ensures later { S.faults out.old ≤ S.faults out.new }
+    ensures cause { IsErrOf result TraceFault.Output → Rose (S.faults out.old) (S.faults out.new) }
 {
     text.clear();
     push_sample(text, time, signals, before, sample)?;

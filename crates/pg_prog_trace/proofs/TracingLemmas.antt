@@ -191,10 +191,10 @@ form-works w old new work given due left files saves =
 
 -- the run was to be done
 pub form-left : (w : TraceWork) (old new : Output) (before after : Machinery) (r : Result (Unit {0}) TraceFault) → LetsRun w →
-    FormLeaves w old new before after (ended_as r) (class_of (ended_as r))
-form-left w old new before after (Ok x) lets = inl (record { lets = lets; status = refl })
-form-left w old new before after (Err fault.Output) lets = inl lets
-form-left w old new before after (Err fault.Memory) lets = lets
+    (IsErrOf r fault.Output → Rose old.faults new.faults) → FormLeaves w old new before after (ended_as r) (class_of (ended_as r))
+form-left w old new before after (Ok x) lets cause = inl (record { lets = lets; status = refl })
+form-left w old new before after (Err fault.Output) lets cause = inl (cause refl, lets)
+form-left w old new before after (Err fault.Memory) lets cause = lets
 
 -- the verdict was told in place of it
 pub form-verdict : (w : TraceWork) (j : Judged) (old new : Output) (before after : Machinery) (given : Status) (k : Class) → ForbidsRun w j → after ≡ before → ToldAs j old new given k →

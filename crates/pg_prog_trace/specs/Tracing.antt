@@ -135,10 +135,11 @@ pub record FormShown (w : TraceWork) (given : Status) : Type 0 where
   pub lets : LetsRun w
   pub status : given ≡ status.Done
 
--- as JSON or as a dump: the verdict is told as beside the text, and of the run nothing is said here but that it was to be done
+-- as JSON or as a dump: the verdict is told as beside the text, and of the run nothing is said here but that it was to be done, and
+-- that a put failed where it could not be written
 abbrev pub FormLeaves : Leaving
 FormLeaves w old new before after given Ended = FormShown w given ⊎ VerdictShown w old new before after given
-FormLeaves w old new before after given Unwritten = LetsRun w ⊎ VerdictBroken w old new before after
+FormLeaves w old new before after given Unwritten = (Rose old.faults new.faults × LetsRun w) ⊎ VerdictBroken w old new before after
 FormLeaves w old new before after given Unread = ⊥
 FormLeaves w old new before after given OutOfMemory = LetsRun w
 

@@ -1,8 +1,9 @@
 //! A run as JSON: `docs/DATA.md` has its keys.
 
-ghost use Rattle.std.specs.Prelude.{◌≡◌, ◌*◌, ◌≤◌, All, OnOk, IfSome, Some, length};
+ghost use Rattle.std.specs.Prelude.{◌≡◌, ◌*◌, ◌≤◌, All, IfSome, IsErrOf, OnOk, Some, length};
 ghost use Rattle.pg_ast.specs.declared.tree.Desc.{Desc};
 ghost use Rattle.pg_cert.specs.Verdicts.{kind_count};
+ghost use Rattle.pg_edge.specs.Count.{Rose};
 ghost use Rattle.pg_report.specs.Verdicts.{DoMarkWordsFit};
 ghost use Rattle.pg_cmd_base.specs.Able.{IsAble};
 ghost use Rattle.pg_cmd_base.specs.Answering.{OnlyReads};
@@ -104,6 +105,7 @@ fn put_part<S: Sink, H: Hardware>(
     monitor: Option<Monitor>,
 ) -> Result<(), TraceFault>
     requires able { IsAble H.Hardware hw.old }
+    ensures cause { IsErrOf result TraceFault.Output → Rose (S.faults out.old) (S.faults out.new) }
 {
     let part = part_of(plan, until, hw)?;
     put_json(alloc, &part, hw, out, monitor)
@@ -120,6 +122,7 @@ fn put_json<S: Sink, H: Hardware>(
     requires serves { (d : Desc) → IsValid d → H.serves (H.fixed hw.old) d }
     requires room { 1048575 ≤ H.room (H.fixed hw.old) }
     ensures reached { OnOk result ((H.machinery hw.new).state ≡ reached (planned_run plan.now)) }
+    ensures cause { IsErrOf result TraceFault.Output → Rose (S.faults out.old) (S.faults out.new) }
 {
     let mut text = Text::new(alloc);
     push_begin(&mut text, plan, monitor);

@@ -1,7 +1,8 @@
 //! A run as a value change dump.
 
-ghost use Rattle.std.specs.Prelude.{◌≡◌, ◌*◌, All, IfSome, OnOk, Some, length};
+ghost use Rattle.std.specs.Prelude.{◌≡◌, ◌*◌, All, IfSome, IsErrOf, OnOk, Some, length};
 ghost use Rattle.pg_cert.specs.Verdicts.{kind_count};
+ghost use Rattle.pg_edge.specs.Count.{Rose};
 ghost use Rattle.pg_report.specs.Verdicts.{DoMarkWordsFit};
 ghost use Rattle.pg_cmd_base.specs.Able.{IsAble};
 ghost use Rattle.pg_cmd_base.specs.Answering.{OnlyReads};
@@ -105,7 +106,8 @@ fn dump_part<S: Sink, H: Hardware>(
     monitor: Option<Monitor>,
 ) -> Result<(), TraceFault>
     requires able { IsAble H.Hardware hw.old }
-    ensures { OnOk result (PutsDump monitor until (planned_run plan) (S.written out.old) (S.written out.new) (H.machinery hw.new).state) }
+    ensures put { OnOk result (PutsDump monitor until (planned_run plan) (S.written out.old) (S.written out.new) (H.machinery hw.new).state) }
+    ensures cause { IsErrOf result TraceFault.Output → Rose (S.faults out.old) (S.faults out.new) }
 {
     let part = part_of(plan, until, hw)?;
     let image = part.image.as_slice();

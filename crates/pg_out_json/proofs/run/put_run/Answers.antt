@@ -15,6 +15,6 @@ put_turns-requires-clause-state g c =
     subst (λ s. IsState c.args.m.now.desc s) (sym (ap (λ (m : Machinery). m.state) c.power_on.ensures.switched_on))
     (power_on-state c.args.m.now.desc c.args.image.now (length c.args.image.now) c.args.m.now.valid c.requires.least c.requires.most (omega arith) c.requires.words)
 
-pub returns : goal.returns
-returns g c =
+pub returns-clause-reached : goal.returns-clause-reached
+returns-clause-reached g c =
     reached-anyway c.args.m.now.desc c.args.image.now c.args.n _ _ c.put_end.result (ap (λ (m : Machinery). m.state) c.power_on.ensures.switched_on) c.in_ok-tally.ensures.ran

@@ -15,6 +15,7 @@ loop-done-init g c = record {
   tally = c.in_ok-tally.ensures.none (g.H.Hardware.machinery c.args.hw.now).state;
   balanced = c.in_ok-tally.ensures.balanced;
   ran = Ran-none c.args.m.now.desc _;
+  later = omega (arith, c.in_ok-put_piece.ensures.later);
   fixed = refl;
 }
 
@@ -50,6 +51,7 @@ loop-done-preserved g c =
       tally = tally-next d n s _ _ made r before.tally tells c.count.ensures.counted;
       balanced = c.count.ensures.balanced;
       ran = Ran-then d n 1 _ _ _ before.ran c.step-stepped.ensures.ran;
+      later = omega (arith, before.later, c.in_ok-put_next_piece.ensures.later, c.in_ok-put_turn.ensures.later);
       fixed = c.step-stepped.ensures.fixed ∙ before.fixed;
     }
 

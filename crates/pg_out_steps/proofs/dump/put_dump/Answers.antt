@@ -41,4 +41,4 @@ returns-clause-put g c =
     c.put_end.result (ap (λ (m : Machinery). m.state) c.power_on.ensures.switched_on) c.in_ok-last.ensures.ran
     (subst (λ (bytes : List ℕ). BothTold was first (Adds bytes)) head c.in_ok-put.ensures.puts.whole) c.in_ok-last.ensures.put c.in_ok-last.ensures.last
     (subst (λ (ss : List Signal). OnOk c.put_end.result (BothTold mid now (Adds (sample_text c.args.n ss c.in_ok-last.last (sample_at_end new.state.psw))))) c.signals_of.ensures
-    c.put_end.ensures)
+    c.put_end.ensures.put)

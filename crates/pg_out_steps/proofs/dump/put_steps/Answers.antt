@@ -21,6 +21,7 @@ loop-done-init g c = record {
   last = refl;
   ran = Ran-none c.args.m.now.desc _;
   put = Adds-nil _;
+  later = omega arith;
   fixed = refl;
 }
 
@@ -48,7 +49,8 @@ loop-done-preserved g c =
       last = last-next c.args.monitor d n s _ sample;
       ran = Ran-then d n 1 _ _ _ before.ran c.step-stepped.ensures.ran;
       put = steps-next c.args.monitor d n s _ _ _ c.loop-done.last _ before.put before.last sample
-          (subst (λ ss. BothTold (g.S.Sink.written c.loop-done.out) (g.S.Sink.written c.put_sample.new.out) (Adds (sample_text n ss c.loop-done.last c.of_step-sample.result))) c.signals_of-signals.ensures c.in_ok-put_sample.ensures);
+          (subst (λ ss. BothTold (g.S.Sink.written c.loop-done.out) (g.S.Sink.written c.put_sample.new.out) (Adds (sample_text n ss c.loop-done.last c.of_step-sample.result))) c.signals_of-signals.ensures c.in_ok-put_sample.ensures.put);
+      later = omega (arith, before.later, c.in_ok-put_sample.ensures.later);
       fixed = c.step-stepped.ensures.fixed ∙ before.fixed;
     }
 

@@ -1,4 +1,4 @@
-use Rattle.std.proofs.Common.{◌≡◌}
+use Rattle.std.proofs.Common.{◌≡◌, ◌≤◌}
 use Rattle.pg_edge.specs.Sink.{Adds}
 use Rattle.pg_edge.specs.Told.{BothTold}
 use Rattle.pg_hw.specs.Running.{Ran}
@@ -12,5 +12,6 @@ invariant-loop-done g l = record {
   last : l.last ≡ last_sample l.fn.monitor l.m.desc l.done (g.H.Hardware.machinery l.initial.hw).state;
   ran : Ran l.m.desc l.done (g.H.Hardware.machinery l.initial.hw) (g.H.Hardware.machinery l.hw);
   put : BothTold (g.S.Sink.written l.initial.out) (g.S.Sink.written l.out) (Adds (steps_text l.fn.monitor l.m.desc l.done (g.H.Hardware.machinery l.initial.hw).state));
+  later : g.S.Sink.faults l.initial.out ≤ g.S.Sink.faults l.out;
   fixed : g.H.Hardware.fixed l.hw ≡ g.H.Hardware.fixed l.initial.hw;
 }

@@ -26,4 +26,4 @@ returns g c =
     let before = g.H.Hardware.machinery c.args.hw.now in
     let after = g.H.Hardware.machinery c.put_part.new.hw in
     subst (λ (s : Status). FormLeaves work old new before after s (class_of s)) (sym c.ended.ensures)
-    (form-left work old new before after c.put_part.result (sym c.verdict.ensures ∙ c.is_accepted.ensures.yes c.if-not-is_accepted.false))
+    (form-left work old new before after c.put_part.result (sym c.verdict.ensures ∙ c.is_accepted.ensures.yes c.if-not-is_accepted.false) c.put_part.ensures.cause)

@@ -17,4 +17,4 @@ returns-in-None g c =
     let after = g.H.Hardware.machinery c.put_part.new.hw in
     subst (λ (report : Option Report). FormLeaves (work report) old new before after c.ended.result (class_of c.ended.result)) (sym c.in-None.is)
     (subst (λ (s : Status). FormLeaves (work None) old new before after s (class_of s)) (sym c.ended.ensures)
-    (form-left (work None) old new before after c.put_part.result tt))
+    (form-left (work None) old new before after c.put_part.result tt c.put_part.ensures.cause))

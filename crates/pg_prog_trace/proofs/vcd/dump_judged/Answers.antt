@@ -23,7 +23,7 @@ returns-clause-dumped g c = λ done.
     let work : TraceWork = record { run = planned_run c.args.plan; report = Some c.args.report } in
     dump-left c.args.until work (Some c.monitor_of-monitor.result) (g.S.Sink.written c.args.out.now) (g.S.Sink.written c.dump_part.new.out)
     (g.H.Hardware.machinery c.dump_part.new.hw).state c.dump_part.result c.ended.result
-    (sym c.verdict.ensures ∙ c.is_accepted.ensures.yes c.if-not-is_accepted.false) (ap (λ (m : Monitor). Some m) c.monitor_of-monitor.ensures) c.dump_part.ensures
+    (sym c.verdict.ensures ∙ c.is_accepted.ensures.yes c.if-not-is_accepted.false) (ap (λ (m : Monitor). Some m) c.monitor_of-monitor.ensures) c.dump_part.ensures.put
     c.ended.ensures done
 
 -- ---- what is left, whatever the status
@@ -44,4 +44,4 @@ returns-clause-left g c =
     let before = g.H.Hardware.machinery c.args.hw.now in
     let after = g.H.Hardware.machinery c.dump_part.new.hw in
     subst (λ (s : Status). FormLeaves work old new before after s (class_of s)) (sym c.ended.ensures)
-    (form-left work old new before after c.dump_part.result (sym c.verdict.ensures ∙ c.is_accepted.ensures.yes c.if-not-is_accepted.false))
+    (form-left work old new before after c.dump_part.result (sym c.verdict.ensures ∙ c.is_accepted.ensures.yes c.if-not-is_accepted.false) c.dump_part.ensures.cause)

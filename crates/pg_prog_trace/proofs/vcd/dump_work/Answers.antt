@@ -17,7 +17,7 @@ returns-in-None-clause-dumped g c = λ done.
     let now = g.S.Sink.written c.dump_part.new.out in
     let state = (g.H.Hardware.machinery c.dump_part.new.hw).state in
     subst (λ (report : Option Report). IsWorkDumped c.args.until (work report) was now state) (sym c.in-None.is)
-    (dump-left c.args.until (work None) None was now state c.dump_part.result c.ended.result tt refl c.dump_part.ensures c.ended.ensures done)
+    (dump-left c.args.until (work None) None was now state c.dump_part.result c.ended.result tt refl c.dump_part.ensures.put c.ended.ensures done)
 
 pub returns-in-None-clause-left : goal.returns-in-None-clause-left
 returns-in-None-clause-left g c =
@@ -28,4 +28,4 @@ returns-in-None-clause-left g c =
     let after = g.H.Hardware.machinery c.dump_part.new.hw in
     subst (λ (report : Option Report). FormLeaves (work report) old new before after c.ended.result (class_of c.ended.result)) (sym c.in-None.is)
     (subst (λ (s : Status). FormLeaves (work None) old new before after s (class_of s)) (sym c.ended.ensures)
-    (form-left (work None) old new before after c.dump_part.result tt))
+    (form-left (work None) old new before after c.dump_part.result tt c.dump_part.ensures.cause))
