@@ -1,5 +1,5 @@
 -- Saved guests, one behind another: what their steps come to, and that they come to one thing.
-use Rattle.std.proofs.Common.{◌≡◌, ◌∙◌, ℕ, suc, ◌+◌, ◌-◌, ◌^◌, ◌<◌, ◌≤◌, max, List, [], ◌∷◌, ◌++◌, All, length, map, get_or, drop, Option, Some, Err, inl, inr, refl, sym, ap, subst, arith, append_assoc, drop-cons, pow_mono}
+use Rattle.std.proofs.Common.{◌≡◌, ◌∙◌, ℕ, suc, ◌+◌, ◌-◌, ◌*◌, ◌^◌, ◌<◌, ◌≤◌, max, List, [], ◌∷◌, ◌++◌, All, length, map, get_or, drop, Option, Some, Err, inl, inr, refl, sym, ap, subst, arith, append_assoc, drop-cons, pow_mono}
 use Rattle.std.proofs.lemmas.List.{append-nil, drop_all}
 use Rattle.std.proofs.lemmas.List.Elements.{All-cons, All-head, All-nil, All-tail, All-weaker}
 use Rattle.pg_alloc.specs.Fit.{kept_cells}
@@ -122,6 +122,15 @@ states-small d states valid each =
     let shape = IsShape-of_valid d valid in
     let most : 2 ^ d.address ≤ 2 ^ 20 = pow_mono shape.address_most in
     All-weaker (IsState d) (λ (s : State). length s.cells ≤ 2 ^ 20) (λ s h. let size = h.size_most in omega (arith, size, shape.size_most, most)) states each
+
+-- so that their cells can be counted
+pub cells-most : (ss : List State) (m : ℕ) → All (λ (s : State). length s.cells ≤ m) ss → cells_in ss ≤ length ss * m
+cells-most [] m each = omega arith
+cells-most (s ∷ ss) m each =
+    let one = All-head (λ (x : State). length x.cells ≤ m) s ss each in
+    let rest = cells-most ss m (All-tail (λ (x : State). length x.cells ≤ m) s ss each) in
+    let more : suc (length ss) * m ≡ m + length ss * m = grind arith in
+    omega (arith, one, rest, more)
 
 -- guests have cells
 pub some-cells : (d : Desc) (states : List State) → 1 ≤ length states → All (IsState d) states → 1 ≤ cells_in states

@@ -30,8 +30,8 @@
 //! it is still is told in the same words, then its state, or what is to be shown of it. There is no line of turns.
 //!
 //! Words that are not taken are answered by the usage (3). The other refusals have the lines and statuses of `pgv run`, in its order:
-//! the description (4), the room (7), the images (5), the certificate (6), a verdict that does not accept the machine (1, 2). Of saved
-//! guests these stand behind the description, each in order, as in `pgv resume` (5), then the room for all. Those of a bare machine are
+//! the description (4), the room (7), the images (5), the certificate (6), a verdict that does not accept the machine (1, 2). Saved guests
+//! stand behind the description, each in order, as `pgv resume` refuses them (13), then the room for all. Those of a bare machine are
 //! of `pgv bare`. The status is 8 where a file cannot be read, 9 where the output cannot be written, 10 where memory
 //! is refused, and 11 where a file is not there. No file is saved. What each status means is a clause (`run`, `carry_go`, `carry_from`, `carry_bare`).
 //!

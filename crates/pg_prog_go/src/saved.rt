@@ -109,11 +109,13 @@ fn load_behind_machine<F: Shelf>(
     ensures reads { OnlyReads F.Shelf shelf.old shelf.new }
 {
     let shown = end_of_all(words.views.as_slice());
-    let states = match load_states(alloc, words.saved.as_slice(), shown, &machine, shelf) {
+    let names = words.saved.as_slice();
+    let states = match load_states(alloc, names, shown, &machine, shelf) {
         Ok(states) => states,
         Err(stop) => return Err(stop),
     };
-    match try_room(cells_in(states.as_slice()), KEPT_CELLS, machine.shape()) {
+    let wanted = cells_in(states.as_slice());
+    match try_room(wanted, KEPT_CELLS, machine.shape()) {
         Ok(()) => load_behind_room(alloc, words, machine, states, shelf),
         Err(stop) => Err(stop),
     }
