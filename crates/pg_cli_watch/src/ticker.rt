@@ -17,7 +17,7 @@ use std::alloc::Global;
 use std::cell::RefCell;
 use std::io::Write;
 use std::rt::Clock;
-use std::time::Instant;
+use std::time::{Duration, Instant};
 
 /// After how many seconds the line on a terminal is written anew.
 const SHOWN_EVERY: u64 = 1;
@@ -179,7 +179,7 @@ impl<'a, C: Clock, E: Write + Drop> Ticker<'a, C, E> {
         };
         self.rhythm.look(now);
         match self.begun {
-            Some(begun) => now.duration_since(begun).as_millis() as u64,
+            Some(begun) => millis_of(now.duration_since(begun)),
             None => {
                 self.begun = Some(now);
                 0
@@ -258,6 +258,12 @@ impl Question {
         self.learned = learned;
         self.budget = Some(budget);
     }
+}
+
+/// How many milliseconds a time has.
+fn millis_of(time: Duration) -> u64 {
+    let seconds = time.as_secs().saturating_mul(MILLIS);
+    seconds.saturating_add(u64::from(time.subsec_millis()))
 }
 
 /// Makes the name of a question.
