@@ -1,4 +1,5 @@
-use Rattle.std.proofs.Common.{◌≡◌, ◌∙◌, ◌+◌, ◌-◌, ◌≤◌, ℕ, All, List, length, map, Option, Result, Err, IfOk, ap, sym, subst, arith}
+use Rattle.std.proofs.Common.{◌≡◌, ◌∙◌, ◌+◌, ◌-◌, ◌≤◌, ℕ, All, List, length, map, ◌^◌, Option, Result, Ok, Err, IfOk, refl, ap, sym, subst, arith}
+use Rattle.std.proofs.lemmas.List.{length-map}
 use Rattle.pg_alloc.specs.Fit.{kept_cells}
 use Rattle.pg_edge.specs.Shelf.{Files}
 use Rattle.pg_lang_meaning.specs.States.{State, IsState}
@@ -14,8 +15,15 @@ use Rattle.pg_cmd_base.specs.Steps.{Came}
 use Rattle.pg_cmd_base.proofs.StepLemmas.{comes-stopped, comes-behind, same_three}
 use Rattle.pg_prog_go.specs.From.{StatesDue, behind_room, behind_states, end_of_all}
 use Rattle.pg_prog_go.specs.Plans.{from_go}
+use Rattle.pg_prog_go.specs.declared.plan.GoPlan.{GoPlan}
+use Rattle.pg_cmd_base.specs.declared.refusal.Stop.{Stop}
 use Rattle.pg_prog_go.proofs.SavedLemmas.{shown-views, some-cells, states-small}
 use Rattle.pg_prog_go.proofs.saved.load_behind_machine.Goals as goal
+
+shown-there : (r : Result GoPlan Stop) (vs : List View) (ss : List State) → IfOk r (λ p. states_in p.starts ≡ ss) → All (λ (s : State). AreViewsOf (length s.cells) vs) ss →
+    IfOk r (λ p. All (λ (s : State). AreViewsOf (length s.cells) vs) (states_in p.starts))
+shown-there (Ok p) vs ss same each = subst (λ (xs : List State). All (λ (s : State). AreViewsOf (length s.cells) vs) xs) (sym same) each
+shown-there (Err e) vs ss same each = tt
 
 -- the saved guests stop it
 pub returns-in-Err-clause-comes : goal.returns-in-Err-clause-comes
@@ -109,4 +117,9 @@ returns-in-Ok-try_room-clause-comes g c =
 
 -- each guest has the cells that are shown
 pub returns-in-Ok-try_room-clause-shown : goal.returns-in-Ok-try_room-clause-shown
-returns-in-Ok-try_room-clause-shown g c = ?
+returns-in-Ok-try_room-clause-shown g c =
+    let vs = c.args.words.now.views.items in
+    let ss = map state_of c.in-Ok.states in
+    let shown : c.end_of_all-shown.result ≡ end_of_all vs = c.end_of_all-shown.ensures ∙ ap end_of_all c.as_slice.ensures.value in
+    let each = subst (λ (n : ℕ). All (λ (s : State). n ≤ length s.cells) ss) shown c.in-Ok.ensures.shown in
+    shown-there c.load_behind_room.result vs ss c.load_behind_room.ensures.same (shown-views vs ss each)
