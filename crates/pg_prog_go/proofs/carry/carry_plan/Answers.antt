@@ -46,14 +46,14 @@ run_until_still-requires-clause-room g c =
     let small = size-small m.desc m.valid in
     omega (arith, same, small, c.requires.able.room)
 
-pub returns-in-Err-run_until_still-clause-carries : goal.returns-in-Err-run_until_still-clause-carries
-returns-in-Err-run_until_still-clause-carries g c = λ files before after saves.
+pub returns-in-Err-clause-carries : goal.returns-in-Err-clause-carries
+returns-in-Err-clause-carries g c = λ files before after saves.
     let p = c.args.plan.now in
     let j = judged p.judged in
     let old = beside files before saves (output g.S.Sink c.args.out.now) (g.H.Hardware.machinery c.args.hw.now) in
     let new = beside files after saves (output g.S.Sink c.args.out.now) (g.H.Hardware.machinery c.run_until_still.new.hw) in
     let set_up : SetUp (run_of_plan p) old.hw new.hw =
-    subst (λ (m : Machine). SetUp (run_from m (states_in p.starts) p.slice p.steps) old.hw new.hw) c.of-accepted.ensures.same c.in-Err-run_until_still.ensures.set_up in
+    subst (λ (m : Machine). SetUp (run_from m (states_in p.starts) p.slice p.steps) old.hw new.hw) c.of-accepted.ensures.same c.in-Err.ensures.set_up in
     carries-starved (rest_command c.args.views.now (run_of_plan p) j) old new tt refl
     (record {
       accepted = sym c.verdict.ensures ∙ c.is_accepted.ensures.yes c.if-not-is_accepted.false;
@@ -68,34 +68,34 @@ returns-in-Err-run_until_still-clause-carries g c = λ files before after saves.
 pub put_rested-requires-clause-words : goal.put_rested-requires-clause-words
 put_rested-requires-clause-words g c =
     let p = c.args.plan.now in
-    let have : HaveRested (run_of_plan p) c.in-Ok-run_until_still.ran (g.H.Hardware.machinery c.args.hw.now) (g.H.Hardware.machinery c.run_until_still.new.hw) =
-    subst (λ (m : Machine). HaveRested (run_from m (states_in p.starts) p.slice p.steps) c.in-Ok-run_until_still.ran (g.H.Hardware.machinery c.args.hw.now) (g.H.Hardware.machinery c.run_until_still.new.hw))
-    c.of-accepted.ensures.same c.in-Ok-run_until_still.ensures.rested in
+    let have : HaveRested (run_of_plan p) c.in-Ok.ran (g.H.Hardware.machinery c.args.hw.now) (g.H.Hardware.machinery c.run_until_still.new.hw) =
+    subst (λ (m : Machine). HaveRested (run_from m (states_in p.starts) p.slice p.steps) c.in-Ok.ran (g.H.Hardware.machinery c.args.hw.now) (g.H.Hardware.machinery c.run_until_still.new.hw))
+    c.of-accepted.ensures.same c.in-Ok.ensures.rested in
     have.stands.real_state.words
 
 pub put_rested-requires-clause-within : goal.put_rested-requires-clause-within
 put_rested-requires-clause-within g c =
     let p = c.args.plan.now in
-    let have : HaveRested (run_of_plan p) c.in-Ok-run_until_still.ran (g.H.Hardware.machinery c.args.hw.now) (g.H.Hardware.machinery c.run_until_still.new.hw) =
-    subst (λ (m : Machine). HaveRested (run_from m (states_in p.starts) p.slice p.steps) c.in-Ok-run_until_still.ran (g.H.Hardware.machinery c.args.hw.now) (g.H.Hardware.machinery c.run_until_still.new.hw))
-    c.of-accepted.ensures.same c.in-Ok-run_until_still.ensures.rested in
-    rested-within (run_of_plan p) c.in-Ok-run_until_still.ran _ _ have
+    let have : HaveRested (run_of_plan p) c.in-Ok.ran (g.H.Hardware.machinery c.args.hw.now) (g.H.Hardware.machinery c.run_until_still.new.hw) =
+    subst (λ (m : Machine). HaveRested (run_from m (states_in p.starts) p.slice p.steps) c.in-Ok.ran (g.H.Hardware.machinery c.args.hw.now) (g.H.Hardware.machinery c.run_until_still.new.hw))
+    c.of-accepted.ensures.same c.in-Ok.ensures.rested in
+    rested-within (run_of_plan p) c.in-Ok.ran _ _ have
 
 pub put_rested-requires-clause-views : goal.put_rested-requires-clause-views
 put_rested-requires-clause-views g c =
     let p = c.args.plan.now in
-    let have : HaveRested (run_of_plan p) c.in-Ok-run_until_still.ran (g.H.Hardware.machinery c.args.hw.now) (g.H.Hardware.machinery c.run_until_still.new.hw) =
-    subst (λ (m : Machine). HaveRested (run_from m (states_in p.starts) p.slice p.steps) c.in-Ok-run_until_still.ran (g.H.Hardware.machinery c.args.hw.now) (g.H.Hardware.machinery c.run_until_still.new.hw))
-    c.of-accepted.ensures.same c.in-Ok-run_until_still.ensures.rested in
-    rested-views (run_of_plan p) c.args.views.now c.in-Ok-run_until_still.ran _ _ have c.requires.views
+    let have : HaveRested (run_of_plan p) c.in-Ok.ran (g.H.Hardware.machinery c.args.hw.now) (g.H.Hardware.machinery c.run_until_still.new.hw) =
+    subst (λ (m : Machine). HaveRested (run_from m (states_in p.starts) p.slice p.steps) c.in-Ok.ran (g.H.Hardware.machinery c.args.hw.now) (g.H.Hardware.machinery c.run_until_still.new.hw))
+    c.of-accepted.ensures.same c.in-Ok.ensures.rested in
+    rested-views (run_of_plan p) c.args.views.now c.in-Ok.ran _ _ have c.requires.views
 
 pub put_rested-requires-clause-count : goal.put_rested-requires-clause-count
 put_rested-requires-clause-count g c =
     let p = c.args.plan.now in
-    let have : HaveRested (run_of_plan p) c.in-Ok-run_until_still.ran (g.H.Hardware.machinery c.args.hw.now) (g.H.Hardware.machinery c.run_until_still.new.hw) =
-    subst (λ (m : Machine). HaveRested (run_from m (states_in p.starts) p.slice p.steps) c.in-Ok-run_until_still.ran (g.H.Hardware.machinery c.args.hw.now) (g.H.Hardware.machinery c.run_until_still.new.hw))
-    c.of-accepted.ensures.same c.in-Ok-run_until_still.ensures.rested in
-    rested-count (run_of_plan p) c.in-Ok-run_until_still.ran _ _ have
+    let have : HaveRested (run_of_plan p) c.in-Ok.ran (g.H.Hardware.machinery c.args.hw.now) (g.H.Hardware.machinery c.run_until_still.new.hw) =
+    subst (λ (m : Machine). HaveRested (run_from m (states_in p.starts) p.slice p.steps) c.in-Ok.ran (g.H.Hardware.machinery c.args.hw.now) (g.H.Hardware.machinery c.run_until_still.new.hw))
+    c.of-accepted.ensures.same c.in-Ok.ensures.rested in
+    rested-count (run_of_plan p) c.in-Ok.ran _ _ have
 
 pub returns-in-Ok-put_rested-clause-carries : goal.returns-in-Ok-put_rested-clause-carries
 returns-in-Ok-put_rested-clause-carries g c = λ files before after saves.
@@ -103,12 +103,12 @@ returns-in-Ok-put_rested-clause-carries g c = λ files before after saves.
     let j = judged p.judged in
     let r = run_of_plan p in
     let vs = c.args.views.now in
-    let ran_code = c.in-Ok-run_until_still.ran in
+    let ran_code = c.in-Ok.ran in
     let old = beside files before saves (output g.S.Sink c.args.out.now) (g.H.Hardware.machinery c.args.hw.now) in
     let new = beside files after saves (output g.S.Sink c.put_rested.new.out) (g.H.Hardware.machinery c.run_until_still.new.hw) in
     let is : verdict_on j ≡ Accepted = sym c.verdict.ensures ∙ c.is_accepted.ensures.yes c.if-not-is_accepted.false in
     let have : HaveRested r ran_code old.hw new.hw =
-    subst (λ (m : Machine). HaveRested (run_from m (states_in p.starts) p.slice p.steps) ran_code old.hw new.hw) c.of-accepted.ensures.same c.in-Ok-run_until_still.ensures.rested in
+    subst (λ (m : Machine). HaveRested (run_from m (states_in p.starts) p.slice p.steps) ran_code old.hw new.hw) c.of-accepted.ensures.same c.in-Ok.ensures.rested in
     let put : Puts {T = Unit {0}} {E = Failed} old.out.written new.out.written old.out.faults new.out.faults (text_of_rest r vs ran_code.rests.items have.rounds) c.put_rested.result =
     subst (λ t. Puts {T = Unit {0}} {E = Failed} old.out.written new.out.written old.out.faults new.out.faults t c.put_rested.result) (rested-text r vs ran_code old.hw new.hw have) c.put_rested.ensures in
     let ends = rest-ran vs r j ran_code old new is (accepts j c.requires.family c.requires.means is) have refl refl in
@@ -121,12 +121,12 @@ returns-clause-carries g c = λ files before after saves.
     let j = judged p.judged in
     let r = run_of_plan p in
     let vs = c.args.views.now in
-    let ran_code = c.in-Ok-run_until_still.ran in
+    let ran_code = c.in-Ok.ran in
     let old = beside files before saves (output g.S.Sink c.args.out.now) (g.H.Hardware.machinery c.args.hw.now) in
     let new = beside files after saves (output g.S.Sink c.put_rested.new.out) (g.H.Hardware.machinery c.run_until_still.new.hw) in
     let is : verdict_on j ≡ Accepted = sym c.verdict.ensures ∙ c.is_accepted.ensures.yes c.if-not-is_accepted.false in
     let have : HaveRested r ran_code old.hw new.hw =
-    subst (λ (m : Machine). HaveRested (run_from m (states_in p.starts) p.slice p.steps) ran_code old.hw new.hw) c.of-accepted.ensures.same c.in-Ok-run_until_still.ensures.rested in
+    subst (λ (m : Machine). HaveRested (run_from m (states_in p.starts) p.slice p.steps) ran_code old.hw new.hw) c.of-accepted.ensures.same c.in-Ok.ensures.rested in
     let put : Puts {T = Unit {0}} {E = Failed} old.out.written new.out.written old.out.faults new.out.faults (text_of_rest r vs ran_code.rests.items have.rounds) c.put_rested.result =
     subst (λ t. Puts {T = Unit {0}} {E = Failed} old.out.written new.out.written old.out.faults new.out.faults t c.put_rested.result) (rested-text r vs ran_code old.hw new.hw have) c.put_rested.ensures in
     let ends = rest-ran vs r j ran_code old new is (accepts j c.requires.family c.requires.means is) have refl refl in

@@ -39,14 +39,14 @@ returns-in-Err-clause-comes g c =
     (subst (λ (xs : List (List ℕ)). Comes (map state_of) (StatesDue told c.end_of_all-shown.result xs d) before after (Err stop)) c.as_slice-names.ensures.names c.in-Err.ensures.comes) in
     comes-stopped (map state_of) from_go (StatesDue told (end_of_all w.views.items) w.saved d) (behind_states w told d) before after after stop came (omega arith)
 
-pub cells_in-requires-clause-few : goal.cells_in-requires-clause-few
-cells_in-requires-clause-few g c =
+pub cells_in-wanted-requires-clause-few : goal.cells_in-wanted-requires-clause-few
+cells_in-wanted-requires-clause-few g c =
     let items = ap (λ (xs : List Sparse). length xs) c.as_slice-2.ensures in
     let names = ap (λ (xs : List (List ℕ)). length xs) c.as_slice-names.ensures.names in
     omega (arith, items, names, c.in-Ok.ensures.count, c.as_slice-names.ensures.most)
 
-pub cells_in-requires-clause-small : goal.cells_in-requires-clause-small
-cells_in-requires-clause-small g c =
+pub cells_in-wanted-requires-clause-small : goal.cells_in-wanted-requires-clause-small
+cells_in-wanted-requires-clause-small g c =
     let m = c.args.machine in
     subst (λ (xs : List Sparse). All (λ (s : State). length s.cells ≤ 2 ^ 20) (map state_of xs)) (sym c.as_slice-2.ensures)
     (states-small m.desc (map state_of c.in-Ok.states) m.valid c.in-Ok.ensures.each)
