@@ -1,5 +1,5 @@
 -- Saved guests, one behind another: what their steps come to, and that they come to one thing.
-use Rattle.std.proofs.Common.{◌≡◌, ◌∙◌, ℕ, suc, ◌+◌, ◌-◌, ◌*◌, ◌^◌, ◌<◌, ◌≤◌, max, List, [], ◌∷◌, ◌++◌, All, length, map, get_or, drop, Option, Some, Err, inl, inr, refl, sym, ap, subst, arith, append_assoc, drop-cons, pow_mono}
+use Rattle.std.proofs.Common.{◌≡◌, ◌∙◌, ℕ, suc, ◌+◌, ◌-◌, ◌*◌, ◌^◌, ◌<◌, ◌≤◌, List, [], ◌∷◌, ◌++◌, All, length, get_or, drop, Option, Some, Err, inl, inr, refl, sym, ap, subst, arith, append_assoc, drop-cons, pow_mono}
 use Rattle.std.proofs.lemmas.List.{append-nil, drop_all}
 use Rattle.std.proofs.lemmas.List.Elements.{All-cons, All-head, All-nil, All-tail, All-weaker}
 use Rattle.pg_alloc.specs.Fit.{kept_cells}

@@ -1,6 +1,6 @@
 -- `pg_go --from`: saved guests that go on under one monitor, each until it is still, where a certificate says that a monitor may run the
 -- machine.
-use Rattle.std.specs.Prelude.{◌≡◌, ℕ, ◌-◌, max, List, [], ◌∷◌, length, Option, None}
+use Rattle.std.specs.Prelude.{ℕ, ◌-◌, max, List, [], ◌∷◌, length, Option, None}
 use Rattle.pg_alloc.specs.Fit.{kept_cells}
 use Rattle.pg_ast.specs.declared.tree.Desc.{Desc}
 use Rattle.pg_cert.specs.declared.cert.Family.TheVariants.{Plain}

@@ -1,13 +1,12 @@
-use Rattle.std.proofs.Common.{◌≡◌, ◌∙◌, ℕ, All, List, length, ap, sym, subst}
+use Rattle.std.proofs.Common.{◌≡◌, All, List, length, ap, sym, subst}
 use Rattle.pg_cmd_base.specs.Commands.{Carries}
-use Rattle.pg_cmd_base.specs.World.{output, around}
+use Rattle.pg_cmd_base.specs.World.{around}
 use Rattle.pg_cmd_certs.specs.Views.{judged}
 use Rattle.pg_cmd_run.specs.Run.{guests_in, judged_by}
 use Rattle.pg_lang_meaning.specs.States.{State}
 use Rattle.pg_run_guests.specs.Runs.{switched_on}
 use Rattle.pg_run_still.specs.declared.view.View.{View}
 use Rattle.pg_run_still.specs.declared.starting.Starts.{Starts}
-use Rattle.pg_run_still.specs.declared.starting.Starts.TheVariants.{Images}
 use Rattle.pg_run_still.specs.Running.{run_from, states_in}
 use Rattle.pg_run_still.specs.Views.{AreViewsOf}
 use Rattle.pg_prog_go.specs.Going.{go_command}

@@ -1,9 +1,7 @@
-use Rattle.std.proofs.Common.{◌≡◌, ◌∙◌, ℕ, All, List, refl, sym, ap, subst, arith}
+use Rattle.std.proofs.Common.{◌≡◌, ◌∙◌, refl, sym, ap, subst, arith}
 use Rattle.pg_mach_ready.specs.declared.machine.Machine.{Machine}
 use Rattle.pg_cert.specs.declared.report.Verdict.TheVariants.{Accepted}
-use Rattle.pg_hw.specs.Machinery.{Machinery}
 use Rattle.pg_run_guests.specs.Setting.{SetUp}
-use Rattle.pg_mon_control.specs.Guests.{virtuals}
 use Rattle.pg_edge.specs.Sink.{Puts}
 use Rattle.pg_edge.specs.declared.shelf.Failed.{Failed}
 use Rattle.pg_cmd_base.specs.declared.status.Status.TheVariants.{Done}
@@ -14,7 +12,7 @@ use Rattle.pg_cmd_certs.specs.Judged.{verdict_on}
 use Rattle.pg_cmd_certs.specs.Views.{judged}
 use Rattle.pg_cmd_certs.proofs.TellingLemmas.{carries-told}
 use Rattle.pg_run_still.specs.Rested.{HaveRested}
-use Rattle.pg_run_still.specs.Running.{run_from, states_in, still_text, text_of_rest}
+use Rattle.pg_run_still.specs.Running.{run_from, states_in, text_of_rest}
 use Rattle.pg_prog_go.specs.Plans.{run_of_plan}
 use Rattle.pg_prog_go.specs.Work.{beside, rest_command}
 use Rattle.pg_prog_go.proofs.EndsLemmas.{accepts, rest-told, rest-ran, rested-text, rested-count, rested-views, rested-within}

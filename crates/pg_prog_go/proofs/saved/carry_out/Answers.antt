@@ -1,4 +1,4 @@
-use Rattle.std.proofs.Common.{◌≡◌, All, List, length, sym, subst}
+use Rattle.std.proofs.Common.{All, List, length, sym, subst}
 use Rattle.pg_cmd_base.specs.Commands.{Carries}
 use Rattle.pg_cmd_base.specs.World.{around}
 use Rattle.pg_cmd_certs.specs.Views.{judged}

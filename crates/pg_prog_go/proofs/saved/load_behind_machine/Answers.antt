@@ -1,8 +1,8 @@
-use Rattle.std.proofs.Common.{◌≡◌, ◌∙◌, ◌+◌, ◌-◌, ◌≤◌, ℕ, All, List, length, map, ◌^◌, Option, Result, Ok, Err, IfOk, refl, ap, sym, subst, arith}
+use Rattle.std.proofs.Common.{◌≡◌, ◌∙◌, ◌-◌, ◌≤◌, ℕ, All, List, length, map, ◌^◌, Option, Result, Ok, Err, IfOk, refl, ap, sym, subst, arith}
 use Rattle.std.proofs.lemmas.List.{length-map}
 use Rattle.pg_alloc.specs.Fit.{kept_cells}
 use Rattle.pg_edge.specs.Shelf.{Files}
-use Rattle.pg_lang_meaning.specs.States.{State, IsState}
+use Rattle.pg_lang_meaning.specs.States.{State}
 use Rattle.pg_type.specs.Listed.{state_of}
 use Rattle.pg_word.specs.declared.sparse.Sparse.{Sparse}
 use Rattle.pg_run_guests.specs.Runs.{cells_in}

@@ -1,4 +1,4 @@
-use Rattle.std.proofs.Common.{◌≡◌, ◌≤◌, ◌<◌, ℕ, length, Err, refl, sym, subst, arith}
+use Rattle.std.proofs.Common.{◌≡◌, length, Err, refl, sym, arith}
 use Rattle.pg_move.specs.Seen.{guest_of}
 use Rattle.pg_type.specs.Listed.{state_of}
 use Rattle.pg_word.proofs.SparseLemmas.{length-storage_of}

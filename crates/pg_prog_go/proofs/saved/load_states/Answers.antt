@@ -1,4 +1,4 @@
-use Rattle.std.proofs.Common.{◌≡◌, ◌∙◌, ◌+◌, ◌≤◌, ◌++◌, [], ◌∷◌, ℕ, List, All, length, map, Err, sym, ap, subst, arith}
+use Rattle.std.proofs.Common.{◌≡◌, ◌∙◌, ◌+◌, ◌≤◌, ◌++◌, [], ◌∷◌, List, All, length, map, Err, sym, ap, subst, arith}
 use Rattle.std.proofs.lemmas.List.{length_push, map-append}
 use Rattle.std.proofs.lemmas.List.Elements.{All-push}
 use Rattle.pg_cmd_base.specs.Answering.{Comes}
@@ -7,7 +7,7 @@ use Rattle.pg_lang_meaning.specs.States.{State, IsState}
 use Rattle.pg_type.specs.Listed.{state_of}
 use Rattle.pg_word.specs.declared.sparse.Sparse.{Sparse}
 use Rattle.pg_prog_go.specs.From.{StateDue}
-use Rattle.pg_prog_go.proofs.SavedLemmas.{LeadTo, leads-more, leads-stopped, leads-came, leads-none}
+use Rattle.pg_prog_go.proofs.SavedLemmas.{LeadTo, leads-more, leads-stopped, leads-came}
 use Rattle.pg_prog_go.proofs.saved.load_states.Goals as goal
 
 pub returns-in-Err-clause-comes : goal.returns-in-Err-clause-comes

@@ -1,4 +1,4 @@
-use Rattle.std.proofs.Common.{◌≡◌, Option, subst, arith}
+use Rattle.std.proofs.Common.{Option, subst, arith}
 use Rattle.pg_edge.specs.Shelf.{Files}
 use Rattle.pg_mach_ready.specs.declared.machine.Machine.{Machine}
 use Rattle.pg_cmd_base.specs.Descriptions.{DescDue}
