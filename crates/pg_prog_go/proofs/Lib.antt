@@ -1,4 +1,6 @@
 mod EndsLemmas
+mod WorkLemmas
 mod PlanLemmas
 mod OneGo
+mod SavedLemmas
 mod BareLemmas

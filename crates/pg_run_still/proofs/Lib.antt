@@ -3,4 +3,5 @@ mod GoingLemmas
 mod ViewLemmas
 mod TellLemmas
 mod RanLemmas
+mod StartLemmas
 pub mod StandLemmas
