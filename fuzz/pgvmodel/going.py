@@ -23,7 +23,6 @@ NAME = "pg_go"
 
 USAGE = (
     f"usage: {NAME} DESC CERT IMAGE.. --grant G [--steps N] [--slice K] [--show A..B].. [--text A..B[:BITS]]..\n"
-    f"       {NAME} DESC CERT --from SAVED.. [--steps N] [--slice K] [--show A..B].. [--text A..B[:BITS]]..\n"
     f"       {NAME} --bare DESC IMAGE --grant G [--steps N] [--show A..B].. [--text A..B[:BITS]]..\n"
 )
 

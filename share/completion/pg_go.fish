@@ -21,21 +21,14 @@ function __pg_go_bare
     contains -- --bare (commandline -opc)
 end
 
-# Whether the guests are saved ones.
-function __pg_go_from
-    contains -- --from (commandline -opc)
-end
-
 complete -c pg_go -f
 complete -c pg_go -n '__pg_go_at 0' -k -a '(__fish_complete_suffix .isa)'
 complete -c pg_go -n '__pg_go_at 1; and not __pg_go_bare' -k -a '(__fish_complete_suffix .cert)'
 complete -c pg_go -n '__pg_go_at 1; and __pg_go_bare' -k -a '(__fish_complete_suffix .img)'
 for at in (seq 2 9)
-    complete -c pg_go -n "__pg_go_at $at; and not __pg_go_bare; and not __pg_go_from" -k -a '(__fish_complete_suffix .img)'
-    complete -c pg_go -n "__pg_go_at $at; and __pg_go_from" -k -a '(__fish_complete_suffix .saved)'
+    complete -c pg_go -n "__pg_go_at $at; and not __pg_go_bare" -k -a '(__fish_complete_suffix .img)'
 end
 complete -c pg_go -l bare -d 'one image on a bare machine, without a certificate'
-complete -c pg_go -l from -d 'saved guests in place of images'
 complete -c pg_go -l grant -x -d 'cells of each guest, 2 to 1048575'
 complete -c pg_go -l steps -x -d 'steps of each guest at most, 0 to 144115188075855872'
 complete -c pg_go -l slice -x -d 'steps in turn, 1 to 1000000; 1000 where it is not said'

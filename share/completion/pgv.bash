@@ -94,7 +94,7 @@ _pgv_side() {
   case ${1##*/} in
     pg_explain) files=".isa .cert instr kind" options="--budget --mend --readable --json" least=2 ;;
     pg_trace) files=".isa .img" options="--grant --steps --until --cert --only-traps --counts --json --vcd" order=no ;;
-    pg_go) files=".isa .cert .img .img .img .img .img .img .img .img" options="--bare --from --grant --steps --slice --show --text" order=no ;;
+    pg_go) files=".isa .cert .img .img .img .img .img .img .img .img" options="--bare --grant --steps --slice --show --text" order=no ;;
     pg_dimacs) files=".isa instr kind" ;;
     pg_import) files=".isa .cert instr kind - .cert" ;;
     pg_export) files=".isa .cert instr kind" options="--cnf" least=4 ;;
@@ -105,7 +105,7 @@ _pgv_side() {
   for ((i = 1; i < COMP_CWORD; i++)); do
     name="${COMP_WORDS[i]}"
     case $name in
-      --only-traps | --counts | --check | --readable | --json | --vcd | --bare | --from) used+="$name " ;;
+      --only-traps | --counts | --check | --readable | --json | --vcd | --bare) used+="$name " ;;
       --*)
         # These two may be given again.
         [[ $name == --show || $name == --text ]] || used+="$name "
@@ -119,7 +119,6 @@ _pgv_side() {
     esac
   done
   [[ ${1##*/} == pg_go && $used == *" --bare "* ]] && files=".isa .img"
-  [[ ${1##*/} == pg_go && $used == *" --from "* ]] && files="${files//.img/.saved}"
   case $value in
     --mend) _pgv_files "$word" .isa; return ;;
     --cert) _pgv_files "$word" .cert; return ;;

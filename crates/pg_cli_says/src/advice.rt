@@ -84,7 +84,6 @@ fn less(room: Room) -> &'static str {
         Room::Guests => "a smaller --grant, fewer images",
         Room::Monitors => "a smaller --grant, a smaller --depth",
         Room::Saved => "a smaller --skip",
-        Room::SavedGuests => "fewer guests, cells that each has",
     }
 }
 

@@ -11,8 +11,6 @@ pub enum Room {
     Monitors,
     /// A saved guest, behind cells that are passed over.
     Saved,
-    /// Saved guests, or cells that are to be shown of each.
-    SavedGuests,
 }
 
 /// What the words of a command name.

@@ -43,7 +43,7 @@ bytes-only : (d : Desc) (text : List ℕ) (due : Result SavedGuest SavedLine) �
 bytes-only d text (Ok g) h = ap bytes_answer h
 bytes-only d text (Err line) h = ap bytes_answer h.first ∙ ap line_answer h.told
 
-pub one-saved : (files : Files) (name : List ℕ) (d : Desc) → IsOne (SavedDue (Some files) name d)
+one-saved : (files : Files) (name : List ℕ) (d : Desc) → IsOne (SavedDue (Some files) name d)
 unfolding SavedDue
 one-saved files name d =
     one-as (of_file Saved) (FromFile (Some files) name most_bytes told_saved.Long (ReadsSaved d))

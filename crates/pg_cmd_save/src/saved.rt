@@ -13,16 +13,13 @@ ghost use Rattle.pg_cmd_save.specs.SavedFiles.{ReadsSaved, SavedDue, told_of_sav
 use pg_cli_table::FileName;
 use pg_cmd_base::{Refusal, Stop, load_file, stop_of};
 use pg_edge::Shelf;
-use pg_image::Image;
 use pg_mach_ready::Machine;
 use pg_move::{SAVED_BYTES, Saved, SavedFault, read_saved};
 use pg_report::{RefusalLine, SavedLine};
-use pg_word::Sparse;
-use sqlite_items::Items;
 use std::alloc::Global;
 
 /// The saved guest of a file, for machines of this one's shape, or why there is none.
-pub fn load_saved<F: Shelf>(
+pub(crate) fn load_saved<F: Shelf>(
     alloc: Global,
     name: &FileName,
     machine: &Machine,
@@ -66,16 +63,4 @@ fn told_of_saved(fault: SavedFault) -> Option<SavedLine>
         SavedFault::Version(line) => Some(SavedLine::Version(line)),
         SavedFault::Memory => None,
     }
-}
-
-/// The words of the cells of a state that are not zero, for a machine to learn; `None` where memory is refused.
-pub fn words_of(alloc: Global, state: &Sparse) -> Option<Image> {
-    let mut words = Items::new(alloc);
-    for cell in state.cells.as_slice() {
-        match words.push(cell.1) {
-            Ok(()) => {}
-            Err(_) => return None,
-        }
-    }
-    Some(words)
 }

@@ -1,6 +1,4 @@
 mod EndsLemmas
-mod WorkLemmas
 mod PlanLemmas
 mod OneGo
-mod SavedLemmas
 mod BareLemmas

@@ -1,7 +1,6 @@
-//! `pg_go`: images or saved guests under a monitor, each until it is still; or an image on a bare machine.
+//! `pg_go`: images as guests under a monitor, each until it is still; or one on a bare machine.
 //!
 //!     pg_go DESC CERT IMAGE.. --grant G [--steps N] [--slice K] [--show A..B].. [--text A..B[:BITS]]..
-//!     pg_go DESC CERT --from SAVED.. [--steps N] [--slice K] [--show A..B].. [--text A..B[:BITS]]..
 //!     pg_go --bare DESC IMAGE --grant G [--steps N] [--show A..B].. [--text A..B[:BITS]]..
 //!
 //! Each image runs as a guest, as under `pgv run`, but not for so many steps: until it is *still*. A guest is still where its next step
@@ -23,20 +22,16 @@
 //!
 //! The last two may stand 16 times in all; of each guest all that they name is told, in their order.
 //!
-//! With `--from` the guests are those that `pgv save` saved, 1 to 8, each of the size that it was saved with. They go on from where they
-//! stood, and the steps told are counted from there. A guest with less cells than B is refused for want of room.
-//!
 //! With `--bare` one image runs on a bare machine of so many cells, without a monitor and so without a certificate. Behind how many steps
 //! it is still is told in the same words, then its state, or what is to be shown of it. There is no line of turns.
 //!
 //! Words that are not taken are answered by the usage (3). The other refusals have the lines and statuses of `pgv run`, in its order:
-//! the description (4), the room (7), the images (5), the certificate (6), a verdict that does not accept the machine (1, 2). Saved guests
-//! stand behind the description, each in order, as `pgv resume` refuses them (13), then the room for all. Those of a bare machine are
-//! of `pgv bare`. The status is 8 where a file cannot be read, 9 where the output cannot be written, 10 where memory
-//! is refused, and 11 where a file is not there. No file is saved. What each status means is a clause (`run`, `carry_go`, `carry_from`, `carry_bare`).
+//! the description (4), the room (7), the images (5), the certificate (6), a verdict that does not accept the machine (1, 2). Those of
+//! a bare machine are of `pgv bare`. The status is 8 where a file cannot be read, 9 where the output cannot be written, 10 where memory
+//! is refused, and 11 where a file is not there. No file is saved. What each status means is a clause (`run`, `carry_go`, `carry_bare`).
 //!
-//! - `request`: the words. `preparing`: the files, to a `plan`, a run that can be done. `carry`: the run and its text. `saved`: the files
-//!   of saved guests. `bare`: all of these of a bare machine.
+//! - `request`: the words. `preparing`: the files, to a `plan`, a run that can be done. `carry`: the run and its text. `bare`: all of
+//!   these of a bare machine.
 #![tactic(auto)]
 
 ghost use Rattle.std.specs.Prelude.{◌≡◌, None};
@@ -49,7 +44,6 @@ mod carry;
 mod plan;
 mod preparing;
 mod request;
-mod saved;
 
 pub use bare::carry_bare;
 pub use carry::carry_go;
@@ -57,13 +51,12 @@ use pg_cmd_base::{Status, StopWatcher, tell_usage};
 use pg_edge::{Shelf, Sink};
 use pg_hw::Settling;
 use pg_run_guests::RunWatcher;
-pub use request::{Asked, BareGoWords, FromGoWords, GoWords, MOST_STEPS, StepsAtMost, asked_by};
-pub use saved::carry_from;
+pub use request::{Asked, BareGoWords, GoWords, MOST_STEPS, StepsAtMost, asked_by};
 use std::alloc::Global;
 
 /// How the program is called.
 pub const USAGE: &[u8] =
-    b"usage: pg_go DESC CERT IMAGE.. --grant G [--steps N] [--slice K] [--show A..B].. [--text A..B[:BITS]]..\n       pg_go DESC CERT --from SAVED.. [--steps N] [--slice K] [--show A..B].. [--text A..B[:BITS]]..\n       pg_go --bare DESC IMAGE --grant G [--steps N] [--show A..B].. [--text A..B[:BITS]]..\n";
+    b"usage: pg_go DESC CERT IMAGE.. --grant G [--steps N] [--slice K] [--show A..B].. [--text A..B[:BITS]]..\n       pg_go --bare DESC IMAGE --grant G [--steps N] [--show A..B].. [--text A..B[:BITS]]..\n";
 
 /// Runs what the words ask for, the program's name first, and gives the number of the status. Words that are not taken are answered by
 /// how the program is called, and nothing is touched.
@@ -105,7 +98,6 @@ fn go<F: Shelf, S: Sink, H: Settling, W: StopWatcher + RunWatcher>(
         Err(_) => Status::Memory,
         Ok(None) => tell_usage(out, USAGE),
         Ok(Some(Asked::Guests(words))) => carry_go(alloc, &words, shelf, out, hw, watcher),
-        Ok(Some(Asked::From(words))) => carry_from(alloc, &words, shelf, out, hw, watcher),
         Ok(Some(Asked::Bare(words))) => carry_bare(alloc, &words, shelf, out, hw, watcher),
     }
 }

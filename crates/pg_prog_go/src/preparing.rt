@@ -1,10 +1,14 @@
 //! The files of a run, to guests that can run.
 
-ghost use Rattle.std.specs.Prelude.{◌≡◌, All, length, IfOk};
+ghost use Rattle.std.specs.Prelude.{◌≡◌, IfOk};
+ghost use Rattle.pg_cert.specs.declared.cert.Family.TheVariants.{Plain};
+ghost use Rattle.pg_cert.specs.declared.report.Verdict.TheVariants.{Accepted};
+ghost use Rattle.pg_cmd_certs.specs.Judged.{verdict_on};
+ghost use Rattle.pg_cmd_certs.specs.Meaning.{IsAcceptedBy};
+ghost use Rattle.pg_cmd_certs.specs.Views.{judged};
 ghost use Rattle.pg_cmd_base.specs.Answering.{Comes, OnlyReads};
 ghost use Rattle.pg_prog_go.specs.Going.{GoDue};
-ghost use Rattle.pg_prog_go.specs.Plans.{images_in, judged_go};
-ghost use Rattle.pg_run_still.specs.declared.starting.Starts.TheVariants.{Images};
+ghost use Rattle.pg_prog_go.specs.Plans.{judged_go};
 
 use crate::plan::GoPlan;
 use crate::request::GoWords;
@@ -13,7 +17,6 @@ use pg_cmd_base::Stop;
 use pg_cmd_run::{GuestFiles, load_guests};
 use pg_edge::Shelf;
 use pg_mon_control::KEPT_CELLS;
-use pg_run_still::Starts;
 use std::alloc::Global;
 
 /// The run that is to be done; or why there is none.
@@ -22,9 +25,8 @@ pub(crate) fn prepare_go<F: Shelf>(
     words: &GoWords,
     shelf: &mut F,
 ) -> Result<GoPlan, Stop>
-    ensures comes { Comes (judged_go words.now.grant) (GoDue words.now (F.files shelf.old)) (F.reads shelf.old) (F.reads shelf.new) result }
-    ensures images { IfOk result (λ p. p.starts ≡ Images (images_in p.starts)) }
-    ensures filled { IfOk result (λ p. All (λ image. length image ≡ words.now.grant) (images_in p.starts)) }
+    ensures comes { Comes judged_go (GoDue words.now (F.files shelf.old)) (F.reads shelf.old) (F.reads shelf.new) result }
+    ensures accepts { IfOk result (λ p. verdict_on (judged p.judged) ≡ Accepted → IsAcceptedBy Plain p.judged.machine.desc) }
     ensures reads { OnlyReads F.Shelf shelf.old shelf.new }
 {
     let files = GuestFiles {
@@ -38,7 +40,8 @@ pub(crate) fn prepare_go<F: Shelf>(
     match load_guests(alloc, Family::Plain, &files, shelf) {
         Ok(loaded) => Ok(GoPlan {
             judged: loaded.judged,
-            starts: Starts::Images(loaded.images),
+            images: loaded.images,
+            grant: files.grant,
             slice: words.slice.steps(),
             steps: files.steps,
         }),

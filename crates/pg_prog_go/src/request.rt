@@ -13,8 +13,8 @@ pub const MOST_STEPS: u64 = 144_115_188_075_855_872;
 /// How many steps a guest does in turn where the words do not say it.
 const USUAL_SLICE: u64 = 1_000;
 
-/// The most guests.
-const MOST_GUESTS: usize = 8;
+/// The most images.
+const MOST_IMAGES: usize = 8;
 
 /// The most views.
 const MOST_VIEWS: usize = 16;
@@ -40,23 +40,6 @@ pub struct GoWords {
     pub ghost within: { AreViewsOf grant views.items },
 }
 
-/// Saved guests that go on, each until it is still.
-#[derive(Drop)]
-pub struct FromGoWords {
-    /// The name of the file with the machine's description.
-    pub desc: FileName,
-    /// The name of the file with the certificate that the machine is accepted by.
-    pub cert: FileName,
-    /// The names of the files with the saved guests, 1 to 8.
-    pub saved: Images,
-    /// How many steps each guest does at most.
-    pub steps: StepsAtMost,
-    /// How many steps a guest does before the next has its turn.
-    pub slice: Slice,
-    /// What is told of each guest in place of its state, 16 at most; none where its state is told.
-    pub views: Vec<View>,
-}
-
 /// A run of a bare machine, until it is still.
 #[derive(Drop)]
 pub struct BareGoWords {
@@ -79,8 +62,6 @@ pub struct BareGoWords {
 pub enum Asked {
     /// Guests, each until it is still.
     Guests(GoWords),
-    /// Saved guests, each until it is still.
-    From(FromGoWords),
     /// A bare machine, until it is still.
     Bare(BareGoWords),
 }
@@ -98,20 +79,11 @@ pub struct StepsAtMost {
 #[derive(Drop)]
 struct Draft<'a> {
     bare: bool,
-    from: bool,
     files: Vec<&'a str>,
     grant: Option<Grant>,
     steps: Option<StepsAtMost>,
     slice: Option<Slice>,
     views: Vec<View>,
-}
-
-/// The files of guests under a monitor.
-#[derive(Drop)]
-struct GuestNames {
-    desc: FileName,
-    cert: FileName,
-    guests: Images,
 }
 
 /// Why words are not taken.
@@ -141,7 +113,6 @@ pub fn asked_by(alloc: Global, words: &[String]) -> Result<Option<Asked>, AllocE
 fn words_of(alloc: Global, words: &[String]) -> Result<Asked, Untaken> {
     let mut draft = Draft {
         bare: false,
-        from: false,
         files: Vec::new(alloc),
         grant: None,
         steps: None,
@@ -155,11 +126,10 @@ fn words_of(alloc: Global, words: &[String]) -> Result<Asked, Untaken> {
     while let [word, behind @ ..] = left {
         left = draft.take(word.as_str(), behind)?;
     }
-    match (draft.bare, draft.from) {
-        (false, false) => Ok(Asked::Guests(go_words(alloc, draft)?)),
-        (false, true) => Ok(Asked::From(from_words(alloc, draft)?)),
-        (true, false) => Ok(Asked::Bare(bare_words(alloc, draft)?)),
-        (true, true) => Err(Untaken::Words),
+    if draft.bare {
+        Ok(Asked::Bare(bare_words(alloc, draft)?))
+    } else {
+        Ok(Asked::Guests(go_words(alloc, draft)?))
     }
 }
 
@@ -209,54 +179,20 @@ fn go_words(alloc: Global, draft: Draft<'_>) -> Result<GoWords, Untaken> {
     if !are_within(views.as_slice(), grant.cells()) {
         return Err(Untaken::Words);
     }
-    let names = guest_names(alloc, files.as_slice())?;
-    Ok(GoWords {
-        desc: names.desc,
-        cert: names.cert,
-        images: names.guests,
-        grant,
-        steps: steps_or_most(steps),
-        slice: slice_or_usual(slice),
-        views,
-    })
-}
-
-/// The saved guests that a draft asks for. Each has the size that it was saved with, so none is granted.
-fn from_words(alloc: Global, draft: Draft<'_>) -> Result<FromGoWords, Untaken> {
-    let Draft {
-        files,
-        grant,
-        steps,
-        slice,
-        views,
-        ..
-    } = draft;
-    if grant.is_some() {
-        return Err(Untaken::Words);
-    }
-    let names = guest_names(alloc, files.as_slice())?;
-    Ok(FromGoWords {
-        desc: names.desc,
-        cert: names.cert,
-        saved: names.guests,
-        steps: steps_or_most(steps),
-        slice: slice_or_usual(slice),
-        views,
-    })
-}
-
-/// Description, certificate, and behind these a file for each guest.
-fn guest_names(alloc: Global, files: &[&str]) -> Result<GuestNames, Untaken> {
-    let [desc, cert, guests @ ..] = files else {
+    let [desc, cert, images @ ..] = files.as_slice() else {
         return Err(Untaken::Words);
     };
-    if guests.is_empty() || guests.len() > MOST_GUESTS {
+    if images.is_empty() || images.len() > MOST_IMAGES {
         return Err(Untaken::Words);
     }
-    Ok(GuestNames {
+    Ok(GoWords {
         desc: file_name(alloc, desc)?,
         cert: file_name(alloc, cert)?,
-        guests: file_names(alloc, guests)?,
+        images: images_of(alloc, images)?,
+        grant,
+        steps: steps_or_most(steps),
+        slice: slice_or_usual(slice),
+        views,
     })
 }
 
@@ -288,8 +224,8 @@ fn are_within(views: &[View], cells: u32) -> bool
     true
 }
 
-/// The files of guests of these names.
-fn file_names(alloc: Global, names: &[&str]) -> Result<Images, AllocError>
+/// The images of these names.
+fn images_of(alloc: Global, names: &[&str]) -> Result<Images, AllocError>
     requires least { 1 ≤ length names.now }
     requires most { length names.now ≤ 8 }
 {
@@ -316,10 +252,6 @@ impl<'a> Draft<'a> {
         }
         if word == "--bare" && !self.bare {
             self.bare = true;
-            return Ok(behind);
-        }
-        if word == "--from" && !self.from {
-            self.from = true;
             return Ok(behind);
         }
         let [value, behind @ ..] = behind else {

@@ -3,5 +3,4 @@ mod GoingLemmas
 mod ViewLemmas
 mod TellLemmas
 mod RanLemmas
-mod StartLemmas
 pub mod StandLemmas

@@ -1,9 +1,7 @@
--- Runs of guests that end, and what is told of them.
+-- Runs of images that end, and what is told of them.
 use Rattle.std.specs.Prelude.{◌≡◌, ℕ, suc, ◌+◌, ◌-◌, ◌*◌, ◌<◌, ◌≤◌, ◌^◌, List, [], ◌∷◌, ◌++◌, All, codes, length, map, Option, None, Some, slice_get, slice_index}
 use Rattle.std.specs.Fmt.{decimal}
 use Rattle.pg_ast.specs.declared.tree.Desc.{Desc}
-use Rattle.pg_mach_ready.specs.declared.machine.Machine.{Machine}
-use Rattle.pg_type.specs.Listed.{state_of}
 use Rattle.pg_word.specs.Psw.{new_psw_cell, old_psw_cell, packed, power_on_psw}
 use Rattle.pg_lang_meaning.specs.States.{State}
 use Rattle.pg_lang_meaning.specs.Steps.{steps}
@@ -13,26 +11,15 @@ use Rattle.pg_mon_control.specs.Counting.{BottomTurns}
 use Rattle.pg_mon_control.specs.Plans.{turns_of, IsOutside}
 use Rattle.pg_monitor.specs.Plans.{cell_behind, changes_of, direct_of, psw_behind}
 use Rattle.pg_report.specs.Runs.{steps_line}
-use Rattle.pg_run_guests.specs.Runs.{GuestRun, cells_in, granted, guests_of, switched_on}
+use Rattle.pg_run_guests.specs.Runs.{GuestRun, cells_in, granted, guests_of}
 use Rattle.pg_run_guests.specs.Setting.{HaveRoom}
 use Rattle.pg_run_still.specs.declared.rounds.Rest.{Rest}
-use Rattle.pg_run_still.specs.declared.starting.Starts.{Starts}
-use Rattle.pg_run_still.specs.declared.starting.Starts.TheVariants.{Images, States}
 use Rattle.pg_run_still.specs.declared.view.View.{View}
 use Rattle.pg_run_still.specs.Rounds.{rounds_until}
 use Rattle.pg_run_still.specs.Resting.{AreRests, firsts}
 use Rattle.pg_run_still.specs.Views.{guest_text}
 
 -- ---- runs that there can be
-
--- the states in which guests begin
-abbrev pub states_in : Starts → List State
-states_in (Images images) = switched_on images
-states_in (States states) = map state_of states
-
--- the run of guests from these states on a machine, whose grants begin behind the cells that a monitor keeps
-abbrev pub run_from : Machine → List State → ℕ → ℕ → GuestRun
-run_from machine states slice steps = record { desc = machine.desc; first = kept_cells; states = states; slice = slice; steps = steps }
 
 -- states that find room, a slice of a turn or more, few guests, and turns that can be counted
 pub record CanGo (r : GuestRun) : Type 0 where

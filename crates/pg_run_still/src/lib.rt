@@ -7,15 +7,13 @@
 //!
 //! # Modules
 //!
-//! - `rounds`: the rounds. `starting`: guests before their first turn. `running`: a run, from the hardware on. `bare`: one without a
-//!   monitor.
+//! - `rounds`: the rounds. `running`: a run of images, from the hardware on. `bare`: a run of one without a monitor.
 //! - `telling`: its text. `view`: what may be told of a guest in place of its state. `viewing`: the text of that.
 #![tactic(auto)]
 
 mod bare;
 mod rounds;
 mod running;
-mod starting;
 mod telling;
 mod view;
 mod viewing;
@@ -23,6 +21,5 @@ mod viewing;
 pub use bare::{run_bare_until_still, step_seen};
 pub use rounds::{MOST_GUESTS, Rest, Rests, run_rounds};
 pub use running::{Rested, run_until_still};
-pub use starting::Starts;
 pub use telling::{put_rested, put_stood};
 pub use view::{ByteCount, Span, View};

@@ -5,7 +5,7 @@
 
 use crate::form::{Form, OptionForm, Times, Value};
 use crate::side::Side;
-use pg_cli_says::{Named, Room};
+use pg_cli_says::Named;
 
 /// Of `pg_explain`.
 const EXPLAIN: Form = Form {
@@ -137,21 +137,6 @@ const BARE: OptionForm = OptionForm {
     against: &["--slice"],
 };
 
-/// Saved guests in place of images, each of its own size.
-const FROM: OptionForm = OptionForm {
-    name: "--from",
-    shown: "--from",
-    value: Value::Nothing,
-    times: Times::AtMostOnce,
-    against: &["--grant"],
-};
-
-/// Cells of each guest, where no saved one has its own.
-const GRANT_NOT: OptionForm = OptionForm {
-    times: Times::AtMostOnce,
-    ..GRANT
-};
-
 /// Cells that are told as words.
 const SHOW: OptionForm = OptionForm {
     name: "--show",
@@ -177,15 +162,6 @@ const GO: Form = Form {
     ],
     least: 3,
     options: &[GRANT, STEPS_AT_MOST, SLICE, SHOW, TEXT],
-};
-
-/// Of `pg_go --from`, whose last eight words are saved guests.
-const GO_FROM: Form = Form {
-    places: &[
-        "DESC", "CERT", "SAVED", "SAVED", "SAVED", "SAVED", "SAVED", "SAVED", "SAVED", "SAVED",
-    ],
-    least: 3,
-    options: &[FROM, GRANT_NOT, STEPS_AT_MOST, SLICE, SHOW, TEXT],
 };
 
 /// Of `pg_go --bare`.
@@ -234,8 +210,7 @@ pub fn form_of(side: Side, words: &[String]) -> &'static Form {
     match side {
         Side::Explain => &EXPLAIN,
         Side::Trace => &TRACE,
-        Side::Go if is_among(words, BARE) => &GO_BARE,
-        Side::Go if is_among(words, FROM) => &GO_FROM,
+        Side::Go if is_bare(words) => &GO_BARE,
         Side::Go => &GO,
         Side::Dimacs => &DIMACS,
         Side::Solve => &SOLVE,
@@ -244,18 +219,9 @@ pub fn form_of(side: Side, words: &[String]) -> &'static Form {
     }
 }
 
-/// Whether an option of no value is among words.
-fn is_among(words: &[String], option: OptionForm) -> bool {
-    words.iter().any(|word| word.as_str() == option.name)
-}
-
-/// What a program wants room for.
-fn room_of(side: Side, words: &[String]) -> Room {
-    if matches!(side, Side::Go) && is_among(words, FROM) {
-        Room::SavedGuests
-    } else {
-        Room::Guest
-    }
+/// Whether words ask for a bare machine.
+fn is_bare(words: &[String]) -> bool {
+    words.iter().any(|word| word.as_str() == BARE.name)
 }
 
 /// What the words of a program name, its name first.
@@ -269,7 +235,7 @@ pub fn named_by(side: Side, words: &[String]) -> Named<'_> {
         Side::Solve => return Named::nothing(),
         Side::Trace => (form.value(words, "--cert"), None, None),
         Side::Dimacs => (None, form.place(words, 1), None),
-        Side::Go if is_among(words, BARE) => (None, None, None),
+        Side::Go if is_bare(words) => (None, None, None),
         Side::Go => (form.place(words, 1), None, None),
         Side::Explain | Side::Export => (form.place(words, 1), form.place(words, 2), None),
         Side::Import => (
@@ -283,7 +249,6 @@ pub fn named_by(side: Side, words: &[String]) -> Named<'_> {
         cert,
         saved,
         instr,
-        room: room_of(side, words),
         ..Named::nothing()
     }
 }

@@ -18,15 +18,17 @@ ghost use Rattle.pg_cmd_save.specs.Resume.{ResumeDue, behind_desc, behind_room};
 ghost use Rattle.pg_type.specs.Accepting.{IsAccepted};
 
 use super::plan::ResumePlan;
-use crate::saved::{load_saved, words_of};
+use crate::saved::load_saved;
 use pg_cert::Family;
 use pg_cli_table::ResumeWords;
 use pg_cmd_base::{Stop, load_machine, try_room};
 use pg_cmd_certs::{JudgedMachine, load_certificate};
 use pg_edge::Shelf;
+use pg_image::Image;
 use pg_mach_ready::Machine;
 use pg_mon_control::KEPT_CELLS;
 use pg_move::Saved;
+use sqlite_items::Items;
 use std::alloc::Global;
 use std::slice::from_ref;
 
@@ -104,8 +106,20 @@ fn load_behind_room<F: Shelf>(
 fn knowing(alloc: Global, told: JudgedMachine, saved: &Saved, steps: u64) -> JudgedMachine
     ensures { judged result ≡ judged told }
 {
-    match words_of(alloc, &saved.state) {
+    match words_of(alloc, saved) {
         Some(image) => told.learned(alloc, from_ref(&image), steps),
         None => told,
     }
+}
+
+/// The words of the cells of a guest that are not zero; `None` where memory is refused.
+fn words_of(alloc: Global, saved: &Saved) -> Option<Image> {
+    let mut words = Items::new(alloc);
+    for cell in saved.state.cells.as_slice() {
+        match words.push(cell.1) {
+            Ok(()) => {}
+            Err(_) => return None,
+        }
+    }
+    Some(words)
 }

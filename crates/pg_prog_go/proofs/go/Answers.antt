@@ -13,8 +13,5 @@ returns-in-Ok-None-clause-goes g c = inl (record { told = c.tell_usage.ensures.t
 pub returns-in-Ok-Some-Guests-clause-goes : goal.returns-in-Ok-Some-Guests-clause-goes
 returns-in-Ok-Some-Guests-clause-goes g c = inr (inr (inl (record { words = c.in-Ok-Some-Guests.words; carries = c.carry_go.ensures.carries })))
 
-pub returns-in-Ok-Some-From-clause-goes : goal.returns-in-Ok-Some-From-clause-goes
-returns-in-Ok-Some-From-clause-goes g c = inr (inr (inr (inl (record { words = c.in-Ok-Some-From.words; carries = c.carry_from.ensures.carries }))))
-
 pub returns-in-Ok-Some-Bare-clause-goes : goal.returns-in-Ok-Some-Bare-clause-goes
-returns-in-Ok-Some-Bare-clause-goes g c = inr (inr (inr (inr (record { words = c.in-Ok-Some-Bare.words; carries = c.carry_bare.ensures.carries }))))
+returns-in-Ok-Some-Bare-clause-goes g c = inr (inr (inr (record { words = c.in-Ok-Some-Bare.words; carries = c.carry_bare.ensures.carries })))

@@ -1,22 +1,21 @@
 use Rattle.std.proofs.Common.{◌-◌, refl, ap, ◌∙◌}
 use Rattle.pg_hw.specs.declared.counts.Counts.{Counts}
 use Rattle.pg_mach_ready.specs.declared.machine.Machine.{Machine}
+use Rattle.pg_run_guests.specs.Runs.{run_of}
 use Rattle.pg_run_guests.proofs.SettingLemmas.{set-up-same}
-use Rattle.pg_run_still.specs.Running.{run_from, states_in}
 use Rattle.pg_run_still.proofs.RanLemmas.{run-have, standing-can}
 use Rattle.pg_run_still.proofs.running.run_until_still.Goals as goal
 
 pub returns-in-Err-clause-set_up : goal.returns-in-Err-clause-set_up
 returns-in-Err-clause-set_up g c =
     let machine = c.args.accepted.machine.now in
-    let states = states_in c.args.starts.now in
-    set-up-same (run_from machine states 1 0) (run_from machine states c.args.slice c.args.steps) _ _ refl refl refl c.in-Err.ensures.set_up
+    set-up-same (run_of machine c.args.images.now 1 0) (run_of machine c.args.images.now c.args.slice c.args.steps) _ _ refl refl refl c.in-Err.ensures.set_up
 
 pub returns-clause-rested : goal.returns-clause-rested
 returns-clause-rested g c =
     let machine = c.args.accepted.machine.now in
-    let r = run_from machine (states_in c.args.starts.now) c.args.slice c.args.steps in
-    run-have r (g.H.Hardware.machinery c.args.hw.now) (g.H.Hardware.machinery c.start_each.new.hw) (g.H.Hardware.machinery c.run_rounds-rests.new.hw) c.in-Ok.monitor c.run_rounds-rests.new.monitor
+    let r = run_of machine c.args.images.now c.args.slice c.args.steps in
+    run-have r (g.H.Hardware.machinery c.args.hw.now) (g.H.Hardware.machinery c.start.new.hw) (g.H.Hardware.machinery c.run_rounds-rests.new.hw) c.in-Ok.monitor c.run_rounds-rests.new.monitor
     c.run_rounds-rests.result.items
     (record {
       can_go = c.requires.can_go;

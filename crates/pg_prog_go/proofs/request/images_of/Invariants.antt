@@ -1,5 +1,5 @@
 use Rattle.std.proofs.Common.{◌≡◌, length}
-use Rattle.pg_prog_go.proofs.request.file_names.Given as goal
+use Rattle.pg_prog_go.proofs.request.images_of.Given as goal
 
 -- each name so far was copied
 abbrev pub invariant-loop-name : goal.invariant-loop-name
